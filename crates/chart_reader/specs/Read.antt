@@ -1,0 +1,74 @@
+-- Reading a chart: its bytes give the chart, or the first fault with its offset and a chart of zeros.
+use Prim.Native.Nat.{ℕ, zero, suc, _+_}
+use mathlib.Core.Bool.{Bool, true, false}
+use mathlib.Core.List.{List}
+use lib.Dec.{ltb}
+use lib.ListN.{length}
+use Rattle.model.specs.declared.Chart.{Chart}
+use Rattle.model.specs.Chart.{zeroRegion, zeroChart}
+use Rattle.chart_command.specs.declared.Decoded.{Decoded}
+use Rattle.chart_command.specs.declared.Decoded.the-variants as decoded
+use Rattle.chart_command.specs.Command.{decodeAt}
+use Rattle.chart_step.specs.declared.Refusal.{Refusal}
+use Rattle.chart_step.specs.declared.Refusal.the-variants.{CutShort, UnknownCommand}
+use Rattle.chart_step.specs.declared.Reading.{Reading}
+use Rattle.chart_step.specs.declared.Step.{Step}
+use Rattle.chart_step.specs.declared.Outcome.{Outcome}
+use Rattle.chart_step.specs.declared.Outcome.the-variants.{Going, Ended, Refused}
+use Rattle.chart_step.specs.Refusal.{refusalNumber}
+use Rattle.chart_step.specs.Reading.{stepOf}
+use Rattle.chart_reader.specs.declared.ChartAnswer.{ChartAnswer}
+use Rattle.chart_reader.specs.declared.ChartAnswer.the-variants as answer
+use Rattle.chart_reader.specs.declared.ChartRead.{ChartRead}
+
+-- What reading says: 0 and the chart, or a refusal from 1 to 11 with its offset and a chart of zeros.
+pub record Said : Type 0 where
+  pub number : ℕ
+  pub offset : ℕ
+  pub chart : Chart
+
+abbrev pub acceptedAs : Chart → Said
+acceptedAs c = record { number = 0; offset = 0; chart = c }
+
+abbrev pub refusedFor : Refusal → ℕ → Said
+refusedFor refusal offset = record { number = refusalNumber refusal; offset = offset; chart = zeroChart }
+
+-- the number and the offset of each answer
+abbrev pub numberOf : ChartAnswer → ℕ
+numberOf answer.Accepted = 0
+numberOf (answer.Refused refusal offset) = refusalNumber refusal
+
+abbrev pub offsetOf : ChartAnswer → ℕ
+offsetOf answer.Accepted = 0
+offsetOf (answer.Refused refusal offset) = offset
+
+abbrev pub said : ChartRead → Said
+said r = record { number = numberOf (r .answer); offset = offsetOf (r .answer); chart = r .chart }
+
+-- before the first command
+abbrev pub startReading : Reading
+startReading =
+    record { headed = false; main = false; started = false; «region_at» = 0; touched = 0; region = zeroRegion; chart = zeroChart }
+
+-- One command at a place: decoded (1, 2, 1), then taken (the checks from 3 on).
+abbrev pub advanceBy : List ℕ → ℕ → Reading → Decoded → Step
+advanceBy s at r decoded.CutShort = record { outcome = Refused CutShort at; reading = r }
+advanceBy s at r decoded.Unknown = record { outcome = Refused UnknownCommand at; reading = r }
+advanceBy s at r (decoded.Taken c next) = stepOf r at next (ltb next (length s)) c
+
+unfoldable pub advanceOf : List ℕ → ℕ → Reading → Step
+advanceOf s at r = advanceBy s at r (decodeAt s at)
+
+abbrev pub continueBy : (ℕ → Reading → Said) → Outcome → Reading → Said
+continueBy k (Going next) r = k next r
+continueBy k Ended r = acceptedAs (r .chart)
+continueBy k (Refused refusal offset) r = refusedFor refusal offset
+
+-- Commands are taken from the left; the first fault decides. (n: at most so many commands.)
+unfoldable pub readFrom : ℕ → List ℕ → ℕ → Reading → Said
+readFrom zero s at r = refusedFor CutShort (length s)
+readFrom (suc n) s at r = continueBy (readFrom n s) (advanceOf s at r .outcome) (advanceOf s at r .reading)
+
+-- each command takes a byte at least
+unfoldable pub readChart : List ℕ → Said
+readChart s = readFrom (length s + 1) s 0 startReading

@@ -1,0 +1,18 @@
+use borrow.Author.Needs.{needs}
+use Rattle.chart_step.proofs.or_else.Statement.{statement}
+use Rattle.chart_step.proofs.or_else.Tie as tie
+
+enum-told : tie.Need-enum-told
+enum-told c = search needs
+
+enum-known-f : tie.Need-enum-known-f
+enum-known-f c = search needs
+
+returns : tie.Need-returns
+returns c = search needs
+
+returns-2 : tie.Need-returns-2
+returns-2 c = rw (c .before .f .given .1)
+
+pub or-else-spec : {M : Type 1} → statement M
+or-else-spec = tie.close (tie.spec enum-told enum-known-f returns returns-2)

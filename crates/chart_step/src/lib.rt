@@ -1,0 +1,460 @@
+// Reading a chart: the state between two commands, and what one command does to it.
+use chart_command::Command;
+use model::Chart;
+use model::Event;
+use model::Left;
+use model::Message;
+use model::Region;
+use model::Relation;
+use model::Term;
+use model::LEAST_LINES;
+use model::MOST_CLOCKS;
+use model::MOST_LINES;
+use model::MOST_REGIONS;
+use model::MOST_TERMS;
+ghost use mathlib.Core.Path.{_≡_};
+ghost use mathlib.Core.Bool.{false, true, not};
+ghost use Prim.Native.Nat.{ℕ};
+ghost use lib.Dec.{leb};
+ghost use Rattle.model.specs.Chart.{mostTerms};
+ghost use Rattle.chart_step.specs.Refusal.{refusalNumber};
+ghost use Rattle.chart_step.specs.Reading.{when, orElse, closed, closingFault, firstFault, withHeading, begunWith, relationOf, withTerm, withHot, withResets, withMain, withChart, decided, stepOf};
+
+const RELATIONS: u8 = 5;
+
+// Why a chart is refused.
+pub enum Refusal {
+    CutShort,
+    UnknownCommand,
+    OutOfPlace,
+    OutOfRange,
+    NoRoom,
+    BareRegion,
+    HotWithoutTerm,
+    HotInPrechart,
+    NoneAbove,
+    NoMainRegion,
+    BytesAfterEnd,
+}
+
+// What stands between two commands: whether the heading and 50 were read, whether a region was started in this half and at which
+// offset, the lines that the regions started so far touch, the region last started, and the chart with the regions closed so far.
+pub struct Reading {
+    pub headed: bool,
+    pub main: bool,
+    pub started: bool,
+    pub region_at: usize,
+    pub touched: u16,
+    pub region: Region,
+    pub chart: Chart,
+}
+
+pub enum Fault {
+    Nothing,
+    Found(Refusal, usize),
+}
+
+pub enum Outcome {
+    Going(usize),
+    Ended,
+    Refused(Refusal, usize),
+}
+
+pub struct Step {
+    pub outcome: Outcome,
+    pub reading: Reading,
+}
+
+// The refusal's number.
+pub fn number(r: Refusal) -> u8
+    ensures { λ n. ⌜ n ≡ refusalNumber r ⌝ }
+{
+    match r {
+        Refusal::CutShort => 1,
+        Refusal::UnknownCommand => 2,
+        Refusal::OutOfPlace => 3,
+        Refusal::OutOfRange => 4,
+        Refusal::NoRoom => 5,
+        Refusal::BareRegion => 6,
+        Refusal::HotWithoutTerm => 7,
+        Refusal::HotInPrechart => 8,
+        Refusal::NoneAbove => 9,
+        Refusal::NoMainRegion => 10,
+        Refusal::BytesAfterEnd => 11,
+    }
+}
+
+fn when(b: bool, refusal: Refusal, offset: usize) -> Fault
+    ensures { λ o. ⌜ o ≡ when b refusal offset ⌝ }
+{
+    if b {
+        Fault::Found(refusal, offset)
+    } else {
+        Fault::Nothing
+    }
+}
+
+// The first of two faults.
+fn or_else(f: Fault, g: Fault) -> Fault
+    ensures { λ o. ⌜ o ≡ orElse f g ⌝ }
+{
+    match f {
+        Fault::Nothing => g,
+        Fault::Found(refusal, offset) => Fault::Found(refusal, offset),
+    }
+}
+
+// What each check found; closing's fault stands beside it.
+struct Checks {
+    misplaced: bool,
+    beyond: bool,
+    full: bool,
+    early: bool,
+    alone: bool,
+    empty: bool,
+    trailing: bool,
+}
+
+fn no_fault() -> Checks
+    ensures { λ o. ⌜ o ≡ record { misplaced = false; beyond = false; full = false; early = false; alone = false; empty = false; trailing = false } ⌝ }
+{
+    Checks {
+        misplaced: false,
+        beyond: false,
+        full: false,
+        early: false,
+        alone: false,
+        empty: false,
+        trailing: false,
+    }
+}
+
+// The checks of a command in document 01's order, from the last to the first.
+fn first_fault(closing: Fault, k: Checks, at: usize, next: usize) -> Fault
+    ensures { λ o. ⌜ o ≡ firstFault (k .misplaced) closing (k .beyond) (k .full) (k .early) (k .alone) (k .empty) (k .trailing) at next ⌝ }
+{
+    let f = when(k.trailing, Refusal::BytesAfterEnd, next);
+    let f = or_else(when(k.empty, Refusal::NoMainRegion, at), f);
+    let f = or_else(when(k.alone, Refusal::NoneAbove, at), f);
+    let f = or_else(when(k.early, Refusal::HotInPrechart, at), f);
+    let f = or_else(when(k.full, Refusal::NoRoom, at), f);
+    let f = or_else(when(k.beyond, Refusal::OutOfRange, at), f);
+    let f = or_else(closing, f);
+    or_else(when(k.misplaced, Refusal::OutOfPlace, at), f)
+}
+
+// The fault if there is one, else the step.
+fn decide(f: Fault, r: Reading, s: Step) -> Step
+    ensures { λ o. ⌜ o ≡ decided f r s ⌝ }
+{
+    match f {
+        Fault::Nothing => s,
+        Fault::Found(refusal, offset) => Step {
+            outcome: Outcome::Refused(refusal, offset),
+            reading: r,
+        },
+    }
+}
+
+fn going(r: Reading, next: usize) -> Step
+    ensures { λ o. ⌜ o ≡ record { outcome = Outcome.Going next; reading = r } ⌝ }
+{
+    Step {
+        outcome: Outcome::Going(next),
+        reading: r,
+    }
+}
+
+// What is wrong with the region last started, where one is: 6 and 7.
+fn closing_fault(r: Reading) -> Fault
+    ensures { λ o. ⌜ o ≡ closingFault r ⌝ }
+{
+    let g = r.region;
+    let offset = r.region_at;
+    let bare = when(r.started & model::is_bare(g), Refusal::BareRegion, offset);
+    let hot = g.hot & (g.term_count == 0);
+    or_else(
+        bare,
+        when(r.started & hot, Refusal::HotWithoutTerm, offset),
+    )
+}
+
+// The chart with the region last started in its place.
+fn close(r: Reading) -> Chart
+    ensures { λ o. ⌜ o ≡ closed r ⌝ }
+{
+    let mut chart = r.chart;
+    let g = r.region;
+    let n = chart.count as usize;
+    if r.started {
+        if n < MOST_REGIONS {
+            chart.regions[n] = g;
+            chart.count = chart.count + 1;
+        }
+    }
+    chart
+}
+
+// 10: the heading.
+fn with_heading(r: Reading, lines: u8, clocks: u8) -> Reading
+    ensures { λ o. ⌜ o ≡ withHeading r lines clocks ⌝ }
+{
+    let mut n = r;
+    n.headed = true;
+    n.chart.lines = lines;
+    n.chart.clocks = clocks;
+    n
+}
+
+fn heading_step(r: Reading, at: usize, next: usize, lines: u8, clocks: u8) -> Step
+    ensures { λ o. ⌜ o ≡ stepOf r at next false (Command.Heading lines clocks) ⌝ }
+{
+    let mut k = no_fault();
+    k.misplaced = r.headed;
+    k.beyond = !((LEAST_LINES <= lines) & ((lines <= MOST_LINES) & (clocks <= MOST_CLOCKS)));
+    let f = first_fault(Fault::Nothing, k, at, next);
+    decide(f, r, going(with_heading(r, lines, clocks), next))
+}
+
+// 20, 21: the region last started is closed, and another starts.
+fn begun(r: Reading, at: usize, e: Event) -> Reading
+    ensures { λ o. ⌜ o ≡ begunWith r at e ⌝ }
+{
+    let chart = close(r);
+    let zero = model::zero_term();
+    let region = Region {
+        event: e,
+        terms: [zero; MOST_TERMS],
+        term_count: 0,
+        hot: false,
+        resets: 0,
+    };
+    Reading {
+        headed: r.headed,
+        main: r.main,
+        started: true,
+        region_at: at,
+        touched: r.touched | model::touched(e),
+        region,
+        chart,
+    }
+}
+
+fn message_step(
+    r: Reading,
+    at: usize,
+    next: usize,
+    source: u8,
+    destination: u8,
+    label: u16,
+) -> Step
+    ensures { λ o. ⌜ o ≡ stepOf r at next false (Command.Message source destination label) ⌝ }
+{
+    let chart = close(r);
+    let lines = r.chart.lines;
+    let mut k = no_fault();
+    k.misplaced = !r.headed;
+    k.beyond = (lines <= source) | ((lines <= destination) | (source == destination));
+    k.full = MOST_REGIONS <= chart.count as usize;
+    let f = first_fault(closing_fault(r), k, at, next);
+    let m = Message {
+        source,
+        destination,
+        label,
+    };
+    decide(f, r, going(begun(r, at, Event::Message(m)), next))
+}
+
+fn plain_step(r: Reading, at: usize, next: usize, lines: u16) -> Step
+    ensures { λ o. ⌜ o ≡ stepOf r at next false (Command.Plain lines) ⌝ }
+{
+    let chart = close(r);
+    let c = r.chart;
+    let mut k = no_fault();
+    k.misplaced = !r.headed;
+    k.beyond = (lines == 0) | !bitset::within(c.lines as u32, lines as u32);
+    k.full = MOST_REGIONS <= chart.count as usize;
+    k.alone = (!r.main | (c.prechart == 0)) & ((lines & r.touched) == 0);
+    let f = first_fault(closing_fault(r), k, at, next);
+    decide(f, r, going(begun(r, at, Event::Plain(lines)), next))
+}
+
+// 30, 31: a term.
+fn relation_of(b: u8) -> Relation
+    ensures { λ o. ⌜ o ≡ relationOf b ⌝ }
+{
+    match b {
+        0 => Relation::Less,
+        1 => Relation::AtMost,
+        2 => Relation::Equal,
+        3 => Relation::AtLeast,
+        _ => Relation::More,
+    }
+}
+
+fn with_term(r: Reading, left: Left, relation: u8, n: u32) -> Reading
+    ensures { λ o. ⌜ o ≡ withTerm r left relation n ⌝ }
+{
+    let mut g = r.region;
+    let mut out = r;
+    let i = g.term_count as usize;
+    let t = Term {
+        left,
+        relation: relation_of(relation),
+        n,
+    };
+    if i < MOST_TERMS {
+        g.terms[i] = t;
+        g.term_count = g.term_count + 1;
+        out.region = g;
+    }
+    out
+}
+
+fn term_fault(r: Reading, beyond: bool, at: usize, next: usize) -> Fault
+    ensures { λ o. ⌜ o ≡ firstFault (not (r .started)) Fault.Nothing beyond (leb mostTerms (r .region .«term_count»)) false false false false at next ⌝ }
+{
+    let mut k = no_fault();
+    k.misplaced = !r.started;
+    k.beyond = beyond;
+    k.full = MOST_TERMS <= r.region.term_count as usize;
+    first_fault(Fault::Nothing, k, at, next)
+}
+
+fn clock_term_step(r: Reading, at: usize, next: usize, clock: u8, relation: u8, n: u32) -> Step
+    ensures { λ o. ⌜ o ≡ stepOf r at next false (Command.ClockTerm clock relation n) ⌝ }
+{
+    let beyond = (r.chart.clocks <= clock) | (RELATIONS <= relation);
+    let f = term_fault(r, beyond, at, next);
+    decide(
+        f,
+        r,
+        going(with_term(r, Left::Clock(clock), relation, n), next),
+    )
+}
+
+fn difference_term_step(
+    r: Reading,
+    at: usize,
+    next: usize,
+    a: u8,
+    b: u8,
+    relation: u8,
+    n: u32,
+) -> Step
+    ensures { λ o. ⌜ o ≡ stepOf r at next false (Command.DifferenceTerm a b relation n) ⌝ }
+{
+    let clocks = r.chart.clocks;
+    let beyond = (clocks <= a) | ((clocks <= b) | ((a == b) | (RELATIONS <= relation)));
+    let f = term_fault(r, beyond, at, next);
+    decide(
+        f,
+        r,
+        going(with_term(r, Left::Difference(a, b), relation, n), next),
+    )
+}
+
+// 32: the condition is hot.
+fn with_hot(r: Reading) -> Reading
+    ensures { λ o. ⌜ o ≡ withHot r ⌝ }
+{
+    let mut n = r;
+    n.region.hot = true;
+    n
+}
+
+fn hot_step(r: Reading, at: usize, next: usize) -> Step
+    ensures { λ o. ⌜ o ≡ stepOf r at next false Command.Hot ⌝ }
+{
+    let mut k = no_fault();
+    k.misplaced = !r.started | r.region.hot;
+    k.early = !r.main;
+    let f = first_fault(Fault::Nothing, k, at, next);
+    decide(f, r, going(with_hot(r), next))
+}
+
+// 40: resets.
+fn with_resets(r: Reading, clocks: u8) -> Reading
+    ensures { λ o. ⌜ o ≡ withResets r clocks ⌝ }
+{
+    let mut n = r;
+    n.region.resets = clocks;
+    n
+}
+
+fn resets_step(r: Reading, at: usize, next: usize, clocks: u8) -> Step
+    ensures { λ o. ⌜ o ≡ stepOf r at next false (Command.Resets clocks) ⌝ }
+{
+    let mut k = no_fault();
+    k.misplaced = !r.started | (r.region.resets != 0);
+    k.beyond = (clocks == 0) | !bitset::within(r.chart.clocks as u32, clocks as u32);
+    let f = first_fault(Fault::Nothing, k, at, next);
+    decide(f, r, going(with_resets(r, clocks), next))
+}
+
+// The region last started is closed, and none is started.
+fn with_chart(r: Reading, main: bool, chart: Chart) -> Reading
+    ensures { λ o. ⌜ o ≡ withChart r main chart ⌝ }
+{
+    let mut n = r;
+    n.main = main;
+    n.started = false;
+    n.chart = chart;
+    n
+}
+
+// 50: the main chart starts.
+fn with_main(r: Reading) -> Reading
+    ensures { λ o. ⌜ o ≡ withMain r ⌝ }
+{
+    let mut chart = close(r);
+    chart.prechart = chart.count;
+    with_chart(r, true, chart)
+}
+
+fn main_chart_step(r: Reading, at: usize, next: usize) -> Step
+    ensures { λ o. ⌜ o ≡ stepOf r at next false Command.Main ⌝ }
+{
+    let mut k = no_fault();
+    k.misplaced = !r.headed | r.main;
+    let f = first_fault(closing_fault(r), k, at, next);
+    decide(f, r, going(with_main(r), next))
+}
+
+// 7F: the end.
+fn end_step(r: Reading, at: usize, next: usize, more: bool) -> Step
+    ensures { λ o. ⌜ o ≡ stepOf r at next more Command.End ⌝ }
+{
+    let chart = close(r);
+    let mut k = no_fault();
+    k.misplaced = !r.headed;
+    k.empty = !r.main | (chart.count == chart.prechart);
+    k.trailing = more;
+    let f = first_fault(closing_fault(r), k, at, next);
+    let reading = with_chart(r, r.main, chart);
+    decide(
+        f,
+        r,
+        Step {
+            outcome: Outcome::Ended,
+            reading,
+        },
+    )
+}
+
+// One command at an offset, with the next one's; `more`: bytes follow.
+pub fn take(r: Reading, at: usize, next: usize, more: bool, c: Command) -> Step
+    ensures { λ o. ⌜ o ≡ stepOf r at next more c ⌝ }
+{
+    match c {
+        Command::Heading(lines, clocks) => heading_step(r, at, next, lines, clocks),
+        Command::Message(s, d, label) => message_step(r, at, next, s, d, label),
+        Command::Plain(lines) => plain_step(r, at, next, lines),
+        Command::ClockTerm(k, e, n) => clock_term_step(r, at, next, k, e, n),
+        Command::DifferenceTerm(a, b, e, n) => difference_term_step(r, at, next, a, b, e, n),
+        Command::Hot => hot_step(r, at, next),
+        Command::Resets(k) => resets_step(r, at, next, k),
+        Command::Main => main_chart_step(r, at, next),
+        Command::End => end_step(r, at, next, more),
+    }
+}

@@ -1,0 +1,78 @@
+-- A chart as a value: its limits, its zeros, the region and the term at a place, the lines that a region touches.
+use Prim.Native.Nat.{ℕ}
+use mathlib.Core.Bool.{Bool, true, false, cond, _&&_, _||_}
+use mathlib.Core.List.{List, []}
+use lib.Dec.{eqb, ltb}
+use lib.ListN.{getD, replicate}
+use Rattle.bitset.specs.Set.{contains, single, union}
+use Rattle.model.specs.declared.Event.{Event}
+use Rattle.model.specs.declared.Event.the-variants.{Plain, Message}
+use Rattle.model.specs.declared.Relation.{Relation}
+use Rattle.model.specs.declared.Relation.the-variants.{Less}
+use Rattle.model.specs.declared.Left.{Left}
+use Rattle.model.specs.declared.Left.the-variants.{Clock}
+use Rattle.model.specs.declared.Term.{Term}
+use Rattle.model.specs.declared.Region.{Region}
+use Rattle.model.specs.declared.Chart.{Chart}
+
+-- A chart has 2 to 16 lines, 0 to 8 clocks, and 1 to 32 regions; a condition has 1 to 4 terms.
+abbrev pub leastLines : ℕ
+leastLines = 2
+
+abbrev pub mostLines : ℕ
+mostLines = 16
+
+abbrev pub mostClocks : ℕ
+mostClocks = 8
+
+abbrev pub mostRegions : ℕ
+mostRegions = 32
+
+abbrev pub mostTerms : ℕ
+mostTerms = 4
+
+-- unused places hold zeros
+abbrev pub zeroTerm : Term
+zeroTerm = record { left = Clock 0; relation = Less; n = 0 }
+
+abbrev pub zeroRegion : Region
+zeroRegion = record { event = Plain 0; terms = replicate mostTerms zeroTerm; «term_count» = 0; hot = false; resets = 0 }
+
+abbrev pub zeroChart : Chart
+zeroChart = record { lines = 0; clocks = 0; prechart = 0; count = 0; regions = replicate mostRegions zeroRegion }
+
+-- what the logic reads past the end of a list of regions: each enum at its first variant, each array empty
+abbrev pub absentRegion : Region
+absentRegion = record { event = Message (record { source = 0; destination = 0; label = 0 }); terms = []; «term_count» = 0; hot = false; resets = 0 }
+
+abbrev pub regionAt : Chart → ℕ → Region
+regionAt c i = getD (c .regions) i absentRegion
+
+abbrev pub termAt : Region → ℕ → Term
+termAt g j = getD (g .terms) j zeroTerm
+
+abbrev pub isPlain : Event → Bool
+isPlain (Plain l) = true
+isPlain (Message m) = false
+
+-- a plain region with neither term nor reset
+abbrev pub isBare : Region → Bool
+isBare g = isPlain (g .event) && (eqb (g .«term_count») 0 && eqb (g .resets) 0)
+
+-- A message region touches its two lines. A plain region touches the lines it names.
+abbrev pub touches : Event → ℕ → Bool
+touches (Message m) k = eqb k (m .source) || eqb k (m .destination)
+touches (Plain l) k = contains l k
+
+-- the set of one line; no chart has a line from 16 on
+abbrev pub lineSet : ℕ → ℕ
+lineSet i = cond (ltb i mostLines) (single i) 0
+
+-- the same as a set of the lines below 16
+abbrev pub touched : Event → ℕ
+touched (Message m) = union (lineSet (m .source)) (lineSet (m .destination))
+touched (Plain l) = l
+
+-- the lines that region i touches
+abbrev pub touchedAt : Chart → ℕ → ℕ
+touchedAt c i = touched (regionAt c i .event)

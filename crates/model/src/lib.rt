@@ -1,0 +1,152 @@
+// The vocabulary: times, messages, terms, regions and charts, as values.
+ghost use mathlib.Core.Path.{_≡_};
+ghost use Prim.Native.Nat.{ℕ, _-_, _<_};
+ghost use Rattle.bitset.specs.Set.{contains};
+ghost use Rattle.model.specs.Chart.{zeroTerm, zeroRegion, zeroChart, isPlain, isBare, lineSet, touched, touches, mostLines};
+
+pub const LEAST_LINES: u8 = 2;
+pub const MOST_LINES: u8 = 16;
+pub const MOST_CLOCKS: u8 = 8;
+pub const MOST_REGIONS: usize = 32;
+pub const MOST_TERMS: usize = 4;
+
+// A point in time, in ticks from the log's start.
+pub struct Moment(pub u32);
+
+// The time between two moments, in ticks.
+pub struct Length(pub u32);
+
+impl Moment {
+    // The length from an earlier moment to this one; 0 if the other is the later one.
+    pub fn since(self, earlier: Moment) -> Length
+        ensures { λ r. ⌜ r .0 ≡ self .0 - earlier .0 ⌝ }
+    {
+        if self.0 < earlier.0 {
+            return Length(0);
+        }
+        Length(self.0 - earlier.0)
+    }
+}
+
+pub struct Message {
+    pub source: u8,
+    pub destination: u8,
+    pub label: u16,
+}
+
+// What a region waits for: a message, or, for a plain region, nothing; a plain region names its lines as a set.
+pub enum Event {
+    Message(Message),
+    Plain(u16),
+}
+
+pub enum Relation {
+    Less,
+    AtMost,
+    Equal,
+    AtLeast,
+    More,
+}
+
+// The left side of a term: a clock, or the first clock minus the second.
+pub enum Left {
+    Clock(u8),
+    Difference(u8, u8),
+}
+
+// A term `left relation n`; n is the 32 bits of a signed number.
+pub struct Term {
+    pub left: Left,
+    pub relation: Relation,
+    pub n: u32,
+}
+
+// A region; `resets` is a set of clocks.
+pub struct Region {
+    pub event: Event,
+    pub terms: [Term; MOST_TERMS],
+    pub term_count: u8,
+    pub hot: bool,
+    pub resets: u8,
+}
+
+// A chart: its regions in file order, of which the first `prechart` are the prechart's.
+pub struct Chart {
+    pub lines: u8,
+    pub clocks: u8,
+    pub prechart: u8,
+    pub count: u8,
+    pub regions: [Region; MOST_REGIONS],
+}
+
+pub fn zero_term() -> Term
+    ensures { λ r. ⌜ r ≡ zeroTerm ⌝ }
+{
+    Term {
+        left: Left::Clock(0),
+        relation: Relation::Less,
+        n: 0,
+    }
+}
+
+pub fn zero_region() -> Region
+    ensures { λ r. ⌜ r ≡ zeroRegion ⌝ }
+{
+    let t = zero_term();
+    Region {
+        event: Event::Plain(0),
+        terms: [t; MOST_TERMS],
+        term_count: 0,
+        hot: false,
+        resets: 0,
+    }
+}
+
+pub fn zero_chart() -> Chart
+    ensures { λ r. ⌜ r ≡ zeroChart ⌝ }
+{
+    let z = zero_region();
+    let regions = [z; MOST_REGIONS];
+    Chart {
+        lines: 0,
+        clocks: 0,
+        prechart: 0,
+        count: 0,
+        regions,
+    }
+}
+
+pub fn is_plain(e: Event) -> bool
+    ensures { λ r. ⌜ r ≡ isPlain e ⌝ }
+{
+    match e {
+        Event::Plain(_) => true,
+        Event::Message(_) => false,
+    }
+}
+
+// A plain region with neither term nor reset.
+pub fn is_bare(g: Region) -> bool
+    ensures { λ r. ⌜ r ≡ isBare g ⌝ }
+{
+    let e = g.event;
+    is_plain(e) & ((g.term_count == 0) & (g.resets == 0))
+}
+
+// The set of line i alone; no chart has a line from 16 on.
+fn line_set(i: u8) -> u16
+    ensures { λ r. ⌜ r ≡ lineSet i ⌝ }
+{
+    if i < MOST_LINES { 1 << i } else { 0 }
+}
+
+// The lines that a region touches.
+pub fn touched(e: Event) -> u16
+    ensures set { λ r. ⌜ r ≡ touched e ⌝ }
+    ensures members { λ r. ⌜ ((k : ℕ) → k < mostLines → contains r k ≡ touches e k) ⌝ }
+{
+    match e {
+        Event::Message(m) => line_set(m.source) | line_set(m.destination),
+        Event::Plain(l) => l,
+    }
+}
