@@ -1,19 +1,18 @@
 -- What callers use of sets: the members of each operation's result, and that a set is its members.
 -- Assumes nothing.
 use mathlib.Core.Path.{_≡_, refl, sym, ap, ap₂, _∙_}
-use mathlib.Core.Bool.{Bool, true, false, true≢false, false≢true, cond, _||_, _&&_}
-use mathlib.Core.Logic.{_↔_}
+use mathlib.Core.Bool.{Bool, true, false, true≢false, false≢true, _||_, _&&_}
 use Prim.Native.Nat.{ℕ, zero, suc, _+_, _-_, _*_, _/_, _%_, _^_, _≤_, _<_, min, max, zero-le}
 use native.Mathlib.Decide.{decLt}
-use native.Mathlib.Nat.{lt-of-le-of-lt, lt-of-lt-of-le, div-eq-of-lt, one-mul, div-one, zero-div, mod-lt, div-add-mod', pow-suc, min-zero, max-zero, suc-le-suc-iff}
-use native.Mathlib.Numerals.{one-add, add-one}
+use native.Mathlib.Nat.{lt-of-le-of-lt, lt-of-lt-of-le, div-eq-of-lt, one-mul, div-one, zero-div, div-add-mod', pow-suc}
+use native.Mathlib.Numerals.{one-add}
 use native.Mathlib.Omega.{arith}
-use borrow.Author.Tests.{lt-ltb, le-ltb, eqb-true, eq-eqb}
+use borrow.Author.Tests.{lt-ltb, ltb-true, le-ltb, eqb-true, eq-eqb}
 use lib.Dec.{eqb, ltb, leb·suc-suc, eqb·zero-suc, eqb·suc-zero, eqb·suc-suc}
 use lib.Pow.{pow-lt, pow-mono, pow-pos, shr-shr, low}
 use lib.Arith.{lt-one, bin-ind}
-use lib.Bits.{or-lt, and-le-l, bitAnd, bitOr, and-shr, or-shr, and-step, or-step, shifted-half, shifted-even}
-use Rattle.bitset.specs.Set.{lowestFrom, contains, single, inserted, union, isSubset}
+use lib.Bits.{or-lt, and-le-l, bitAnd, bitOr, and-shr, or-shr, and-step, or-step, shifted-even}
+use Rattle.bitset.specs.Set.{contains, single, inserted, union, isSubset, within}
 
 -- a digit is 0 or 1
 two : (d : ℕ) → d < 2 → (P : ℕ → Type 0) → P 0 → P 1 → P d
@@ -137,19 +136,6 @@ contains-below (suc n) (suc i) =
     let p = pow-suc 2 n in let o : (2 ^ suc n - 1) / 2 ≡ 2 ^ n - 1 = omega arith in
     sym (contains-half (2 ^ suc n - 1) i) ∙ ap (λ (x : ℕ). contains x i) o ∙ contains-below n i ∙ sym (leb·suc-suc (suc i) n)
 
--- one step of the search
-pub lowest-step : (s i : ℕ) → i < 32 → lowestFrom (32 - i) i s ≡ cond (contains s i) i (lowestFrom (32 - (i + 1)) (i + 1) s)
-unfolding lowestFrom
-lowest-step s i h =
-    let e : 32 - i ≡ suc (32 - (i + 1)) = omega arith in
-    ap (λ (n : ℕ). lowestFrom n i s) e ∙ ap (λ (k : ℕ). cond (contains s i) i (lowestFrom (32 - (i + 1)) k s)) (sym (add-one i))
-
-pub lowest-found : (s i : ℕ) → i < 32 → contains s i ≡ true → lowestFrom (32 - i) i s ≡ i
-lowest-found s i h e = rw e at (lowest-step s i h)
-
-pub lowest-next : (s i : ℕ) → i < 32 → contains s i ≡ false → lowestFrom (32 - i) i s ≡ lowestFrom (32 - (i + 1)) (i + 1) s
-lowest-next s i h e = rw e at (lowest-step s i h)
-
 -- a number that is not 0 has a member
 pub some-member : (s : ℕ) → (s ≡ 0 → ⊥) → (i : ℕ) × (contains s i ≡ true)
 some-member =
@@ -173,3 +159,12 @@ member-lt k s i h e = by (decLt i k)
     by (no n) =
         let l : k ≤ i = omega arith in
         absurd (false≢true (ap (λ (x : ℕ). eqb (x % 2) 1) (sym (div-eq-of-lt (lt-of-lt-of-le h (pow-mono l)))) ∙ e))
+
+-- a set whose members are below n is a number below 2 ^ n
+pub within-true : (n s : ℕ) → within n s ≡ true → s < 2 ^ n
+unfolding within
+within-true n s e = ltb-true s (2 ^ n) e
+
+pub lt-within : (n s : ℕ) → s < 2 ^ n → within n s ≡ true
+unfolding within
+lt-within n s h = lt-ltb s (2 ^ n) h

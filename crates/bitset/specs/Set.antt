@@ -1,6 +1,6 @@
 -- Sets of numbers, as the binary digits of a number.
-use Prim.Native.Nat.{ℕ, zero, suc, _/_, _%_, _^_}
-use mathlib.Core.Bool.{Bool, cond}
+use Prim.Native.Nat.{ℕ, _/_, _%_, _^_}
+use mathlib.Core.Bool.{Bool}
 use lib.Dec.{eqb, ltb}
 use lib.Bits.{bitAnd, bitOr}
 
@@ -25,8 +25,3 @@ isSubset a b = eqb (bitAnd a b) a
 -- every member is below n
 unfoldable pub within : ℕ → ℕ → Bool
 within n s = ltb s (2 ^ n)
-
--- the lowest member among the n numbers from i on, or the number behind them
-unfoldable pub lowestFrom : ℕ → ℕ → ℕ → ℕ
-lowestFrom zero i s = i
-lowestFrom (suc n) i s = cond (contains s i) i (lowestFrom n (suc i) s)

@@ -1,7 +1,7 @@
 // Sets of numbers below 32, as the bits of a u32.
 ghost use mathlib.Core.Path.{_≡_};
-ghost use Prim.Native.Nat.{ℕ, _<_, _≤_};
-ghost use Rattle.bitset.specs.Set.{lowestFrom, contains, inserted, isSubset, union, within};
+ghost use Prim.Native.Nat.{_<_};
+ghost use Rattle.bitset.specs.Set.{contains, inserted, isSubset, union, within};
 
 pub fn member(set: u32, i: u32) -> bool
     requires { ⌜ i < 32 ⌝ }
@@ -34,18 +34,4 @@ pub fn within(n: u32, set: u32) -> bool
     ensures { λ r. ⌜ r ≡ within n set ⌝ }
 {
     if n < 32 { set < 1 << n } else { true }
-}
-
-// The lowest member, or 32 where there is none.
-pub fn lowest(set: u32) -> u32
-    ensures { λ r. ⌜ r ≡ lowestFrom 32 0 set ⌝ }
-{
-    let mut i: u32 = 0;
-    while i < 32 {
-        if member(set, i) {
-            return i;
-        }
-        i += 1;
-    }
-    i
 }

@@ -1,6 +1,6 @@
 -- One command of a chart's bytes: a command byte, then operands, most significant byte first.
 use Prim.Native.Nat.{ℕ, _+_, _-_}
-use mathlib.Core.Bool.{Bool, cond}
+use mathlib.Core.Bool.{cond}
 use mathlib.Core.List.{List}
 use lib.ListN.{getD, length}
 use lib.Dec.{eqb, leb}

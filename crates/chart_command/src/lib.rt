@@ -1,6 +1,6 @@
 // One command of a chart: its byte picks how many operand bytes follow and what they mean.
 ghost use mathlib.Core.Path.{_≡_};
-ghost use Prim.Native.Nat.{ℕ, _<_};
+ghost use Prim.Native.Nat.{_<_};
 ghost use lib.ListN.{length, getD};
 ghost use Rattle.chart_command.specs.Command.{operands, decodeByte, decodeAt};
 
@@ -30,13 +30,21 @@ pub enum Decoded {
 }
 
 const HEADING: u8 = 0x10;
+
 const MESSAGE: u8 = 0x20;
+
 const PLAIN: u8 = 0x21;
+
 const CLOCK_TERM: u8 = 0x30;
+
 const DIFFERENCE_TERM: u8 = 0x31;
+
 const HOT: u8 = 0x32;
+
 const RESETS: u8 = 0x40;
+
 const MAIN: u8 = 0x50;
+
 const END: u8 = 0x7f;
 
 // A command with n operand bytes, if they are there.
@@ -62,7 +70,12 @@ fn decode_byte(s: &[u8], at: usize) -> Decoded
         HEADING => with_operands(s, at, 2, Command::Heading(a, b)),
         MESSAGE => with_operands(s, at, 4, Command::Message(a, b, wire::word16_at(s, at + 3))),
         PLAIN => with_operands(s, at, 2, Command::Plain(wire::word16_at(s, at + 1))),
-        CLOCK_TERM => with_operands(s, at, 6, Command::ClockTerm(a, b, wire::word32_at(s, at + 3))),
+        CLOCK_TERM => with_operands(
+            s,
+            at,
+            6,
+            Command::ClockTerm(a, b, wire::word32_at(s, at + 3)),
+        ),
         DIFFERENCE_TERM => {
             let relation = wire::byte_at(s, at + 3);
             let n = wire::word32_at(s, at + 4);

@@ -1,5 +1,5 @@
 -- A chart's commands never run out of the count that the definition gives them: a larger count reads the same. Assumes nothing.
-use mathlib.Core.Path.{_≡_, refl, sym, ap, _∙_}
+use mathlib.Core.Path.{_≡_, refl, _∙_}
 use mathlib.Core.Bool.{Bool, true, false, cond}
 use mathlib.Core.List.{List}
 use Prim.Native.Nat.{ℕ, zero, suc, _+_, _-_, _≤_, _<_}
@@ -9,12 +9,9 @@ use lib.ListN.{length}
 use lib.Dec.{leb, ltb}
 use Rattle.chart_command.specs.declared.Command.{Command}
 use Rattle.chart_command.specs.declared.Command.the-variants.{Heading, Message, Plain, ClockTerm, DifferenceTerm, Hot, Resets, Main, End}
-use Rattle.chart_command.specs.declared.Decoded.{Decoded}
 use Rattle.chart_command.specs.declared.Decoded.the-variants as decoded
-use Rattle.chart_command.specs.Command.{decodeAt, operands}
 use Rattle.chart_command.proofs.Laws.{decode-cases}
 use Rattle.chart_step.specs.declared.Reading.{Reading}
-use Rattle.chart_step.specs.declared.Step.{Step}
 use Rattle.chart_step.specs.declared.Fault.{Fault}
 use Rattle.chart_step.specs.declared.Fault.the-variants.{Nothing, Found}
 use Rattle.chart_step.specs.declared.Outcome.{Outcome}

@@ -1,6 +1,6 @@
 -- Reading a chart: its bytes give the chart, or the first fault with its offset and a chart of zeros.
 use Prim.Native.Nat.{ℕ, zero, suc, _+_}
-use mathlib.Core.Bool.{Bool, true, false}
+use mathlib.Core.Bool.{false}
 use mathlib.Core.List.{List}
 use lib.Dec.{ltb}
 use lib.ListN.{length}

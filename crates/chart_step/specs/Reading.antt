@@ -1,7 +1,6 @@
 -- One command of a chart: the checks in document 01's order, then what the command does.
 use Prim.Native.Nat.{ℕ, _+_}
 use mathlib.Core.Bool.{Bool, true, false, cond, not, _&&_, _||_}
-use mathlib.Core.List.{List}
 use lib.ListN.{set, replicate}
 use lib.Dec.{eqb, leb, ltb}
 use lib.Bits.{bitAnd}

@@ -2,19 +2,18 @@
 use chart_command::Command;
 use model::Chart;
 use model::Event;
-use model::Left;
-use model::Message;
-use model::Region;
-use model::Relation;
-use model::Term;
 use model::LEAST_LINES;
+use model::Left;
 use model::MOST_CLOCKS;
 use model::MOST_LINES;
 use model::MOST_REGIONS;
 use model::MOST_TERMS;
+use model::Message;
+use model::Region;
+use model::Relation;
+use model::Term;
 ghost use mathlib.Core.Path.{_≡_};
 ghost use mathlib.Core.Bool.{false, true, not};
-ghost use Prim.Native.Nat.{ℕ};
 ghost use lib.Dec.{leb};
 ghost use Rattle.model.specs.Chart.{mostTerms};
 ghost use Rattle.chart_step.specs.Refusal.{refusalNumber};
@@ -173,10 +172,7 @@ fn closing_fault(r: Reading) -> Fault
     let offset = r.region_at;
     let bare = when(r.started & model::is_bare(g), Refusal::BareRegion, offset);
     let hot = g.hot & (g.term_count == 0);
-    or_else(
-        bare,
-        when(r.started & hot, Refusal::HotWithoutTerm, offset),
-    )
+    or_else(bare, when(r.started & hot, Refusal::HotWithoutTerm, offset))
 }
 
 // The chart with the region last started in its place.
@@ -240,14 +236,7 @@ fn begun(r: Reading, at: usize, e: Event) -> Reading
     }
 }
 
-fn message_step(
-    r: Reading,
-    at: usize,
-    next: usize,
-    source: u8,
-    destination: u8,
-    label: u16,
-) -> Step
+fn message_step(r: Reading, at: usize, next: usize, source: u8, destination: u8, label: u16) -> Step
     ensures { λ o. ⌜ o ≡ stepOf r at next false (Command.Message source destination label) ⌝ }
 {
     let chart = close(r);

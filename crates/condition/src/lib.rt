@@ -5,7 +5,7 @@ use model::MOST_CLOCKS;
 use model::Relation;
 use model::Term;
 ghost use mathlib.Core.Path.{_≡_};
-ghost use Prim.Native.Nat.{ℕ, _≤_};
+ghost use Prim.Native.Nat.{_≤_};
 ghost use lib.IntN.{pos, _-ℤ_};
 ghost use Rattle.condition.specs.Condition.{signed, related, termHolds};
 ghost use Rattle.condition.specs.Parts.{inRelation, positivePart, negativePart, valueIn};

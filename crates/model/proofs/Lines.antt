@@ -5,7 +5,7 @@ use Prim.Native.Nat.{ℕ, _≤_, _<_}
 use native.Mathlib.Omega.{arith}
 use borrow.Author.Tests.{ltb-false, ne-eqb}
 use lib.Dec.{eqb, ltb}
-use Rattle.bitset.specs.Set.{contains, single, union}
+use Rattle.bitset.specs.Set.{contains, single}
 use Rattle.bitset.proofs.Laws.{contains-single, contains-union, contains-empty}
 use Rattle.model.specs.declared.Event.{Event}
 use Rattle.model.specs.declared.Event.the-variants.{Plain, Message}

@@ -1,15 +1,13 @@
 -- A chart as a value: its limits, its zeros, the region and the term at a place, the lines that a region touches.
 use Prim.Native.Nat.{ℕ}
 use mathlib.Core.Bool.{Bool, true, false, cond, _&&_, _||_}
-use mathlib.Core.List.{List, []}
+use mathlib.Core.List.{[]}
 use lib.Dec.{eqb, ltb}
 use lib.ListN.{getD, replicate}
 use Rattle.bitset.specs.Set.{contains, single, union}
 use Rattle.model.specs.declared.Event.{Event}
 use Rattle.model.specs.declared.Event.the-variants.{Plain, Message}
-use Rattle.model.specs.declared.Relation.{Relation}
 use Rattle.model.specs.declared.Relation.the-variants.{Less}
-use Rattle.model.specs.declared.Left.{Left}
 use Rattle.model.specs.declared.Left.the-variants.{Clock}
 use Rattle.model.specs.declared.Term.{Term}
 use Rattle.model.specs.declared.Region.{Region}

@@ -5,9 +5,13 @@ ghost use Rattle.bitset.specs.Set.{contains};
 ghost use Rattle.model.specs.Chart.{zeroTerm, zeroRegion, zeroChart, isPlain, isBare, lineSet, touched, touches, mostLines};
 
 pub const LEAST_LINES: u8 = 2;
+
 pub const MOST_LINES: u8 = 16;
+
 pub const MOST_CLOCKS: u8 = 8;
+
 pub const MOST_REGIONS: usize = 32;
+
 pub const MOST_TERMS: usize = 4;
 
 // A point in time, in ticks from the log's start.

@@ -3,7 +3,7 @@ use mathlib.Core.Path.{_≡_, refl, sym, ap, subst, _∙_}
 use mathlib.Core.Logic.{_⊎_, inl, inr, _↔_}
 use native.Mathlib.Decide.{ℕ-discrete}
 use lib.Arith.{lt-of-le-ne}
-use mathlib.Core.Bool.{Bool, true, false, true≢false, false≢true, cond, not, _&&_, _||_}
+use mathlib.Core.Bool.{Bool, true, false, false≢true, cond, not, _&&_, _||_}
 use mathlib.Core.List.{List}
 use Prim.Native.Nat.{ℕ, zero, suc, min, _≤_, _<_}
 use native.Mathlib.Omega.{arith}
@@ -17,7 +17,7 @@ use Rattle.bitset.proofs.Bools.{both, and-both, either, or-left, or-right}
 use Rattle.bitset.proofs.Laws.{contains-union, contains-inserted, contains-empty, contains-and, some-member}
 use Rattle.model.specs.declared.Chart.{Chart}
 use Rattle.model.specs.Chart.{mostRegions, touchedAt}
-use Rattle.order.specs.Order.{isOver, withOver, gathered, aboveSets, aboveOf, Decides}
+use Rattle.order.specs.Order.{isOver, gathered, aboveSets, aboveOf, Decides}
 use Rattle.order.specs.Above.{SharedLine, SameHalf, Over, Above, inPrechart, inMain, direct, halves, first, then}
 
 -- a common line is a common member
@@ -186,7 +186,7 @@ module _ (f g : ℕ → ℕ) (p k : ℕ) (same : (i : ℕ) → i < k → f i ≡
       ((ap (λ (l : List ℕ). gathered f p l b b) r ∙ same-gathered (aboveSets g p b) b b (omega arith) (omega arith)) i)
 
 -- what `above_sets` promises, from the sets alone
-decides : (c : Chart) → Decides c (aboveOf c)
+pub decides : (c : Chart) → Decides c (aboveOf c)
 decides c =
     record { members = λ a b h l. above-sets (touchedAt c) (c .prechart) (min (c .count) mostRegions) b a (omega arith) (omega arith) }
 

@@ -1,6 +1,6 @@
 // Numbers in a slice of bytes, most significant byte first. A byte past the end reads as 0.
 ghost use mathlib.Core.Path.{_≡_};
-ghost use Prim.Native.Nat.{ℕ, _<_};
+ghost use Prim.Native.Nat.{_<_};
 ghost use lib.ListN.{getD};
 ghost use Rattle.wire.specs.Bytes.{word16, word32};
 

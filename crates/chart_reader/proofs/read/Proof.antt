@@ -1,8 +1,7 @@
 -- `chart_reader::read` meets its contract: what is left to read from the place gives what the whole gives. Assumes nothing.
 use native.Mathlib.Omega.{arith}
 use lib.ListN.{length}
-use Prim.Native.Nat.{ℕ, _+_}
-use mathlib.Core.List.{List}
+use Prim.Native.Nat.{_+_}
 use Rattle.chart_step.specs.declared.Reading.{Reading}
 use Rattle.chart_reader.proofs.Laws.{read-step}
 use borrow.Author.Needs.{needs}

@@ -1,6 +1,5 @@
 use lib.ListN.{getD}
 use Rattle.order.specs.Order.{aboveSets}
-use borrow.Author.Needs.{needs}
 use native.Mathlib.Omega.{arith}
 use native.Mathlib.Numerals.{add-one}
 use Prim.Native.Nat.{_≤_, _-_}

@@ -1,0 +1,33 @@
+-- Refusal 20's test is exact: a chart is well formed exactly if some accepted bytes give it. Assumes nothing.
+use mathlib.Core.Path.{_≡_}
+use mathlib.Core.Bool.{Bool, true}
+use mathlib.Core.List.{List}
+use mathlib.Core.Logic.{_↔_}
+use mir.Val.{Val}
+use denote.Laws.{Is}
+use denote.Struct.Declared.{row}
+use Rattle.model.proofs.Chart as chart
+use Rattle.model.specs.declared.Chart.{Chart}
+use Rattle.chart_value.specs.WellFormed.{wellFormed}
+use Rattle.chart_value.specs.Writer.{chartBytes}
+use Rattle.chart_value.specs.Given.{Given}
+use Rattle.chart_value.proofs.Facts.{wf-of}
+use Rattle.chart_value.proofs.Owned.{owned-shape, owned-at}
+use Rattle.chart_value.proofs.Small.{chart-small, small-at}
+use Rattle.chart_value.proofs.RoundTrip.{round-trip}
+use Rattle.chart_value.proofs.Sound.{sound}
+
+exact : (c : Chart) (vs : List Val) → Is (row chart.the-type) c vs → (wellFormed c ≡ true) ↔ Given c
+exact c vs p = (
+  λ e. record {
+    bytes = chartBytes c;
+    small = small-at (chartBytes c) (chart-small c (wf-of c e) (owned-at c vs p));
+    accepted = round-trip c (owned-shape c vs p) e;
+  },
+  λ g. sound (g .bytes) c (g .accepted) .fine,
+)
+
+-- what `well_formed` promises, from the test alone
+pub exact-test : (c : Chart) (vs : List Val) → Is (row chart.the-type) c vs → (r : Bool) → r ≡ wellFormed c
+    → (r ≡ wellFormed c) × ((r ≡ true) ↔ Given c)
+exact-test c vs p r e = (e, rw e (exact c vs p))

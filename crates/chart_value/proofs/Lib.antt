@@ -1,0 +1,11 @@
+pub mod All
+pub mod Facts
+pub mod Owned
+pub mod Small
+pub mod Bytes
+pub mod RoundTrip
+pub mod Sound
+pub mod Exact
+pub mod Order
+pub mod Shown
+pub mod Guards

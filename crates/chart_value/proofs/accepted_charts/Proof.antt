@@ -1,0 +1,12 @@
+use Rattle.chart_value.proofs.Shown.{shown, codes-tell}
+use Rattle.chart_value.proofs.accepted_charts.Statement.{statement}
+use Rattle.chart_value.proofs.accepted_charts.Tie as tie
+use Rattle.chart_value.proofs.accepted_charts.Reads as reads
+use Rattle.chart_value.proofs.accepted_charts.Lts as lts
+
+-- src/lib.rt:181:1
+returns : tie.Need-returns
+returns c = (shown, codes-tell)
+
+pub accepted-charts-spec : {M : Type 1} → statement M
+accepted-charts-spec = tie.close (tie.spec returns)

@@ -1,0 +1,52 @@
+use Rattle.chart_value.specs.WellFormed.{regionFits}
+use borrow.Author.Needs.{needs}
+use Rattle.chart_value.proofs.region_fits.Statement.{statement}
+use Rattle.chart_value.proofs.region_fits.Tie as tie
+use Rattle.chart_value.proofs.region_fits.Reads as reads
+use Rattle.chart_value.proofs.region_fits.Lts as lts
+use Rattle.bitset.proofs.within.Reads as within-reads
+use Rattle.chart_value.proofs.event_fits.Reads as event-fits-reads
+use Rattle.chart_value.proofs.terms_fit.Reads as terms-fit-reads
+use Rattle.model.proofs.is_bare.Reads as is-bare-reads
+
+-- src/lib.rt:101:9
+event-fits-requires : tie.Need-event-fits-requires
+event-fits-requires c κs = search needs
+
+-- src/lib.rt:102:9
+terms-fit-requires : tie.Need-terms-fit-requires
+terms-fit-requires c κs = search needs
+
+-- src/lib.rt:103:48
+cast-within : tie.Need-cast-within
+cast-within c = search needs
+
+-- src/lib.rt:103:9
+within-requires : tie.Need-within-requires
+within-requires c κs = search needs
+
+-- src/lib.rt:104:9
+is-bare-requires : tie.Need-is-bare-requires
+is-bare-requires c κs = search needs
+
+-- src/lib.rt:97:1
+returns : tie.Need-returns
+unfolding regionFits
+returns c =
+    rw (
+      c .before .before .before .before .before .before .event-fits .ensures,
+      c .before .before .before .before .before .terms-fit .ensures,
+      c .before .before .before .within .ensures,
+      c .before .before .is-bare .ensures,
+    )
+
+pub region-fits-spec : {M : Type 1} → statement M
+region-fits-spec =
+    tie.close
+    (tie.spec
+    event-fits-requires
+    terms-fit-requires
+    cast-within
+    within-requires
+    is-bare-requires
+    returns)

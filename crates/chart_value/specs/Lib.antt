@@ -1,0 +1,5 @@
+pub mod WellFormed
+pub mod Writer
+pub mod Given
+pub mod Guards
+pub mod View

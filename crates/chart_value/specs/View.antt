@@ -1,0 +1,53 @@
+-- The abstract chart that a chart value shows.
+use mathlib.Core.Path.{_≡_}
+use mathlib.Core.Logic.{_↔_}
+use mathlib.Core.Bool.{So, cond, _&&_}
+use Prim.Native.Nat.{ℕ, suc, _+_, _*_, _<_}
+use lib.Dec.{ltb}
+use lib.ListN.{getD}
+use Rattle.bitset.specs.Set.{contains}
+use Rattle.model.specs.declared.Chart.{Chart}
+use Rattle.model.specs.declared.Region.{Region}
+use Rattle.model.specs.declared.Message.{Message}
+use Rattle.model.specs.declared.Event.{Event}
+use Rattle.model.specs.declared.Event.the-variants as event
+use Rattle.model.specs.Chart.{zeroRegion, regionAt}
+use Rattle.order.specs.Above.{AboveIn}
+use Rattle.order.specs.Order.{aboveOf}
+use Rattle.condition.specs.Condition.{conditionHolds}
+use Rattle.rounds.specs.Chart.{Chart as Abstract, Accepted}
+
+-- One number for a message's source line, label and destination line; 0 is left for a plain region.
+abbrev pub codeOf : Message → ℕ
+codeOf m = suc (m .label * 65536 + m .source * 256 + m .destination)
+
+abbrev pub keyOf : Event → ℕ
+keyOf (event.Message m) = codeOf m
+keyOf (event.Plain l) = 0
+
+-- region i; beyond the chart, zeros
+abbrev pub regionOf : Chart → ℕ → Region
+regionOf c i = cond (ltb i (c .count)) (regionAt c i) zeroRegion
+
+abbrev pub chartOf : Chart → Abstract
+chartOf c =
+    record {
+      regions = c .count;
+      prechart = c .prechart;
+      key = λ i. keyOf (regionOf c i .event);
+      above = λ a b. ltb b (c .count) && contains (getD (aboveOf c) b 0) a;
+      clocks = c .clocks;
+      resets = λ i k. contains (regionOf c i .resets) k;
+      condition = λ i value. conditionHolds (regionOf c i) value;
+      hot = λ i. regionOf c i .hot;
+    }
+
+-- What the view keeps of a chart that some accepted bytes give.
+pub record Shown (c : Chart) : Type 0 where
+  pub accepted : Accepted (chartOf c)
+  -- the abstract chart's order is document 01's
+  pub order : (a b : ℕ) → So (chartOf c .above a b) ↔ ((b < c .count) × AboveIn c a b)
+
+-- messages have one code exactly if source, label and destination are all equal; lines are stored in a byte
+abbrev pub CodesTell : Type 0
+CodesTell = (m n : Message) → m .source < 256 → m .destination < 256 → n .source < 256 → n .destination < 256 → codeOf m ≡ codeOf n → m ≡ n

@@ -1,0 +1,18 @@
+-- Each claim, by the work that proves it; the examples by computation. Assumes nothing.
+use mathlib.Core.Path.{refl}
+use Rattle.bitset.specs.Set.{within}
+use Rattle.chart_reader.specs.Read.{readChart, readFrom, advanceOf}
+use Rattle.chart_value.proofs.Shown.{shown, codes-tell}
+use Rattle.chart_value.proofs.Guards.{never-fire}
+use Rattle.claims.specs.Examples.{allRead}
+use Rattle.claims.proofs.Answers.{answers-tell}
+use Rattle.claims.proofs.claims.Statement.{statement}
+use Rattle.claims.proofs.claims.Tie as tie
+
+returns : tie.Need-returns
+unfolding allRead readChart readFrom advanceOf within
+returns c =
+    record { answers-tell = answers-tell; shown = shown; codes-tell = codes-tell; guards = never-fire; charts-read = refl }
+
+pub claims-spec : {M : Type 1} → statement M
+claims-spec = tie.close (tie.spec returns)

@@ -1,0 +1,22 @@
+-- The claims, on one page.
+use mathlib.Core.Path.{_≡_}
+use mathlib.Core.Bool.{true}
+use Rattle.chart_reader.specs.declared.ChartRead.{ChartRead}
+use Rattle.chart_reader.specs.Read.{said}
+use Rattle.model.specs.declared.Chart.{Chart}
+use Rattle.chart_value.specs.Given.{Given}
+use Rattle.chart_value.specs.View.{Shown, CodesTell}
+use Rattle.chart_value.specs.Guards.{NeverFire}
+use Rattle.claims.specs.Examples.{allRead, chartExamples}
+
+pub record Claims : Type 0 where
+  -- two readings that say the same are the same value: number, offset and chart fix the answer
+  pub answers-tell : (x y : ChartRead) → said x ≡ said y → x ≡ y
+  -- a chart that some accepted bytes give shows an accepted abstract chart, with document 01's order
+  pub shown : (c : Chart) → Given c → Shown c
+  -- one code, one message
+  pub codes-tell : CodesTell
+  -- the guards of the reader's definition never fire
+  pub guards : NeverFire
+  -- the ◆ examples of charts
+  pub charts-read : allRead chartExamples ≡ true

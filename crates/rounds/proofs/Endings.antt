@@ -1,0 +1,120 @@
+-- A stretch ends in one way only, or runs on; and the machine's step on an accepted record does what the rows say. Assumes nothing.
+use mathlib.Core.Path.{_≡_, refl, sym, ap, _∙_, subst}
+use mathlib.Core.Logic.{inl, inr}
+use mathlib.Core.Bool.{cond}
+use mathlib.Core.Option.{some}
+use Prim.Native.Nat.{ℕ}
+use native.Mathlib.Omega.{arith}
+use Rattle.rounds.specs.Base.{Snoc, _▸_, size}
+use Rattle.rounds.specs.Chart.{Chart, Accepted}
+use Rattle.rounds.specs.Rows.{LogRecord, Row, stands, chartMessage, chartMessages, resetMoment, Lawful, NoRow, Full, LawfulButLast, firstFailing}
+use Rattle.rounds.specs.Feeds.{noReadyRegion, conditionFails, Outcome, kept, dropped, broken, Ends, complete, unplaced-main, unplaced-prechart, fails-hot, fails-cold, Answer, entered, moved, quiet, Onward, completes-prechart, fires, stays}
+use Rattle.rounds.specs.Machine.{Place, Move, place, Monitor, Step, prechartDone, full, goOn, keepRound, dropRound, breakRound, conclude, accept}
+use Rattle.rounds.proofs.Facts.{split, some-same}
+use Rattle.rounds.proofs.Machine.{full-true, full-false, done-true, done-false, done-is, done-is-not}
+use Rattle.rounds.proofs.Moments.{chartMessages-skip}
+use Rattle.rounds.proofs.Rows.{lawful-after, one-row, one-row-waived}
+use Rattle.rounds.proofs.Rounds.{placeOf, Means, unplaced, failed, grown, move-means}
+
+pub onward-same : {C : Chart} {q r : Row} {a b : Answer} → Onward C q r a → Onward C q r b → a ≡ b
+onward-same (completes-prechart h k) (completes-prechart h′ k′) = refl
+onward-same (completes-prechart h k) (fires lt f) = absurd (h (f k))
+onward-same (completes-prechart h k) (stays p) = absurd (h (rw (← p) at k))
+onward-same (fires lt f) (completes-prechart h k) = absurd (h (f k))
+onward-same (fires lt f) (fires lt′ f′) = refl
+onward-same {q} {r} (fires lt f) (stays p) = absurd (omega (arith, ap size p))
+onward-same (stays p) (completes-prechart h k) = absurd (h (rw (← p) at k))
+onward-same {q} {r} (stays p) (fires lt f) = absurd (omega (arith, ap size p))
+onward-same (stays p) (stays p′) = refl
+
+-- the stretch s, opened at o, with its lawful row q, and one more record e
+module _ (C : Chart) (A : Accepted C) (o : ℕ) (s : Snoc LogRecord) (e : LogRecord) (q : Row) (lawful : Lawful C o s q) where
+  -- the three ways to end, each with its outcome
+  data Way (x : Outcome) : Type 0 where
+    whole : (r : Row) → Lawful C o (s ▸ e) r → Full C (stands r) → x ≡ kept → Way x
+    unfit : NoRow C o (s ▸ e) → ((r : Row) → ¬ LawfulButLast C o s e r)
+        → x ≡ cond (prechartDone C (stands q)) (broken noReadyRegion) dropped → Way x
+    untrue : (r : Row) (i : ℕ) → NoRow C o (s ▸ e) → LawfulButLast C o s e r → firstFailing C o (chartMessages C (s ▸ e)) r ≡ some i
+        → x ≡ cond (C .hot i) (broken conditionFails) dropped → Way x
+
+  way : {x : Outcome} → Ends C o s e x → Way x
+  way (complete r L F) = whole r L F refl
+  way (unplaced-main p N W L h) = unfit N W (rw (one-row C A o s q p lawful L, done-is C (stands p) h))
+  way (unplaced-prechart p N W L h) = unfit N W (rw (one-row C A o s q p lawful L, done-is-not C (stands p) h))
+  way (fails-hot r i N W f h) = untrue r i N W f (rw h)
+  way (fails-cold r i N W f h) = untrue r i N W f (rw h)
+
+  same-way : {x y : Outcome} → Way x → Way y → x ≡ y
+  unfolding NoRow
+  same-way (whole r L F p) (whole r′ L′ F′ p′) = p ∙ sym p′
+  same-way (whole r L F p) (unfit N W p′) = absurd (N r L)
+  same-way (whole r L F p) (untrue r′ i N W f p′) = absurd (N r L)
+  same-way (unfit N W p) (whole r′ L′ F′ p′) = absurd (N r′ L′)
+  same-way (unfit N W p) (unfit N′ W′ p′) = p ∙ sym p′
+  same-way (unfit N W p) (untrue r′ i N′ W′ f p′) = absurd (W r′ W′)
+  same-way (untrue r i N W f p) (whole r′ L′ F′ p′) = absurd (N r′ L′)
+  same-way (untrue r i N W f p) (unfit N′ W′ p′) = absurd (W′ r W)
+  same-way (untrue r i N W f p) (untrue r′ i′ N′ W′ f′ p′) =
+      let w : r ≡ r′ = one-row-waived C A o s e q lawful N r r′ W W′ in
+      let z : i ≡ i′ = some-same (rw w at f) f′ in
+      p ∙ rw z (sym p′)
+
+  pub one-outcome : {x y : Outcome} → Ends C o s e x → Ends C o s e y → x ≡ y
+  one-outcome E E′ = same-way (way E) (way E′)
+
+  way-ended : {X : Type 0} {x : Outcome} → Way x → (r : Row) → Lawful C o (s ▸ e) r → ¬ Full C (stands r) → X
+  unfolding NoRow
+  way-ended (whole r L F p) r′ L′ h = absurd (h (rw (one-row C A o (s ▸ e) r r′ L L′) at F))
+  way-ended (unfit N W p) r′ L′ h = absurd (N r′ L′)
+  way-ended (untrue r i N W f p) r′ L′ h = absurd (N r′ L′)
+
+  -- a stretch that ends does not run on
+  pub ended : {X : Type 0} {x : Outcome} → Ends C o s e x → (r : Row) → Lawful C o (s ▸ e) r → ¬ Full C (stands r) → X
+  ended E r L h = way-ended (way E) r L h
+
+  -- what the machine's step on an accepted record comes to
+  pub data Comes (m : Monitor) : Step → Type 0 where
+    on : (r : Row) (a : Answer) → Lawful C o (s ▸ e) r → ¬ Full C (stands r) → Onward C q r a
+        → Comes m (goOn C m e a (placeOf C o (chartMessages C (s ▸ e)) r))
+    keeps : Ends C o s e kept → Comes m (keepRound C m e)
+    drops : Ends C o s e dropped → Comes m (dropRound C m e)
+    breaks : (k : ℕ) (p : Place) → Ends C o s e (broken k) → Comes m (breakRound C m e k p)
+
+  comes-move : (m : Monitor) (v : Move) → m .at .fired ≡ stands q → Means C o s q e v → Comes m (conclude C m e v)
+  unfolding conclude placeOf
+  comes-move m v at (unplaced N W) = elim (split (prechartDone C (stands q))) [
+    | inl t ↦ rw (ap (prechartDone C) at ∙ t) (breaks noReadyRegion (m .at) (unplaced-main q N W lawful (done-true C (stands q) t)))
+    | inr t ↦ rw (ap (prechartDone C) at ∙ t) (drops (unplaced-prechart q N W lawful (done-false C (stands q) t)))
+  ]
+  comes-move m v at (failed p i r N W f) = elim (split (C .hot i)) [
+    | inl t ↦ rw t (breaks conditionFails (placeOf C o (chartMessages C (s ▸ e)) p) (fails-hot r i N W f t))
+    | inr t ↦ rw t (drops (fails-cold r i N W f t))
+  ]
+  comes-move m v at (grown r L lt) = elim (split (full C (stands r))) [
+    | inl t ↦ rw t (keeps (complete r L (full-true C (stands r) t)))
+    | inr t ↦ elim (split (prechartDone C (stands q))) [
+      | inl u ↦ rw (t, ap (prechartDone C) at ∙ u) (on r moved L (full-false C (stands r) t) (fires lt (λ h. done-true C (stands q) u)))
+      | inr u ↦ elim (split (prechartDone C (stands r))) [
+        | inl w ↦ rw (t, ap (prechartDone C) at ∙ u, w)
+            (on r entered L (full-false C (stands r) t) (completes-prechart (done-false C (stands q) u) (done-true C (stands r) w)))
+        | inr w ↦ rw (t, ap (prechartDone C) at ∙ u, w)
+            (on r moved L (full-false C (stands r) t) (fires lt (λ h. absurd (done-false C (stands r) w h))))
+      ]
+    ]
+  ]
+
+  place-same : (m : Monitor) → m .at .fired ≡ stands q → m .at .clocks ≡ resetMoment C o (chartMessages C s) q
+      → m .at ≡ placeOf C o (chartMessages C s) q
+  unfolding placeOf
+  place-same m f c = λ i. record { fired = f i; clocks = c i }
+
+  pub comes : (m : Monitor) → m .at .fired ≡ stands q → m .at .clocks ≡ resetMoment C o (chartMessages C s) q → ¬ Full C (stands q)
+      → Comes m (accept C m e)
+  unfolding accept
+  comes m f c h = elim (split (chartMessage C e)) [
+    | inl t ↦ rw (t, ap (λ (p : Place). place C p e) (place-same m f c))
+        (comes-move m (place C (placeOf C o (chartMessages C s) q) e) f (move-means C A o s e t q lawful))
+    | inr t ↦ rw t (subst (λ (p : Place). Comes m (goOn C m e quiet p))
+        (ap (λ (l : Snoc LogRecord). placeOf C o l q) (chartMessages-skip C s e t) ∙ sym (place-same m f c))
+        (on q quiet (lawful-after C o s e q t lawful) h (stays refl)))
+  ]

@@ -1,0 +1,149 @@
+-- Facts on tests, on the lowest number that passes a test, and on lists that grow at their end. Assumes nothing.
+use mathlib.Core.Path.{_≡_, refl, sym, ap, _∙_}
+use mathlib.Core.Logic.{_⊎_, inl, inr}
+use mathlib.Core.Bool.{Bool, true, false, not, So, _&&_, _||_, true≢false, false≢true}
+use mathlib.Core.Option.{Option, none, some}
+use Prim.Native.Nat.{ℕ, zero, suc, _≤_, _<_}
+use native.Mathlib.Nat.{not-suc-le-zero}
+use native.Mathlib.Omega.{arith}
+use native.Mathlib.Decide.{ℕ-discrete}
+use lib.Dec.{eqb}
+use borrow.Author.Tests.{eq-eqb, ne-eqb}
+use Rattle.rounds.specs.Base.{Snoc, ε, _▸_, size, each, allBelow, countBelow, first}
+
+-- a test's value, with the equation
+pub split : (b : Bool) → (b ≡ true) ⊎ (b ≡ false)
+split true = inl refl
+split false = inr refl
+
+pub clash : {X : Type 0} {b : Bool} → b ≡ true → b ≡ false → X
+clash p q = absurd (true≢false (sym p ∙ q))
+
+pub and-of : {a b : Bool} → So a → So b → So (a && b)
+and-of p q = rw p q
+
+pub and-left : (a b : Bool) → So (a && b) → So a
+and-left true b h = refl
+and-left false b h = h
+
+pub and-right : (a b : Bool) → So (a && b) → So b
+and-right true b h = h
+and-right false b h = absurd (false≢true h)
+
+pub or-left : {a : Bool} (b : Bool) → So a → So (a || b)
+or-left b p = rw p
+
+pub or-right : (a : Bool) {b : Bool} → So b → So (a || b)
+or-right true p = refl
+or-right false p = p
+
+pub or-cases : (a b : Bool) → So (a || b) → So a ⊎ So b
+or-cases true b h = inl refl
+or-cases false b h = inr h
+
+-- a search's value, with the equation
+pub found : {A : Type 0} (o : Option A) → (o ≡ none) ⊎ ((a : A) × (o ≡ some a))
+found none = inl refl
+found (some a) = inr (a, refl)
+
+pub none-some : {X : Type 0} {A : Type 0} {o : Option A} {a : A} → o ≡ none → o ≡ some a → X
+none-some p q = absurd (let z : _≡_ {A = ℕ} 0 1 = cc in omega arith)
+
+pub some-same : {A : Type 0} {o : Option A} {a b : A} → o ≡ some a → o ≡ some b → a ≡ b
+some-same p q = cc
+
+-- i is the lowest number below k that passes
+pub record Lowest (k : ℕ) (t : ℕ → Bool) (i : ℕ) : Type 0 where
+  pub below : i < k
+  pub passes : So (t i)
+  pub lowest : (j : ℕ) → j < k → So (t j) → i ≤ j
+
+pub first-none : (k : ℕ) (t : ℕ → Bool) → first k t ≡ none → (j : ℕ) → j < k → t j ≡ false
+first-none zero t e j h = absurd (not-suc-le-zero h)
+first-none (suc k) t e j h = elim (found (first k t)) [
+  | inl n ↦ elim (split (t k)) [
+    | inl p ↦ none-some {a = k} e (rw (n, p))
+    | inr p ↦ elim (ℕ-discrete j k) [ yes q ↦ rw q p | no q ↦ first-none k t n j (omega arith) ]
+  ]
+  | inr f ↦ none-some {a = f .0} e (rw (f .1))
+]
+
+pub first-some : (k : ℕ) (t : ℕ → Bool) (i : ℕ) → first k t ≡ some i → Lowest k t i
+first-some zero t i e = none-some refl e
+first-some (suc k) t i e = elim (found (first k t)) [
+  | inl n ↦ elim (split (t k)) [
+    | inl p ↦
+        let q : i ≡ k = some-same {a = i} {b = k} e (rw (n, p)) in
+        record {
+          below = omega arith;
+          passes = rw q p;
+          lowest = λ j h c. elim (ℕ-discrete j k) [ yes d ↦ omega arith | no d ↦ clash c (first-none k t n j (omega arith)) ];
+        }
+    | inr p ↦ none-some {o = first (suc k) t} (rw (n, p)) e
+  ]
+  | inr f ↦
+      let q : f .0 ≡ i = some-same {o = first (suc k) t} {a = f .0} (rw (f .1)) e in
+      let L : Lowest k t i = first-some k t i (rw q at (f .1)) in
+      record {
+        below = omega (arith, L .below);
+        passes = L .passes;
+        lowest = λ j h c. elim (ℕ-discrete j k) [ yes d ↦ omega (arith, L .below) | no d ↦ L .lowest j (omega arith) c ];
+      }
+]
+
+pub first-is : (k : ℕ) (t : ℕ → Bool) (i : ℕ) → Lowest k t i → first k t ≡ some i
+first-is k t i L = elim (found (first k t)) [
+  | inl n ↦ clash (L .passes) (first-none k t n i (L .below))
+  | inr f ↦
+      let F : Lowest k t (f .0) = first-some k t (f .0) (f .1) in
+      let q : f .0 ≡ i = omega (arith, F .lowest i (L .below) (L .passes), L .lowest (f .0) (F .below) (F .passes)) in
+      rw q at (f .1)
+]
+
+pub first-is-none : (k : ℕ) (t : ℕ → Bool) → ((j : ℕ) → j < k → ¬ So (t j)) → first k t ≡ none
+first-is-none k t h = elim (found (first k t)) [
+  | inl n ↦ n
+  | inr f ↦ absurd (h (f .0) (first-some k t (f .0) (f .1) .below) (first-some k t (f .0) (f .1) .passes))
+]
+
+pub all-of : (k : ℕ) (t : ℕ → Bool) → ((j : ℕ) → j < k → So (t j)) → So (allBelow k t)
+all-of zero t h = refl
+all-of (suc k) t h = and-of (all-of k t (λ j l. h j (omega arith))) (h k (omega arith))
+
+pub all-at : (k : ℕ) (t : ℕ → Bool) → So (allBelow k t) → (j : ℕ) → j < k → So (t j)
+all-at zero t h j l = absurd (not-suc-le-zero l)
+all-at (suc k) t h j l = elim (ℕ-discrete j k) [
+  | yes q ↦ rw q (and-right (allBelow k t) (t k) h)
+  | no q ↦ all-at k t (and-left (allBelow k t) (t k) h) j (omega arith)
+]
+
+-- one more number fails: the count falls by one
+count-same : (k : ℕ) (f : ℕ → Bool) (i : ℕ) → k ≤ i → countBelow k (λ j. not (eqb j i || f j)) ≡ countBelow k (λ j. not (f j))
+count-same zero f i h = refl
+count-same (suc k) f i h =
+    let ne : eqb k i ≡ false = ne-eqb k i (λ q. omega arith) in
+    rw (ne, count-same k f i (omega arith))
+
+pub count-falls : (k : ℕ) (f : ℕ → Bool) (i : ℕ) → i < k → f i ≡ false
+    → suc (countBelow k (λ j. not (eqb j i || f j))) ≡ countBelow k (λ j. not (f j))
+count-falls zero f i h u = absurd (not-suc-le-zero h)
+count-falls (suc k) f i h u = elim (ℕ-discrete k i) [
+  | yes q ↦ rw (q, eq-eqb i i refl, u, count-same i f i (omega arith))
+  | no q ↦ elim (split (f k)) [
+    | inl p ↦ rw (ne-eqb k i q, p, count-falls k f i (omega arith) u)
+    | inr p ↦ rw (ne-eqb k i q, p, count-falls k f i (omega arith) u)
+  ]
+]
+
+pub size-each : {A B : Type 0} (f : A → B) (l : Snoc A) → size (each f l) ≡ size l
+size-each f ε = refl
+size-each f (l ▸ a) = ap suc (size-each f l)
+
+pub snoc-same-init : {A : Type 0} {l m : Snoc A} {a b : A} → l ▸ a ≡ m ▸ b → l ≡ m
+snoc-same-init p = cc
+
+pub snoc-same-last : {A : Type 0} {l m : Snoc A} {a b : A} → l ▸ a ≡ m ▸ b → a ≡ b
+snoc-same-last p = cc
+
+pub empty-snoc : {X : Type 0} {A : Type 0} {l : Snoc A} {a : A} → _≡_ {A = Snoc A} ε (l ▸ a) → X
+empty-snoc p = absurd (let z : _≡_ {A = ℕ} 0 1 = cc in omega arith)

@@ -1,0 +1,182 @@
+-- The machine's answers and monitor after a list of feeds are what the list means. Assumes nothing.
+use mathlib.Core.Path.{_≡_, refl, ap, ap₂, _∙_, subst, fun-ext}
+use mathlib.Core.Logic.{_≢_, inl, inr}
+use mathlib.Core.Bool.{false, not}
+use Prim.Native.Nat.{ℕ, suc}
+use native.Mathlib.Omega.{arith}
+use lib.Dec.{eqb, ltb, leb}
+use borrow.Author.Tests.{eq-eqb, ne-eqb}
+use Rattle.rounds.specs.Base.{Snoc, ε, _▸_, size, onFound}
+use Rattle.rounds.specs.Chart.{Chart, Accepted}
+use Rattle.rounds.specs.Rows.{LogRecord, Row, stands, chartMessages, messageRegions, opened, resetMoment, Lawful, Full}
+use Rattle.rounds.specs.Feeds.{mostRecords, lastMoment, refusal, Outcome, Stretch, Last, unended, behind, Ends, Answer, refused, toldBroken, ending, Onward, FedOne, refuses, runs-on, ends, again, Fed, none-yet, one-more}
+use Rattle.rounds.specs.Machine.{Monitor, Step, opening, goOn, keepRound, dropRound, breakRound, accept, feed, after, answers}
+use Rattle.rounds.specs.Demand3.{Unbroken, Broken, AtLast, Agrees, Meaning}
+use Rattle.rounds.proofs.Facts.{split}
+use Rattle.rounds.proofs.Machine.{opening-lacks, opening-settled}
+use Rattle.rounds.proofs.Rows.{one-row}
+use Rattle.rounds.proofs.Rounds.{placeOf}
+use Rattle.rounds.proofs.Endings.{onward-same, one-outcome, ended, Comes, on, keeps, drops, breaks, comes}
+
+module _ (C : Chart) (m : Monitor) (e : LogRecord) where
+  -- feeding an unbroken monitor goes by the refusals that the accepted records give
+  pub feed-unbroken : {rs : Snoc LogRecord} {es : Snoc Stretch} {o : ℕ} {s : Snoc LogRecord} → Agrees C rs es (unended o s) m
+      → feed C m e ≡ onFound (refusal rs e) (accept C m e) (λ k. record { answer = refused k; next = m })
+  unfolding feed refusal AtLast
+  feed-unbroken {rs} G =
+      let b : not (eqb (m .break) 0) ≡ false = ap not (eq-eqb (m .break) 0 (G .at-last .no-break)) in
+      let n : ltb (e .time) (m .now) ≡ ltb (e .time) (lastMoment rs) = ap (ltb (e .time)) (G .now) in
+      let r : leb mostRecords (m .records) ≡ leb mostRecords (size rs) = ap (leb mostRecords) (G .records) in
+      elim (split (ltb (e .time) (lastMoment rs))) [
+        | inl t ↦ rw (b, n ∙ t, t)
+        | inr t ↦ elim (split (leb mostRecords (size rs))) [
+          | inl u ↦ rw (b, n ∙ t, r ∙ u, t, u)
+          | inr u ↦ rw (b, n ∙ t, r ∙ u, t, u)
+        ]
+      ]
+
+  feed-broken : m .break ≢ 0 → feed C m e ≡ record { answer = toldBroken (m .break) (m .reason); next = m }
+  unfolding feed
+  feed-broken h = rw (ap not (ne-eqb (m .break) 0 h))
+
+module _ (C : Chart) (A : Accepted C) where
+  -- a stretch that has just opened
+  pub opens : (t : ℕ) → Lawful C t ε ε
+  unfolding Lawful chartMessages messageRegions
+  opens t = record { one-for-one = refl; placed = tt; settled = opening-settled C A }
+
+  opens-unbroken : (t : ℕ) (m : Monitor) → m .at .fired ≡ stands ε → m .at .clocks ≡ opened C t → m .break ≡ 0 → m .reason ≡ 0
+      → Unbroken C t ε m
+  unfolding resetMoment
+  opens-unbroken t m f c b r = record {
+    row = ε;
+    lawful = opens t;
+    lacks-one = opening-lacks C A;
+    has-fired = f;
+    has-clocks = c;
+    no-break = b;
+    no-reason = r;
+  }
+
+  -- what an accepted record comes to
+  pub comes-unbroken : {o : ℕ} {s : Snoc LogRecord} (e : LogRecord) (m : Monitor) (T : Unbroken C o s m)
+      → Comes C A o s e (T .row) (T .lawful) m (accept C m e)
+  comes-unbroken {o} {s} e m T = comes C A o s e (T .row) (T .lawful) m (T .has-fired) (T .has-clocks) (T .lacks-one)
+
+  record StepAgrees (a : Answer) (rs : Snoc LogRecord) (es : Snoc Stretch) (last : Last) (v : Step) : Type 0 where
+    answer : v .answer ≡ a
+    next : Agrees C rs es last (v .next)
+
+  -- an accepted record
+  module _ (m : Monitor) (rs : Snoc LogRecord) (es : Snoc Stretch) (o : ℕ) (s : Snoc LogRecord) (e : LogRecord) (q : Row)
+      (lawful : Lawful C o s q) (G : Agrees C rs es (unended o s) m) where
+    after-on : {v : Step} → Comes C A o s e q lawful m v → (p r : Row) (a : Answer) → Lawful C o s p → Lawful C o (s ▸ e) r
+        → ¬ Full C (stands r) → Onward C p r a → StepAgrees a (rs ▸ e) es (unended o (s ▸ e)) v
+    unfolding goOn placeOf AtLast
+    after-on (on r′ b L′ h′ O′) p r a M L h O =
+        let w : q ≡ p = one-row C A o s q p lawful M in
+        let z : r′ ≡ r = one-row C A o (s ▸ e) r′ r L′ L in
+        record {
+          answer = onward-same (rw (w, z) at O′) O;
+          next = record {
+            now = refl;
+            records = ap suc (G .records);
+            kept = G .kept;
+            dropped = G .dropped;
+            at-last = record {
+              row = r′;
+              lawful = L′;
+              lacks-one = h′;
+              has-fired = refl;
+              has-clocks = refl;
+              no-break = refl;
+              no-reason = refl;
+            };
+          };
+        }
+    after-on (keeps E) p r a M L h O = ended C A o s e q lawful E r L h
+    after-on (drops E) p r a M L h O = ended C A o s e q lawful E r L h
+    after-on (breaks k d E) p r a M L h O = ended C A o s e q lawful E r L h
+
+    abbrev Ended : Outcome → Step → Type 0
+    Ended x v = StepAgrees (ending x (suc (size rs))) (rs ▸ e)
+        (es ▸ record { opening = o; records = s ▸ e; outcome = x }) (behind x (e .time)) v
+
+    after-ends : {v : Step} → Comes C A o s e q lawful m v → (x : Outcome) → Ends C o s e x → Ended x v
+    unfolding keepRound dropRound breakRound opening AtLast
+    after-ends (on r a L h O) x E = ended C A o s e q lawful E r L h
+    after-ends (keeps E′) x E = subst (λ (y : Outcome). Ended y (keepRound C m e)) (one-outcome C A o s e q lawful E′ E)
+        (record {
+          answer = refl;
+          next = record {
+            now = refl;
+            records = ap suc (G .records);
+            kept = ap suc (G .kept);
+            dropped = G .dropped;
+            at-last = opens-unbroken (e .time) (keepRound C m e .next) refl refl refl refl;
+          };
+        })
+    after-ends (drops E′) x E = subst (λ (y : Outcome). Ended y (dropRound C m e)) (one-outcome C A o s e q lawful E′ E)
+        (record {
+          answer = refl;
+          next = record {
+            now = refl;
+            records = ap suc (G .records);
+            kept = G .kept;
+            dropped = ap suc (G .dropped);
+            at-last = opens-unbroken (e .time) (dropRound C m e .next) refl refl refl refl;
+          };
+        })
+    after-ends (breaks k d E′) x E = subst (λ (y : Outcome). Ended y (breakRound C m e k d)) (one-outcome C A o s e q lawful E′ E)
+        (record {
+          answer = ap (λ (n : ℕ). toldBroken (suc n) k) (G .records);
+          next = record {
+            now = refl;
+            records = ap suc (G .records);
+            kept = G .kept;
+            dropped = G .dropped;
+            at-last = record { at-last-accepted = ap suc (G .records); not-zero = λ z. omega arith; of-stretch = refl };
+          };
+        })
+
+  -- one feed to a monitor that agrees
+  feed-agrees : {rs rs′ : Snoc LogRecord} {es es′ : Snoc Stretch} {last last′ : Last} {e : LogRecord} {a : Answer} (m : Monitor)
+      → Agrees C rs es last m → FedOne C rs es e last a rs′ es′ last′ → StepAgrees a rs′ es′ last′ (feed C m e)
+  unfolding AtLast
+  feed-agrees {e} m G (refuses k h) = rw (feed-unbroken C m e G, h) (record { answer = refl; next = G })
+  feed-agrees {rs} {es} {e} m G (runs-on {o} {s} h p r a M L nf O) =
+      let T : Unbroken C o s m = G .at-last in
+      rw (feed-unbroken C m e G, h) (after-on m rs es o s e (T .row) (T .lawful) G (comes-unbroken e m T) p r a M L nf O)
+  feed-agrees {rs} {es} {e} m G (ends {o} {s} h x E) =
+      let T : Unbroken C o s m = G .at-last in
+      rw (feed-unbroken C m e G, h) (after-ends m rs es o s e (T .row) (T .lawful) G (comes-unbroken e m T) x E)
+  feed-agrees {rs} {e} m G (again {k}) =
+      let T : Broken k rs m = G .at-last in
+      rw (feed-broken C m e (T .not-zero)) (record { answer = ap₂ toldBroken (T .at-last-accepted) (T .of-stretch); next = G })
+
+  starts : (answers C ε ≡ ε) × Agrees C ε ε (unended 0 ε) (after C ε)
+  unfolding answers after AtLast opened
+  starts = (
+    refl,
+    record {
+      now = refl;
+      records = refl;
+      kept = refl;
+      dropped = refl;
+      at-last = opens-unbroken 0 (after C ε) refl
+          (fun-ext (λ c. elim (split (ltb c (C .clocks))) [ inl t ↦ rw t | inr t ↦ rw t ])) refl refl;
+    },
+  )
+
+  -- whatever the feeds mean, the machine's answers and monitor say it
+  pub agrees : {fs : Snoc LogRecord} {ans : Snoc Answer} {rs : Snoc LogRecord} {es : Snoc Stretch} {last : Last}
+      → Fed C fs ans rs es last → (answers C fs ≡ ans) × Agrees C rs es last (after C fs)
+  unfolding answers after
+  agrees none-yet = starts
+  agrees (one-more {fs} {ans} {e} F N) =
+      let S = feed-agrees (after C fs) (agrees F .1) N in
+      (ap₂ {C = Snoc Answer} (λ l b. l ▸ b) (agrees F .0) (S .answer), S .next)
+
+  pub monitor-agrees : {fs : Snoc LogRecord} (M : Meaning C fs)
+      → (answers C fs ≡ M .told) × Agrees C (M .accepted) (M .stretches) (M .last) (after C fs)
+  monitor-agrees M = agrees (M .fed)

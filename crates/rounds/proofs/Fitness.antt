@@ -1,0 +1,186 @@
+-- A fresh monitor is fit, and feeding a fit monitor gives a fit one. Assumes nothing.
+use mathlib.Core.Path.{_≡_, refl}
+use mathlib.Core.Logic.{_⊎_, inl, inr}
+use mathlib.Core.Bool.{not, So, false≢true}
+use Prim.Native.Nat.{ℕ, zero, suc, _+_, _≤_, _<_}
+use native.Mathlib.Omega.{arith}
+use lib.Dec.{eqb, ltb, leb}
+use borrow.Author.Tests.{eqb-true, ltb-false, ltb-true, leb-false, not-false}
+use Rattle.rounds.specs.Base.{Snoc, ε, _▸_}
+use Rattle.rounds.specs.Chart.{Chart, Accepted}
+use Rattle.rounds.specs.Rows.{LogRecord, chartMessage, plain, Ready, values, opened, Full}
+use Rattle.rounds.specs.Feeds.{mostRecords, noReadyRegion, conditionFails}
+use Rattle.rounds.specs.Machine.{Place, Monitor, fresh, Move, stuck, fails, rests, readyPlain, readyFor, fire, unfired, settle, place, opening, full, prechartDone, goOn, keepRound, dropRound, breakRound, conclude, accept, feed, after, Fit}
+use Rattle.rounds.proofs.Facts.{split, or-right, or-cases, found}
+use Rattle.rounds.proofs.Machine.{full-false, ready-lacks, unfired-falls, opening-lacks, opening-settled, plain-some, plain-none, for-some, place-stuck, place-fails, place-fires}
+
+module _ (C : Chart) (A : Accepted C) where
+  record FitPlace (t : ℕ) (p : Place) : Type 0 where
+    closed : (i a : ℕ) → So (p .fired i) → So (C .above a i) → So (p .fired a)
+    within : (i : ℕ) → So (p .fired i) → i < C .regions
+    moments : (c : ℕ) → p .clocks c ≤ t
+    unused : (c : ℕ) → C .clocks ≤ c → p .clocks c ≡ 0
+
+  Settled : Place → Type 0
+  Settled p = (j : ℕ) → So (plain C j) → ¬ Ready C (p .fired) j
+
+  fire-fits : (t : ℕ) (p : Place) (i : ℕ) → FitPlace t p → Ready C (p .fired) i → FitPlace t (fire C t p i)
+  unfolding fire
+  fire-fits t p i F R = record {
+    closed = λ j a h b. elim (or-cases (eqb j i) (p .fired j) h) [
+      | inl q ↦ or-right (eqb a i) (R .under a (rw (eqb-true j i q) at b))
+      | inr q ↦ or-right (eqb a i) (F .closed j a q b)
+    ];
+    within = λ j h. elim (or-cases (eqb j i) (p .fired j) h) [ inl q ↦ rw (eqb-true j i q) (R .region) | inr q ↦ F .within j q ];
+    moments = λ c. elim (split (C .resets i c)) [ inl q ↦ rw q (omega arith) | inr q ↦ rw q (F .moments c) ];
+    unused = λ c h. elim (split (C .resets i c)) [ inl q ↦ absurd (omega (arith, A .own-clocks i c q)) | inr q ↦ rw q (F .unused c h) ];
+  }
+
+  opening-fits : (t : ℕ) → FitPlace t (opening C t)
+  unfolding opening opened
+  opening-fits t = record {
+    closed = λ i a h b. h;
+    within = λ i h. absurd (false≢true h);
+    moments = λ c. elim (split (ltb c (C .clocks))) [ inl q ↦ rw q (omega arith) | inr q ↦ rw q (omega arith) ];
+    unused = λ c h. elim (split (ltb c (C .clocks))) [ inl q ↦ absurd (omega (arith, ltb-true c (C .clocks) q)) | inr q ↦ rw q ];
+  }
+
+  -- what steps 3 and 4 come to is fit
+  FitMove : ℕ → Move → Type 0
+  FitMove t stuck = Unit {0}
+  FitMove t (fails i p) = FitPlace t p × (¬ Full C (p .fired))
+  FitMove t (rests p) = FitPlace t p × Settled p
+
+  settle-fits : (t : ℕ) (k : ℕ) (p : Place) → FitPlace t p → unfired C (p .fired) ≤ k → FitMove t (settle C t k p)
+  unfolding FitMove Settled settle
+  settle-fits t zero p F h = elim (found (readyPlain C (p .fired))) [
+    | inl n ↦ (F, plain-none C A (p .fired) n)
+    | inr f ↦ absurd (omega (arith, unfired-falls C t p (f .0) (plain-some C A (p .fired) (f .0) (f .1) .is-ready)))
+  ]
+  settle-fits t (suc k) p F h = elim (found (readyPlain C (p .fired))) [
+    | inl n ↦ rw n (F, plain-none C A (p .fired) n)
+    | inr f ↦
+        let R : Ready C (p .fired) (f .0) = plain-some C A (p .fired) (f .0) (f .1) .is-ready in
+        elim (split (C .condition (f .0) (values C t (p .clocks)))) [
+          | inl q ↦ rw (f .1, q)
+              (settle-fits t k (fire C t p (f .0)) (fire-fits t p (f .0) F R) (omega (arith, unfired-falls C t p (f .0) R)))
+          | inr q ↦ rw (f .1, q) (F, ready-lacks C (p .fired) (f .0) R)
+        ]
+  ]
+
+  place-fits : (p : Place) (e : LogRecord) → FitPlace (e .time) p → FitMove (e .time) (place C p e)
+  unfolding FitMove
+  place-fits p e F = elim (found (readyFor C (p .fired) e)) [
+    | inl n ↦ rw (place-stuck C p e n) tt
+    | inr f ↦
+        let R : Ready C (p .fired) (f .0) = for-some C A (p .fired) e (f .0) (f .1) .0 in
+        elim (split (C .condition (f .0) (values C (e .time) (p .clocks)))) [
+          | inl q ↦ rw (place-fires C p e (f .0) (f .1) q)
+              (settle-fits (e .time) (unfired C (fire C (e .time) p (f .0) .fired)) (fire C (e .time) p (f .0))
+              (fire-fits (e .time) p (f .0) F R) (omega arith))
+          | inr q ↦ rw (place-fails C p e (f .0) (f .1) q) (F, ready-lacks C (p .fired) (f .0) R)
+        ]
+  ]
+
+  -- an accepted record, counted
+  module _ (m : Monitor) (e : LogRecord) (F : Fit C m) (later : m .now ≤ e .time) (room : m .records < mostRecords)
+      (unbroken : m .break ≡ 0) where
+    at-now : FitPlace (e .time) (m .at)
+    at-now = record { closed = F .closed; within = F .within; moments = λ c. omega (arith, F .moments c, later); unused = F .unused }
+
+    unbroken-fits : (p : Place) (k d : ℕ) → FitPlace (e .time) p → ¬ Full C (p .fired) → Settled p → k + d ≤ suc (m .records)
+        → Fit C (record { at = p; now = e .time; records = suc (m .records); kept = k; dropped = d; break = 0; reason = 0 })
+    unfolding Settled
+    unbroken-fits p k d P n r h = record {
+      closed = P .closed;
+      within = P .within;
+      unfinished = n;
+      settled = λ b. r;
+      moments = P .moments;
+      unused = P .unused;
+      few = room;
+      counts = h;
+      break-fits = inl (refl, refl);
+    }
+
+    opening-fit : (k d : ℕ) → k + d ≤ suc (m .records)
+        → Fit C (record { at = opening C (e .time); now = e .time; records = suc (m .records); kept = k; dropped = d; break = 0; reason = 0 })
+    unfolding opening Settled
+    opening-fit k d h = unbroken-fits (opening C (e .time)) k d (opening-fits (e .time)) (opening-lacks C A) (opening-settled C A) h
+
+    drop-fit : Fit C (dropRound C m e .next)
+    unfolding dropRound
+    drop-fit = opening-fit (m .kept) (suc (m .dropped)) (omega (arith, F .counts))
+
+    keep-fit : Fit C (keepRound C m e .next)
+    unfolding keepRound
+    keep-fit = opening-fit (suc (m .kept)) (m .dropped) (omega (arith, F .counts))
+
+    break-fit : (k : ℕ) (p : Place) → (k ≡ noReadyRegion) ⊎ (k ≡ conditionFails) → FitPlace (e .time) p → ¬ Full C (p .fired)
+        → Fit C (breakRound C m e k p .next)
+    unfolding breakRound
+    break-fit k p h P n = record {
+      closed = P .closed;
+      within = P .within;
+      unfinished = n;
+      settled = λ b. absurd (omega (arith, b));
+      moments = P .moments;
+      unused = P .unused;
+      few = room;
+      counts = omega (arith, F .counts);
+      break-fits = inr (omega arith, omega arith, h);
+    }
+
+    conclude-fit : (v : Move) → FitMove (e .time) v → Fit C (conclude C m e v .next)
+    unfolding FitMove conclude goOn
+    conclude-fit stuck S = elim (split (prechartDone C (m .at .fired))) [
+      | inl q ↦ rw q (break-fit noReadyRegion (m .at) (inl refl) at-now (F .unfinished))
+      | inr q ↦ rw q drop-fit
+    ]
+    conclude-fit (fails i p) S = elim (split (C .hot i)) [
+      | inl q ↦ rw q (break-fit conditionFails p (inr refl) (S .0) (S .1))
+      | inr q ↦ rw q drop-fit
+    ]
+    conclude-fit (rests p) S = elim (split (full C (p .fired))) [
+      | inl q ↦ rw q keep-fit
+      | inr q ↦ rw q (unbroken-fits p (m .kept) (m .dropped) (S .0) (full-false C (p .fired) q) (S .1) (omega (arith, F .counts)))
+    ]
+
+    accept-fit : Fit C (accept C m e .next)
+    unfolding accept goOn Settled
+    accept-fit = elim (split (chartMessage C e)) [
+      | inl q ↦ rw q (conclude-fit (place C (m .at) e) (place-fits (m .at) e at-now))
+      | inr q ↦ rw q (unbroken-fits (m .at) (m .kept) (m .dropped) at-now (F .unfinished) (F .settled unbroken) (omega (arith, F .counts)))
+    ]
+
+  pub feed-fit : (m : Monitor) (e : LogRecord) → Fit C m → Fit C (feed C m e .next)
+  unfolding feed
+  feed-fit m e F = elim (split (not (eqb (m .break) 0))) [
+    | inl b ↦ rw b F
+    | inr b ↦ elim (split (ltb (e .time) (m .now))) [
+      | inl t ↦ rw (b, t) F
+      | inr t ↦ elim (split (leb mostRecords (m .records))) [
+        | inl r ↦ rw (b, t, r) F
+        | inr r ↦ rw (b, t, r) (accept-fit m e F (ltb-false (e .time) (m .now) t) (leb-false mostRecords (m .records) r)
+            (eqb-true (m .break) 0 (not-false (eqb (m .break) 0) b)))
+      ]
+    ]
+  ]
+
+  pub fresh-fit : Fit C fresh
+  fresh-fit = record {
+    closed = λ i a h b. h;
+    within = λ i h. absurd (false≢true h);
+    unfinished = opening-lacks C A;
+    settled = λ b. opening-settled C A;
+    moments = λ c. omega arith;
+    unused = λ c h. refl;
+    few = omega arith;
+    counts = omega arith;
+    break-fits = inl (refl, refl);
+  }
+
+  pub after-fit : (fs : Snoc LogRecord) → Fit C (after C fs)
+  unfolding after
+  after-fit ε = fresh-fit
+  after-fit (fs ▸ e) = feed-fit (after C fs) e (after-fit fs)

@@ -1,0 +1,13 @@
+pub mod Facts
+pub mod Table
+pub mod Machine
+pub mod Moments
+pub mod Settling
+pub mod Rows
+pub mod Rounds
+pub mod Endings
+pub mod Feeds
+pub mod Cuts
+pub mod Exactly
+pub mod Fitness
+pub mod Demand3

@@ -1,0 +1,69 @@
+-- The members' third demand, of one chart: its sentences on lists of feeds, with document 01's on the monitor after the list.
+use mathlib.Core.Path.{_≡_}
+use mathlib.Core.Logic.{_≢_}
+use mathlib.Core.Option.{none}
+use Prim.Native.Nat.{ℕ}
+use Rattle.rounds.specs.Base.{Snoc, size}
+use Rattle.rounds.specs.Chart.{Chart}
+use Rattle.rounds.specs.Rows.{LogRecord, Row, stands, chartMessages, resetMoment, Lawful, Full}
+use Rattle.rounds.specs.Feeds.{lastMoment, refusal, Stretch, Last, unended, behindBreak, Answer, Fed, keptAmong, droppedAmong, Exactly}
+use Rattle.rounds.specs.Machine.{Monitor, feed, after, answers, Fit}
+
+-- "the break is zeros, or the number of accepted records and the broken stretch's reason": behind a broken stretch, the latter
+pub record Broken (k : ℕ) (rs : Snoc LogRecord) (m : Monitor) : Type 0 where
+  pub at-last-accepted : m .break ≡ size rs
+  pub not-zero : m .break ≢ 0
+  pub of-stretch : m .reason ≡ k
+
+module _ (C : Chart) where
+  -- in an unended one, zeros; and "an unended last stretch's row has exactly the fired regions", with the monitor's clocks
+  pub record Unbroken (o : ℕ) (s : Snoc LogRecord) (m : Monitor) : Type 0 where
+    pub row : Row
+    pub lawful : Lawful C o s row
+    pub lacks-one : ¬ Full C (stands row)
+    pub has-fired : m .at .fired ≡ stands row
+    pub has-clocks : m .at .clocks ≡ resetMoment C o (chartMessages C s) row
+    pub no-break : m .break ≡ 0
+    pub no-reason : m .reason ≡ 0
+
+  -- what the monitor holds of the last stretch
+  unfoldable pub AtLast : Last → Snoc LogRecord → Monitor → Type 0
+  AtLast (unended o s) rs m = Unbroken o s m
+  AtLast (behindBreak k) rs m = Broken k rs m
+
+  -- "the monitor's kept, dropped and break are what the stretches give", and so are its time and its count of records
+  pub record Agrees (rs : Snoc LogRecord) (es : Snoc Stretch) (last : Last) (m : Monitor) : Type 0 where
+    pub now : m .now ≡ lastMoment rs
+    pub records : m .records ≡ size rs
+    pub kept : m .kept ≡ keptAmong es
+    pub dropped : m .dropped ≡ droppedAmong es
+    pub at-last : AtLast last rs m
+
+  -- What a list of feeds means: its answers, the accepted records, the ended stretches and what follows them.
+  pub record Meaning (fs : Snoc LogRecord) : Type 0 where
+    pub told : Snoc Answer
+    pub accepted : Snoc LogRecord
+    pub stretches : Snoc Stretch
+    pub last : Last
+    pub fed : Fed C fs told accepted stretches last
+
+  pub record Same {fs : Snoc LogRecord} (M M′ : Meaning fs) : Type 0 where
+    pub same-told : M .told ≡ M′ .told
+    pub same-accepted : M .accepted ≡ M′ .accepted
+    pub same-stretches : M .stretches ≡ M′ .stretches
+    pub same-last : M .last ≡ M′ .last
+
+pub record Demand3 (C : Chart) : Type 0 where
+  -- "every list of feeds from a fresh monitor, refused ones included, whatever was sent and when" has a meaning, and only one
+  pub cut-exists : (fs : Snoc LogRecord) → Meaning C fs
+  pub cut-unique : {fs : Snoc LogRecord} (M M′ : Meaning C fs) → Same C M M′
+  -- "up to each record of each of its stretches", here of the list fs and then e: the three "exactly", of what the machine answers
+  pub exactly : {fs : Snoc LogRecord} (M : Meaning C fs) (o : ℕ) (s : Snoc LogRecord) (e : LogRecord) → M .last ≡ unended o s
+      → refusal (M .accepted) e ≡ none → Exactly C o s e (feed C (after C fs) e .answer)
+  -- "No stretch has two lawful rows."
+  pub one-row : (o : ℕ) (s : Snoc LogRecord) (r r′ : Row) → Lawful C o s r → Lawful C o s r′ → r ≡ r′
+  -- "After the list the monitor's kept, dropped and break are what the stretches give"; and so is every answer
+  pub monitor-agrees : {fs : Snoc LogRecord} (M : Meaning C fs)
+      → (answers C fs ≡ M .told) × Agrees C (M .accepted) (M .stretches) (M .last) (after C fs)
+  -- refusal 21 meets no monitor that feeding handed back
+  pub stays-fit : (fs : Snoc LogRecord) → Fit C (after C fs)
