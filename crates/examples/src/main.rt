@@ -1,5 +1,6 @@
 // Reads charts from standard input, a line each: a name, ':', the bytes in hexadecimal. For each it writes the name and what reading
 // the chart says. The expected lines, in the file stdout, are worked out from the scope.
+use chart_reader::ChartAnswer;
 use libc::STDIN_FILENO;
 use libc::STDOUT_FILENO;
 ghost use Prim.Native.Nat.{_≤_, _<_};
@@ -57,10 +58,32 @@ fn put_number(n: usize) {
     io::print_decimal(STDOUT_FILENO, n as u64);
 }
 
+fn put_accepted(regions: usize) {
+    put(b": accepted, ");
+    put_number(regions);
+    put(b" regions\n");
+}
+
+fn put_refused(number: usize, offset: usize) {
+    put(b": refused ");
+    put_number(number);
+    put(b" at ");
+    put_number(offset);
+    put(b"\n");
+}
+
 // What reading the chart says.
 fn put_answer(bytes: &[u8]) {
     let read = chart_reader::read(bytes);
-    put(b" at ");
+    let answer = read.answer;
+    match answer {
+        ChartAnswer::Accepted => {
+            put_accepted(read.chart.count as usize);
+        }
+        ChartAnswer::Refused(refusal, offset) => {
+            put_refused(chart_step::number(refusal) as usize, offset);
+        }
+    }
 }
 
 // One line: the name, and the digits of at most 255 bytes. `n` counts the digits.
@@ -96,4 +119,3 @@ fn main() {
     let n = io::read_full(STDIN_FILENO, &mut text);
     show_all(&text[..n]);
 }
-// 23210
