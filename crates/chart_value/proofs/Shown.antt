@@ -2,6 +2,7 @@
 use mathlib.Core.Path.{_≡_, refl, sym, ap, _∙_}
 use mathlib.Core.Logic.{_≢_, _⊎_, inl, inr, _↔_}
 use mathlib.Core.Bool.{Bool, true, false, So, cond}
+use mathlib.Core.List.{List}
 use Prim.Native.Nat.{ℕ, _≤_, _<_}
 use native.Mathlib.Omega.{arith}
 use native.Mathlib.Decide.{decLt}
@@ -18,6 +19,7 @@ use Rattle.model.specs.declared.Event.the-variants as event
 use Rattle.model.specs.Chart.{zeroRegion, regionAt, touchedAt}
 use Rattle.order.specs.Above.{AboveIn, halves, first}
 use Rattle.order.proofs.Laws.{decides}
+use Rattle.chart_reader.specs.Read.{readChart, acceptedAs}
 use Rattle.rounds.specs.Chart.{Accepted}
 use Rattle.chart_value.specs.Given.{Given}
 use Rattle.chart_value.specs.View.{keyOf, regionOf, chartOf, Shown, CodesTell}
@@ -100,5 +102,9 @@ module _ (c : Chart) (w : WellFormed c) where
       pick a b h k (inl q) = inl (order a b .1 (k, q))
       pick a b h k (inr q) = inr (order b a .1 (h, q))
 
+-- said of bytes
+pub shown-of : (s : List ℕ) (c : Chart) → readChart s ≡ acceptedAs c → Shown c
+shown-of s c e = let w = wf-of c (sound s c e .fine) in record { accepted = accepted c w; order = order c w }
+
 pub shown : (c : Chart) → Given c → Shown c
-shown c g = let w = wf-of c (sound (g .bytes) c (g .accepted) .fine) in record { accepted = accepted c w; order = order c w }
+shown c g = shown-of (g .bytes) c (g .accepted)

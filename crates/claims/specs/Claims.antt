@@ -1,12 +1,15 @@
 -- The claims, on one page.
 use mathlib.Core.Path.{_≡_}
 use mathlib.Core.Bool.{true}
+use mathlib.Core.List.{List}
+use Prim.Native.Nat.{ℕ}
 use Rattle.chart_reader.specs.declared.ChartRead.{ChartRead}
-use Rattle.chart_reader.specs.Read.{said}
+use Rattle.chart_reader.specs.Read.{said, readChart, acceptedAs}
 use Rattle.model.specs.declared.Chart.{Chart}
 use Rattle.chart_value.specs.Given.{Given}
 use Rattle.chart_value.specs.View.{Shown, CodesTell}
 use Rattle.chart_value.specs.Guards.{NeverFire}
+use Rattle.monitor.specs.Runs.{Demand3Of, ViewTells}
 use Rattle.claims.specs.Examples.{allRead, chartExamples}
 
 pub record Claims : Type 0 where
@@ -18,5 +21,9 @@ pub record Claims : Type 0 where
   pub codes-tell : CodesTell
   -- the guards of the reader's definition never fire
   pub guards : NeverFire
+  -- the third demand, of every list of feeds with a chart that is read from bytes
+  pub demand-3 : (bytes : List ℕ) (c : Chart) → readChart bytes ≡ acceptedAs c → Demand3Of c
+  -- the view through which feeding's promise speaks fixes every field of the monitor
+  pub view-tells : ViewTells
   -- the ◆ examples of charts
   pub charts-read : allRead chartExamples ≡ true

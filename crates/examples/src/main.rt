@@ -3,52 +3,8 @@
 use chart_reader::ChartAnswer;
 use libc::STDIN_FILENO;
 use libc::STDOUT_FILENO;
-ghost use Prim.Native.Nat.{_≤_, _<_};
-ghost use lib.ListN.{length};
-
-const LINE_FEED: u8 = 10;
-
-const COLON: u8 = b':';
-
-// The value of a hexadecimal digit; 16 for any other byte.
-fn digit(b: u8) -> u8 {
-    match b {
-        48..=57 => b - 48,
-        97..=102 => b - 87,
-        _ => 16,
-    }
-}
-
-// The first place from `from` on, and before `to`, that holds the byte; `to` if none does.
-fn find(text: &[u8], from: usize, to: usize, byte: u8) -> usize
-    requires { ⌜ (from ≤ to) × (to ≤ length (now text)) ⌝ }
-    ensures { λ r. ⌜ (from ≤ r) × (r ≤ to) ⌝ }
-{
-    let mut i = from;
-    while i < to {
-        if text[i] == byte {
-            return i;
-        }
-        i += 1;
-    }
-    i
-}
-
-// The byte with a digit put behind what it holds; the byte itself where d is no digit.
-fn with_digit(byte: u8, d: u8) -> u8 {
-    if d < 16 { byte << 4 | d } else { byte }
-}
-
-// How many digits there are, once d is read: 511 at most, so that they lie in 256 bytes.
-fn count_digit(n: usize, d: u8) -> usize
-    ensures { λ r. ⌜ r < 512 ⌝ }
-{
-    if n < 511 {
-        if d < 16 { n + 1 } else { n }
-    } else {
-        511
-    }
-}
+use lines::COLON;
+use lines::LINE_FEED;
 
 fn put(text: &[u8]) {
     io::write_all(STDOUT_FILENO, text);
@@ -92,9 +48,9 @@ fn show(name: &[u8], digits: &[u8]) {
     let mut n: usize = 0;
     let mut i: usize = 0;
     while i < digits.len() {
-        let d = digit(digits[i]);
-        chart[n / 2] = with_digit(chart[n / 2], d);
-        n = count_digit(n, d);
+        let d = lines::digit(digits[i]);
+        chart[n / 2] = lines::with_digit(chart[n / 2], d);
+        n = lines::count_digit(n, d);
         i += 1;
     }
     put(name);
@@ -104,8 +60,8 @@ fn show(name: &[u8], digits: &[u8]) {
 fn show_all(text: &[u8]) {
     let mut at: usize = 0;
     while at < text.len() {
-        let end = find(text, at, text.len(), LINE_FEED);
-        let colon = find(text, at, end, COLON);
+        let end = lines::find(text, at, text.len(), LINE_FEED);
+        let colon = lines::find(text, at, end, COLON);
         show(&text[at..colon], &text[colon..end]);
         if end == text.len() {
             return;

@@ -1,8 +1,9 @@
-// The vocabulary: times, messages, terms, regions and charts, as values.
+// The vocabulary: times, messages, terms, regions, charts, records and monitors, as values.
 ghost use mathlib.Core.Path.{_≡_};
 ghost use Prim.Native.Nat.{ℕ, _-_, _<_};
 ghost use Rattle.bitset.specs.Set.{contains};
 ghost use Rattle.model.specs.Chart.{zeroTerm, zeroRegion, zeroChart, isPlain, isBare, lineSet, touched, touches, mostLines};
+ghost use Rattle.model.specs.Monitor.{zeroMonitor};
 
 pub const LEAST_LINES: u8 = 2;
 
@@ -13,6 +14,11 @@ pub const MOST_CLOCKS: u8 = 8;
 pub const MOST_REGIONS: usize = 32;
 
 pub const MOST_TERMS: usize = 4;
+
+pub const MOST_RECORDS: u32 = 1_000_000;
+
+// One place for each clock that a chart may have.
+pub const CLOCK_PLACES: usize = MOST_CLOCKS as usize;
 
 // A point in time, in ticks from the log's start.
 pub struct Moment(pub u32);
@@ -152,5 +158,46 @@ pub fn touched(e: Event) -> u16
     match e {
         Event::Message(m) => line_set(m.source) | line_set(m.destination),
         Event::Plain(l) => l,
+    }
+}
+
+// A record of the log: a message, or time alone.
+pub enum Record {
+    Message(Message, Moment),
+    Time(Moment),
+}
+
+// Where a round stands: the fired regions as a set, and each clock's reset moment.
+pub struct Place {
+    pub fired: u32,
+    pub resets: [Moment; CLOCK_PLACES],
+}
+
+// What a monitor holds; `break_record` and `reason` are zeros while nothing is broken.
+pub struct Monitor {
+    pub at: Place,
+    pub now: Moment,
+    pub records: u32,
+    pub kept: u32,
+    pub dropped: u32,
+    pub break_record: u32,
+    pub reason: u8,
+}
+
+// Nothing fired, all else zero.
+pub fn zero_monitor() -> Monitor
+    ensures { λ r. ⌜ r ≡ zeroMonitor ⌝ }
+{
+    let zero = Moment(0);
+    let resets = [zero; CLOCK_PLACES];
+    let at = Place { fired: 0, resets };
+    Monitor {
+        at,
+        now: zero,
+        records: 0,
+        kept: 0,
+        dropped: 0,
+        break_record: 0,
+        reason: 0,
     }
 }

@@ -5,9 +5,9 @@ use native.Mathlib.Decide.{ℕ-discrete}
 use lib.Arith.{lt-of-le-ne}
 use mathlib.Core.Bool.{Bool, true, false, false≢true, cond, not, _&&_, _||_}
 use mathlib.Core.List.{List}
-use Prim.Native.Nat.{ℕ, zero, suc, min, _≤_, _<_}
+use Prim.Native.Nat.{ℕ, zero, suc, min, zero-le, _≤_, _<_}
 use native.Mathlib.Omega.{arith}
-use borrow.Author.Tests.{lt-ltb, le-leb, ltb-true, leb-true, eqb-true, eqb-false, eq-eqb, ne-eqb, not-true}
+use borrow.Author.Tests.{lt-ltb, le-ltb, le-leb, ltb-true, leb-true, eqb-true, eqb-false, eq-eqb, ne-eqb, not-true}
 use lib.Dec.{eqb, leb, ltb}
 use lib.Bits.{bitAnd}
 use lib.ListN.{length, getD, set, length-set}
@@ -17,6 +17,7 @@ use Rattle.bitset.proofs.Bools.{both, and-both, either, or-left, or-right}
 use Rattle.bitset.proofs.Laws.{contains-union, contains-inserted, contains-empty, contains-and, some-member}
 use Rattle.model.specs.declared.Chart.{Chart}
 use Rattle.model.specs.Chart.{mostRegions, touchedAt}
+use Rattle.model.proofs.Filled.{filled-none}
 use Rattle.order.specs.Order.{isOver, gathered, aboveSets, aboveOf, Decides}
 use Rattle.order.specs.Above.{SharedLine, SameHalf, Over, Above, inPrechart, inMain, direct, halves, first, then}
 
@@ -184,6 +185,16 @@ module _ (f g : ℕ → ℕ) (p k : ℕ) (same : (i : ℕ) → i < k → f i ≡
       let r = same-sets b (omega arith) in
       λ i. set (r i) b
       ((ap (λ (l : List ℕ). gathered f p l b b) r ∙ same-gathered (aboveSets g p b) b b (omega arith) (omega arith)) i)
+
+-- beyond the chart the sets are empty
+beyond : (lines : ℕ → ℕ) (p n b : ℕ) → n ≤ b → getD (aboveSets lines p n) b 0 ≡ 0
+unfolding aboveSets
+beyond lines p zero b h = filled-none {f = λ y. 0} mostRegions .is b ∙ ap (λ (x : Bool). cond x 0 0) (le-ltb b 0 zero-le)
+beyond lines p (suc n) b h =
+    getD-set-other (aboveSets lines p n) n b (gathered lines p (aboveSets lines p n) n n) 0 (λ e. omega arith) ∙ beyond lines p n b (omega arith)
+
+pub sets-beyond : (c : Chart) (b : ℕ) → c .count ≤ b → getD (aboveOf c) b 0 ≡ 0
+sets-beyond c b h = beyond (touchedAt c) (c .prechart) (min (c .count) mostRegions) b (omega arith)
 
 -- what `above_sets` promises, from the sets alone
 pub decides : (c : Chart) → Decides c (aboveOf c)

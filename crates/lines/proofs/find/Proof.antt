@@ -1,8 +1,8 @@
--- `examples::find` meets its contract: the place stays between the two bounds. Assumes nothing.
+-- `lines::find` meets its contract: the place stays between the two bounds. Assumes nothing.
 use Prim.Native.Nat.{_≤_, _-_}
 use borrow.Author.Needs.{needs}
-use Rattle.examples.proofs.find.Statement.{statement}
-use Rattle.examples.proofs.find.Tie as tie
+use Rattle.lines.proofs.find.Statement.{statement}
+use Rattle.lines.proofs.find.Tie as tie
 
 abbrev Inv-loop : tie.InvT-loop
 Inv-loop text from to byte i₀ i = (from ≤ i) × (i ≤ to)

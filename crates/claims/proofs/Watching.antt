@@ -1,0 +1,87 @@
+-- A log's records fed one after the other. Assumes nothing.
+use mathlib.Core.Path.{_≡_, refl, sym, ap, subst, _∙_}
+use mathlib.Core.Logic.{_≢_}
+use mathlib.Core.List.{List}
+use Prim.Native.Nat.{ℕ, suc, _-_, _<_}
+use native.Mathlib.Omega.{arith}
+use lib.ListN.{length}
+use Rattle.model.specs.declared.Chart.{Chart}
+use Rattle.model.specs.declared.Monitor.{Monitor}
+use Rattle.model.specs.declared.Record.{Record}
+use Rattle.model.specs.Monitor.{zeroMonitor}
+use Rattle.chart_reader.specs.declared.ChartRead.{ChartRead}
+use Rattle.chart_reader.specs.Read.{Said, said, readChart, acceptedAs, numberOf, offsetOf}
+use Rattle.chart_value.proofs.Shown.{shown-of}
+use Rattle.chart_value.proofs.Sound.{sound}
+use Rattle.log_reader.specs.declared.RecordRefusal.{RecordRefusal}
+use Rattle.log_reader.specs.declared.Next.{Next}
+use Rattle.log_reader.specs.declared.Next.the-variants.{End, Refused, Taken}
+use Rattle.log_reader.specs.Record.{nextAt}
+use Rattle.rounds.specs.Base.{Snoc, ε, _▸_}
+use Rattle.rounds.specs.Feeds.{Answer as Told}
+use Rattle.stepping.specs.declared.Step.{Step}
+use Rattle.stepping.specs.View.{stepOf}
+use Rattle.monitor.specs.Feed.{feedOf}
+use Rattle.monitor.specs.Runs.{Run, none-yet, one-more, Demand3Of}
+use Rattle.monitor.proofs.Runs.{demand-3-of}
+use Rattle.claims.specs.declared.Watched.{Watched}
+use Rattle.claims.specs.Watch.{onRecord, recordsFrom, recordsIn, FedAll, Watches}
+
+-- the third demand of every chart that is read
+pub demand-3-read : (bytes : List ℕ) (c : Chart) → readChart bytes ≡ acceptedAs c → Demand3Of c
+demand-3-read bytes c e = demand-3-of c (sound bytes c e .fine) (shown-of bytes c e .accepted)
+
+-- the records fed before a place, and what is left gives the whole
+pub record SoFar (c : Chart) (s : List ℕ) (m : Monitor) (at left : ℕ) : Type 0 where
+  pub before : Snoc Record
+  pub told : Snoc Told
+  pub run : Run c before told m
+  pub rest : recordsFrom left s at before ≡ recordsIn s
+
+one-record : (s : List ℕ) (at left : ℕ) → 0 < left → (es : Snoc Record) (n : Next) → nextAt s at ≡ n
+    → recordsFrom left s at es ≡ onRecord (λ e place. recordsFrom (left - 1) s place (es ▸ e)) n es
+unfolding recordsFrom
+one-record s at left h es n q =
+    let k : left ≡ suc (left - 1) = omega arith in
+    ap (λ (j : ℕ). recordsFrom j s at es) k ∙ ap (λ (x : Next). onRecord (λ e place. recordsFrom (left - 1) s place (es ▸ e)) x es) q
+
+pub at-start : {c : Chart} {s : List ℕ} (m : Monitor) → m ≡ zeroMonitor → SoFar c s m 0 (length s)
+unfolding recordsIn
+at-start {c} m e = record { before = ε; told = ε; run = subst (λ (x : Monitor). Run c ε ε x) (sym e) none-yet; rest = refl }
+
+module _ {c : Chart} {s : List ℕ} {m : Monitor} {at left : ℕ} (S : SoFar c s m at left) where
+  pub fed-one : 0 < left → (e : Record) (place : ℕ) → nextAt s at ≡ Taken e place → (r : Step) → stepOf r ≡ feedOf c m e
+      → SoFar c s (r .next) place (left - 1)
+  fed-one h e place q r f = record {
+    before = S .before ▸ e;
+    told = _;
+    run = one-more e r (S .run) f;
+    rest = sym (one-record s at left h (S .before) (Taken e place) q) ∙ S .rest;
+  }
+
+  done : S .before ≡ recordsIn s → FedAll c (recordsIn s) m
+  done e = record { told = S .told; run = subst (λ (es : Snoc Record). Run c es (S .told) m) e (S .run) }
+
+  -- no record stands at the place
+  pub fed-none : 0 < left → nextAt s at ≡ End → FedAll c (recordsIn s) m
+  fed-none h q = done (sym (one-record s at left h (S .before) End q) ∙ S .rest)
+
+  pub fed-bad : 0 < left → (f : RecordRefusal) → nextAt s at ≡ Refused f → FedAll c (recordsIn s) m
+  fed-bad h f q = done (sym (one-record s at left h (S .before) (Refused f) q) ∙ S .rest)
+
+  pub fed-end : left ≡ 0 → FedAll c (recordsIn s) m
+  unfolding recordsFrom
+  fed-end z = done (sym (ap (λ (j : ℕ). recordsFrom j s at (S .before)) z) ∙ S .rest)
+
+-- what `watch` promises of a chart that is read
+pub watched : (chart log : List ℕ) (x : ChartRead) (r : Watched) → said x ≡ readChart chart → r .answer ≡ x .answer
+    → (readChart chart .number ≢ 0 → r .monitor ≡ zeroMonitor)
+    → (numberOf (x .answer) ≡ 0 → FedAll (x .chart) (recordsIn log) (r .monitor)) → Watches chart log r
+watched chart log x r e a z f = record {
+  number = ap numberOf a ∙ ap (λ (s : Said). s .number) e;
+  offset = ap offsetOf a ∙ ap (λ (s : Said). s .offset) e;
+  refused = z;
+  fed = λ c q.
+      subst (λ (d : Chart). FedAll d (recordsIn log) (r .monitor)) (ap (λ (s : Said). s .chart) (e ∙ q)) (f (ap (λ (s : Said). s .number) (e ∙ q)));
+  demand-3 = demand-3-read chart;
+}

@@ -1,0 +1,47 @@
+-- Charts and logs in bytes: the records of a log, each fed to the chart's monitor, whatever the feeds answer.
+use mathlib.Core.Path.{_≡_}
+use mathlib.Core.Logic.{_≢_}
+use mathlib.Core.List.{List}
+use Prim.Native.Nat.{ℕ, zero, suc}
+use lib.ListN.{length}
+use Rattle.model.specs.declared.Chart.{Chart}
+use Rattle.model.specs.declared.Monitor.{Monitor}
+use Rattle.model.specs.declared.Record.{Record}
+use Rattle.model.specs.Monitor.{zeroMonitor}
+use Rattle.chart_reader.specs.Read.{readChart, acceptedAs, numberOf, offsetOf}
+use Rattle.log_reader.specs.declared.Next.{Next}
+use Rattle.log_reader.specs.declared.Next.the-variants.{End, Refused, Taken}
+use Rattle.log_reader.specs.Record.{nextAt}
+use Rattle.rounds.specs.Base.{Snoc, ε, _▸_}
+use Rattle.rounds.specs.Feeds.{Answer as Told}
+use Rattle.monitor.specs.Runs.{Run, Demand3Of}
+use Rattle.claims.specs.declared.Watched.{Watched}
+
+abbrev pub onRecord : (Record → ℕ → Snoc Record) → Next → Snoc Record → Snoc Record
+onRecord k End es = es
+onRecord k (Refused f) es = es
+onRecord k (Taken e place) es = k e place
+
+-- the records from a place on, behind those read before; at most n
+unfoldable pub recordsFrom : ℕ → List ℕ → ℕ → Snoc Record → Snoc Record
+recordsFrom zero s at es = es
+recordsFrom (suc n) s at es = onRecord (λ e place. recordsFrom n s place (es ▸ e)) (nextAt s at) es
+
+-- the log's records from the left, to the end or to the first place where none stands
+unfoldable pub recordsIn : List ℕ → Snoc Record
+recordsIn s = recordsFrom (length s) s 0 ε
+
+-- the monitor m after feeding these records to a fresh one, with the answers told
+pub record FedAll (c : Chart) (es : Snoc Record) (m : Monitor) : Type 0 where
+  pub told : Snoc Told
+  pub run : Run c es told m
+
+pub record Watches (chart log : List ℕ) (r : Watched) : Type 0 where
+  -- reading the chart says this
+  pub number : numberOf (r .answer) ≡ readChart chart .number
+  pub offset : offsetOf (r .answer) ≡ readChart chart .offset
+  -- a chart that is refused has the monitor of zeros
+  pub refused : readChart chart .number ≢ 0 → r .monitor ≡ zeroMonitor
+  -- an accepted one has the monitor after the log's records, of which the third demand is true
+  pub fed : (c : Chart) → readChart chart ≡ acceptedAs c → FedAll c (recordsIn log) (r .monitor)
+  pub demand-3 : (c : Chart) → readChart chart ≡ acceptedAs c → Demand3Of c

@@ -1,0 +1,112 @@
+// Feeds logs to charts record by record. Standard input has a line for each: a name, ':', the chart's bytes in hexadecimal, '/', the
+// log's. For each record it writes the answer's number, and of the monitor then handed back: fired regions as a set, now, records, kept,
+// dropped, break, reason, and the reset moment of clock 0. The expected lines, in the file stdout, are worked out from the scope.
+use libc::STDIN_FILENO;
+use libc::STDOUT_FILENO;
+use lines::COLON;
+use lines::LINE_FEED;
+use log_reader::Next;
+use model::Monitor;
+use stepping::Step;
+
+const SLASH: u8 = b'/';
+
+fn put(text: &[u8]) {
+    io::write_all(STDOUT_FILENO, text);
+}
+
+fn put_number(n: u32) {
+    put(b" ");
+    io::print_decimal(STDOUT_FILENO, n as u64);
+}
+
+fn put_monitor(m: Monitor) {
+    let at = m.at;
+    let now = m.now;
+    let first = at.resets[0];
+    put_number(at.fired);
+    put_number(now.0);
+    put_number(m.records);
+    put_number(m.kept);
+    put_number(m.dropped);
+    put_number(m.break_record);
+    put_number(m.reason as u32);
+    put_number(first.0);
+}
+
+fn put_step(s: Step) {
+    let answer = s.answer;
+    put_number(stepping::answer_number(answer) as u32);
+    put_monitor(s.next);
+    put(b"\n");
+}
+
+// Feeds the log's records from the left, as far as its bytes are records.
+fn put_feeds(chart: &[u8], log: &[u8]) {
+    let read = chart_reader::read(chart);
+    let c = read.chart;
+    let made = monitor::new(c);
+    let mut m = made.monitor;
+    let mut at: usize = 0;
+    let mut left = log.len();
+    while 0 < left {
+        let next = log_reader::read_record(log, at);
+        let Next::Taken(e, place) = next else {
+            return;
+        };
+        let s = monitor::feed(c, m, e);
+        put_step(s);
+        m = s.next;
+        at = place;
+        left -= 1;
+    }
+}
+
+fn put_log(chart: &[u8], digits: &[u8]) {
+    let mut log = [0u8; 256];
+    let mut n: usize = 0;
+    let mut i: usize = 0;
+    while i < digits.len() {
+        let d = lines::digit(digits[i]);
+        log[n / 2] = lines::with_digit(log[n / 2], d);
+        n = lines::count_digit(n, d);
+        i += 1;
+    }
+    put_feeds(chart, &log[..n / 2]);
+}
+
+// One line: the name, the chart's digits and the log's.
+fn show(name: &[u8], digits: &[u8], log: &[u8]) {
+    let mut chart = [0u8; 256];
+    let mut n: usize = 0;
+    let mut i: usize = 0;
+    while i < digits.len() {
+        let d = lines::digit(digits[i]);
+        chart[n / 2] = lines::with_digit(chart[n / 2], d);
+        n = lines::count_digit(n, d);
+        i += 1;
+    }
+    put(name);
+    put(b"\n");
+    put_log(&chart[..n / 2], log);
+}
+
+fn show_all(text: &[u8]) {
+    let mut at: usize = 0;
+    while at < text.len() {
+        let end = lines::find(text, at, text.len(), LINE_FEED);
+        let colon = lines::find(text, at, end, COLON);
+        let slash = lines::find(text, colon, end, SLASH);
+        show(&text[at..colon], &text[colon..slash], &text[slash..end]);
+        if end == text.len() {
+            return;
+        }
+        at = end + 1;
+    }
+}
+
+fn main() {
+    let mut text = [0u8; 65536];
+    let n = io::read_full(STDIN_FILENO, &mut text);
+    show_all(&text[..n]);
+}

@@ -1,0 +1,38 @@
+-- Feeding by its tests in their order. Assumes nothing.
+use mathlib.Core.Path.{_≡_, ap, _∙_}
+use mathlib.Core.Bool.{true, false}
+use Prim.Native.Nat.{ℕ}
+use Rattle.model.specs.declared.Chart.{Chart}
+use Rattle.model.specs.declared.Monitor.{Monitor}
+use Rattle.model.specs.declared.Record.{Record}
+use Rattle.model.specs.declared.Record.the-variants.{Message, Time}
+use Rattle.chart_value.specs.WellFormed.{wellFormed}
+use Rattle.chart_value.specs.View.{chartOf}
+use Rattle.rounds.specs.Chart.{Chart as Abstract}
+use Rattle.rounds.specs.Machine as machine
+use Rattle.stepping.specs.declared.FeedRefusal.the-variants.{NotAChart, Unfit}
+use Rattle.stepping.specs.View.{monitorAt, recordOf}
+use Rattle.plan.specs.Plan.{recordCode}
+use Rattle.monitor.specs.Fit.{fits}
+use Rattle.monitor.specs.Feed.{logRecord, refuse, feedOf}
+
+code-logged : (e : Record) → recordCode e ≡ logRecord e .code
+code-logged (Message m t) = λ i. logRecord (Message m t) .code
+code-logged (Time t) = λ i. 0
+
+module _ (c : Chart) (m : Monitor) (e : Record) (s : machine.Step) where
+  pub fed-no-chart : wellFormed c ≡ false → s ≡ refuse NotAChart m → s ≡ feedOf c m e
+  unfolding feedOf
+  fed-no-chart w q = rw w q
+
+  module _ (w : wellFormed c ≡ true) (C : Abstract) (same : C ≡ chartOf c) where
+    pub fed-unfit : fits C m ≡ false → s ≡ refuse Unfit m → s ≡ feedOf c m e
+    unfolding feedOf
+    fed-unfit f q = rw (w, rw (ap (λ (C : Abstract). fits C m) same) at f) q
+
+    pub fed-on : fits C m ≡ true → (code t : ℕ) → code ≡ recordCode e → t ≡ logRecord e .time
+        → s ≡ machine.feed C (monitorAt m) (recordOf code t) → s ≡ feedOf c m e
+    unfolding feedOf
+    fed-on f code t p h q =
+        rw (w, rw (ap (λ (C : Abstract). fits C m) same) at f)
+        (q ∙ (λ i. machine.feed (same i) (monitorAt m) (record { time = h i; code = (p ∙ code-logged e) i })))

@@ -1,0 +1,206 @@
+-- The test of a monitor is document 01's list. Assumes nothing.
+use mathlib.Core.Path.{_≡_, refl, sym, ap, ap₂, subst, _∙_}
+use mathlib.Core.Logic.{_⊎_, inl, inr, _↔_}
+use mathlib.Core.Bool.{Bool, true, false, not, So, _&&_, _||_}
+use mathlib.Core.Option.{Option, none, some}
+use mathlib.Core.List.{List}
+use Prim.Native.Nat.{ℕ, zero, suc, _+_, _-_, _≤_, _<_, _^_}
+use native.Mathlib.Omega.{arith}
+use native.Mathlib.Decide.{decLt}
+use native.Mathlib.Nat.{lt-of-le-of-lt}
+use borrow.Author.Tests.{leb-true, le-leb, lt-ltb, le-ltb, eqb-true, eq-eqb, not-true}
+use lib.Bits.{bitAnd, and-le-r}
+use lib.Pow.{ones-lt}
+use lib.Dec.{eqb, leb, ltb}
+use lib.ListN.{length, getD, List·getD-eq-default}
+use Rattle.bitset.specs.Set.{contains, isSubset, within}
+use Rattle.bitset.proofs.Laws.{within-true, lt-within, member-lt, members-subset, contains-below}
+use Rattle.model.specs.declared.Moment.{Moment}
+use Rattle.model.specs.declared.Monitor.{Monitor}
+use Rattle.model.specs.Chart.{mostClocks}
+use Rattle.rounds.specs.Base.{allBelow, first}
+use Rattle.rounds.specs.Chart.{Chart as Abstract, Accepted}
+use Rattle.rounds.specs.Rows.{plain, Ready}
+use Rattle.rounds.specs.Feeds.{mostRecords, noReadyRegion, conditionFails}
+use Rattle.rounds.specs.Machine.{full, readyPlain, Fit}
+use Rattle.rounds.proofs.Facts.{split, clash, and-of, and-left, and-right, or-left, or-right, or-cases, all-of, all-at}
+use Rattle.rounds.proofs.Machine.{full-true, full-false, plain-none, plain-is-none}
+use Rattle.stepping.specs.declared.Head.{Head}
+use Rattle.stepping.specs.declared.Found.{Found}
+use Rattle.stepping.specs.View.{momentsOf, monitorAt, planChart, Compiled}
+use Rattle.stepping.specs.Parts.{readyBy, foundOf}
+use Rattle.stepping.proofs.Ready.{lt-two-pow, subset-all, found-plain}
+use Rattle.monitor.specs.Fit.{closedUpward, isNone, restsUnlessBroken, momentsFit, breakFits, countsFit, fits}
+
+-- a set whose members are below n is a number below 2 ^ n
+members-within : (n s : ℕ) → ((i : ℕ) → So (contains s i) → i < n) → within n s ≡ true
+unfolding isSubset
+members-within n s h =
+    let e : isSubset s (2 ^ n - 1) ≡ true = members-subset s s (2 ^ n - 1) (lt-two-pow s) (λ i l p. contains-below n i ∙ lt-ltb i n (h i p)) in
+    let q : bitAnd s (2 ^ n - 1) ≡ s = eqb-true _ _ e in
+    lt-within n s (subst (λ (x : ℕ). x < 2 ^ n) q (lt-of-le-of-lt (and-le-r s (2 ^ n - 1)) (ones-lt n)))
+
+module _ (C : Abstract) (A : Accepted C) (m : Monitor) where
+  abbrev fired : ℕ
+  fired = m .at .fired
+
+  beyond : length (m .at .resets) ≡ mostClocks → (k : ℕ) → mostClocks ≤ k → momentsOf (m .at .resets) k ≡ 0
+  beyond size k h =
+      let l : length (m .at .resets) ≤ k = omega arith in
+      ap (λ (x : Moment). x .0) (List·getD-eq-default (m .at .resets) (record { 0 = 0 }) l)
+
+  -- each clause
+  closed-of : So (closedUpward C fired) → So (within (C .regions) fired) → (i a : ℕ) → So (contains fired i) → So (C .above a i) → So (contains fired a)
+  unfolding closedUpward
+  closed-of e w i a p q =
+      let l : i < C .regions = member-lt (C .regions) fired i (within-true _ _ w) p in
+      let f = rw p at (all-at (C .regions) (λ i. not (contains fired i) || allBelow (C .regions) (λ a. not (C .above a i) || contains fired a)) e i l) in
+      rw q at (all-at (C .regions) (λ a. not (C .above a i) || contains fired a) f a (omega (arith, A .downward a i q)))
+
+  of-closed : ((i a : ℕ) → So (contains fired i) → So (C .above a i) → So (contains fired a)) → So (closedUpward C fired)
+  unfolding closedUpward
+  of-closed f =
+      all-of (C .regions) _ (λ i l. elim (split (contains fired i)) [
+        | inl p ↦ rw p (all-of (C .regions) _ (λ a k. elim (split (C .above a i)) [ inl q ↦ rw q (f i a p q) | inr q ↦ rw q ]))
+        | inr p ↦ rw p
+      ])
+
+  rests-of : So (restsUnlessBroken C fired (m .«break_record»)) → m .«break_record» ≡ 0 → (j : ℕ) → So (plain C j) → ¬ Ready C (contains fired) j
+  unfolding restsUnlessBroken
+  rests-of e b = plain-none C A (contains fired) (none-of (readyPlain C (contains fired)) (rw b at e))
+    where
+      none-of : (o : Option ℕ) → So (isNone o) → o ≡ none
+      none-of none e = refl
+      none-of (some i) e = clash e refl
+
+  of-rests : (m .«break_record» ≡ 0 → (j : ℕ) → So (plain C j) → ¬ Ready C (contains fired) j) → So (restsUnlessBroken C fired (m .«break_record»))
+  unfolding restsUnlessBroken
+  of-rests f = elim (split (eqb (m .«break_record») 0)) [
+    | inl e ↦ rw (e, plain-is-none C A (contains fired) (f (eqb-true _ _ e)))
+    | inr e ↦ rw e
+  ]
+
+  moments-of : length (m .at .resets) ≡ mostClocks → So (momentsFit (C .clocks) (m .at .resets) (m .now .0)) → (k : ℕ) → (momentsOf (m .at .resets) k ≤ m .now .0) × (C .clocks ≤ k → momentsOf (m .at .resets) k ≡ 0)
+  unfolding momentsFit
+  moments-of size e k = by (decLt k mostClocks)
+    where
+      by : Dec (k < mostClocks) → (momentsOf (m .at .resets) k ≤ m .now .0) × (C .clocks ≤ k → momentsOf (m .at .resets) k ≡ 0)
+      by (yes l) =
+          let f = all-at mostClocks (λ k. leb (momentsOf (m .at .resets) k) (m .now .0) && (ltb k (C .clocks) || eqb (momentsOf (m .at .resets) k) 0)) e k l in (
+            leb-true _ _ (and-left (leb (momentsOf (m .at .resets) k) (m .now .0)) _ f),
+            λ h. eqb-true _ _ (rw (le-ltb k (C .clocks) h) at (and-right (leb (momentsOf (m .at .resets) k) (m .now .0)) (ltb k (C .clocks) || eqb (momentsOf (m .at .resets) k) 0) f)),
+          )
+      by (no l) = let z = beyond size k (omega arith) in (omega arith, λ h. z)
+
+  of-moments : ((k : ℕ) → momentsOf (m .at .resets) k ≤ m .now .0) → ((k : ℕ) → C .clocks ≤ k → momentsOf (m .at .resets) k ≡ 0) → So (momentsFit (C .clocks) (m .at .resets) (m .now .0))
+  unfolding momentsFit
+  of-moments f g =
+      all-of mostClocks _ (λ k l. and-of (le-leb _ _ (f k)) (by k (decLt k (C .clocks))))
+    where
+      by : (k : ℕ) → Dec (k < C .clocks) → So (ltb k (C .clocks) || eqb (momentsOf (m .at .resets) k) 0)
+      by k (yes h) = or-left _ (lt-ltb k (C .clocks) h)
+      by k (no h) = let q : C .clocks ≤ k = omega arith in or-right (ltb k (C .clocks)) (eq-eqb _ _ (g k q))
+
+  Breaks : Type 0
+  Breaks = ((m .«break_record» ≡ 0) × (m .reason ≡ 0))
+      ⊎ ((1 ≤ m .«break_record») × (m .«break_record» ≤ m .records) × ((m .reason ≡ noReadyRegion) ⊎ (m .reason ≡ conditionFails)))
+
+  break-of : So (breakFits (m .records) (m .«break_record») (m .reason)) → Breaks
+  unfolding breakFits Breaks
+  break-of e = elim (or-cases (eqb (m .«break_record») 0 && eqb (m .reason) 0) _ e) [
+    | inl p ↦ inl (eqb-true _ _ (and-left (eqb (m .«break_record») 0) _ p), eqb-true _ _ (and-right (eqb (m .«break_record») 0) _ p))
+    | inr p ↦
+        let q = and-right (leb 1 (m .«break_record»)) _ p in
+        inr (
+          leb-true _ _ (and-left (leb 1 (m .«break_record»)) _ p),
+          leb-true _ _ (and-left (leb (m .«break_record») (m .records)) _ q),
+          elim (or-cases (eqb (m .reason) noReadyRegion) _ (and-right (leb (m .«break_record») (m .records)) _ q)) [
+            | inl x ↦ inl (eqb-true _ _ x)
+            | inr x ↦ inr (eqb-true _ _ x)
+          ],
+        )
+  ]
+
+  of-break : Breaks → So (breakFits (m .records) (m .«break_record») (m .reason))
+  unfolding breakFits Breaks
+  of-break (inl p) = or-left _ (and-of (eq-eqb _ _ (p .0)) (eq-eqb _ _ (p .1)))
+  of-break (inr p) =
+      or-right (eqb (m .«break_record») 0 && eqb (m .reason) 0)
+      (and-of (le-leb _ _ (p .0)) (and-of (le-leb _ _ (p .1)) (elim (p .2) [
+        | inl x ↦ or-left _ (eq-eqb _ _ x)
+        | inr x ↦ or-right (eqb (m .reason) noReadyRegion) (eq-eqb _ _ x)
+      ])))
+
+  fit-of : length (m .at .resets) ≡ mostClocks → So (fits C m) → Fit C (monitorAt m)
+  unfolding fits countsFit Breaks
+  fit-of size e =
+      let e₁ = and-right (closedUpward C fired) _ e in
+      let e₂ = and-right (within (C .regions) fired) _ e₁ in
+      let e₃ = and-right (not (full C (contains fired))) _ e₂ in
+      let e₄ = and-right (restsUnlessBroken C fired (m .«break_record»)) _ e₃ in
+      let e₅ = and-right (momentsFit (C .clocks) (m .at .resets) (m .now .0)) _ e₄ in
+      let counts = and-left (leb (m .records) mostRecords && leb (m .kept + m .dropped) (m .records)) _ e₅ in
+      let w = and-left (within (C .regions) fired) _ e₁ in
+      let ms = moments-of size (and-left (momentsFit (C .clocks) (m .at .resets) (m .now .0)) _ e₄) in
+      record {
+        closed = closed-of (and-left (closedUpward C fired) _ e) w;
+        within = λ i p. member-lt (C .regions) fired i (within-true _ _ w) p;
+        unfinished = full-false C (contains fired) (not-true _ (and-left (not (full C (contains fired))) _ e₂));
+        settled = rests-of (and-left (restsUnlessBroken C fired (m .«break_record»)) _ e₃);
+        moments = λ k. ms k .0;
+        unused = λ k. ms k .1;
+        few = leb-true _ _ (and-left (leb (m .records) mostRecords) _ counts);
+        counts = leb-true _ _ (and-right (leb (m .records) mostRecords) _ counts);
+        break-fits = break-of (and-right (leb (m .records) mostRecords && leb (m .kept + m .dropped) (m .records)) _ e₅);
+      }
+
+  pub of-fit : Fit C (monitorAt m) → So (fits C m)
+  unfolding fits countsFit Breaks
+  of-fit F =
+      and-of (of-closed (F .closed))
+      (and-of (members-within (C .regions) fired (F .within))
+      (and-of (not-full (full C (contains fired)) refl)
+      (and-of (of-rests (F .settled))
+      (and-of (of-moments (F .moments) (F .unused))
+      (and-of (and-of (le-leb _ _ (F .few)) (le-leb _ _ (F .counts))) (of-break (F .break-fits)))))))
+    where
+      not-full : (b : Bool) → full C (contains fired) ≡ b → So (not b)
+      not-full true e = absurd (F .unfinished (full-true C (contains fired) e))
+      not-full false e = refl
+
+  -- what the test promises
+  pub fit-exactly : length (m .at .resets) ≡ mostClocks → (r : Bool) → r ≡ fits C m → (r ≡ true) ↔ Fit C (monitorAt m)
+  fit-exactly size r e = (λ p. fit-of size (sym e ∙ p), λ F. e ∙ of-fit F)
+
+all-same : (n : ℕ) (s t : ℕ → Bool) → ((i : ℕ) → i < n → s i ≡ t i) → allBelow n s ≡ allBelow n t
+all-same zero s t h = refl
+all-same (suc n) s t h = ap₂ _&&_ (all-same n s t (λ i l. h i (omega arith))) (h n (omega arith))
+
+module _ {h : Head} {keys above resets terms : List ℕ} (K : Compiled h keys above resets terms) (m : Monitor) where
+  abbrev compiled : Abstract
+  compiled = planChart h keys above resets terms
+
+  closed-same : allBelow (h .count) (λ i. not (contains (m .at .fired) i) || isSubset (getD above i 0) (m .at .fired)) ≡ closedUpward compiled (m .at .fired)
+  unfolding closedUpward
+  closed-same =
+      all-same (h .count) _ _
+      (λ i l. ap (λ (b : Bool). not (contains (m .at .fired) i) || b)
+      (subset-all (h .count) (getD above i 0) (m .at .fired) (λ a p. omega (arith, K .accepted .downward a i p))))
+
+  -- the tests joined as the code joins them
+  pub tested : (closed set all rests moments counts break : Bool) (o : Found)
+      → closed ≡ allBelow (h .count) (λ i. not (contains (m .at .fired) i) || isSubset (getD above i 0) (m .at .fired))
+      → set ≡ within (h .count) (m .at .fired)
+      → all ≡ allBelow (h .count) (contains (m .at .fired))
+      → foundOf o ≡ first (h .count) (λ i. contains (h .plain) i && readyBy above (m .at .fired) i) → rests ≡ isNone (foundOf o)
+      → moments ≡ momentsFit (h .clocks) (m .at .resets) (m .now .0) → counts ≡ countsFit m
+      → break ≡ breakFits (m .records) (m .«break_record») (m .reason)
+      → (closed && (set && (not all && ((not (eqb (m .«break_record») 0) || rests) && (moments && (counts && break)))))) ≡ fits compiled m
+  unfolding fits full restsUnlessBroken
+  tested closed set all rests moments counts break o e₁ e₂ e₃ f e₄ e₅ e₆ e₇ =
+      let n = found-plain K (m .at .fired) o refl f in
+      λ i. (e₁ ∙ closed-same) i && (e₂ i && (not (e₃ i) && ((not (eqb (m .«break_record») 0) || (e₄ ∙ ap isNone (sym n)) i) && (e₅ i && (e₆ i && e₇ i)))))
+
+  -- what `is_fit` promises, from the test alone
+  pub fit-test : length (m .at .resets) ≡ mostClocks → (r : Bool) → r ≡ fits compiled m → (r ≡ fits compiled m) × ((r ≡ true) ↔ Fit compiled (monitorAt m))
+  fit-test size r e = (e, fit-exactly compiled (K .accepted) m size r e)

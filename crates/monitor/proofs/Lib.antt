@@ -1,0 +1,4 @@
+pub mod Loops
+pub mod Fitness
+pub mod Feeding
+pub mod Runs

@@ -1,0 +1,162 @@
+-- A list of real feeds goes as the machine does. Assumes nothing.
+use mathlib.Core.Path.{_≡_, refl, sym, ap, subst, fun-ext, _∙_}
+use mathlib.Core.Logic.{_≢_, inl, inr}
+use mathlib.Core.Bool.{true}
+use Prim.Native.Nat.{ℕ, _≤_, _<_}
+use native.Mathlib.Omega.{arith}
+use native.Mathlib.Decide.{decLt}
+use lib.Dec.{eqb, ltb, leb}
+use lib.ListN.{length, replicate, getD-replicate, length-replicate, List·getD-eq-default}
+use lib.Seq.{ext-getD}
+use Rattle.bitset.proofs.Laws.{contains-empty, same-members}
+use Rattle.model.specs.declared.Chart.{Chart}
+use Rattle.model.specs.declared.Moment.{Moment}
+use Rattle.model.specs.declared.Monitor.{Monitor}
+use Rattle.model.specs.declared.Record.{Record}
+use Rattle.model.specs.Chart.{mostRegions, mostClocks}
+use Rattle.model.specs.Monitor.{zeroMonitor}
+use Rattle.chart_value.specs.WellFormed.{wellFormed}
+use Rattle.chart_value.specs.View.{chartOf}
+use Rattle.rounds.specs.Base.{Snoc, _▸_}
+use Rattle.rounds.specs.Chart.{Accepted}
+use Rattle.rounds.specs.Rows.{LogRecord}
+use Rattle.rounds.specs.Feeds.{Answer as Told, Exactly, refused, toldBroken, timeFalls, tooManyRecords, mostRecords}
+use Rattle.rounds.specs.Machine.{Monitor as AbstractMonitor, Step as AbstractStep, Fit, fresh, feed, after, answers}
+use Rattle.rounds.specs.Demand3.{Demand3, Agrees}
+use Rattle.rounds.proofs.Facts.{split}
+use Rattle.rounds.proofs.Demand3.{demand-3}
+use Rattle.stepping.specs.declared.Answer.the-variants.{Refused}
+use Rattle.stepping.specs.declared.FeedRefusal.{FeedRefusal}
+use Rattle.stepping.specs.declared.FeedRefusal.the-variants.{NotAChart, Unfit}
+use Rattle.stepping.specs.declared.Step.{Step}
+use Rattle.stepping.specs.Answers.{answerOf, feedRefusalNumber}
+use Rattle.stepping.specs.View.{momentsOf, monitorAt, stepOf}
+use Rattle.stepping.proofs.Back.{Taken, accept-taken}
+use Rattle.monitor.specs.Feed.{logRecord, feedOf}
+use Rattle.monitor.specs.Runs.{Run, none-yet, one-more, logged, Demand3Of, ViewTells}
+use Rattle.monitor.proofs.Fitness.{of-fit}
+
+-- the monitor of zeros is the machine's fresh one
+zero-moments : (k : ℕ) → momentsOf (zeroMonitor .at .resets) k ≡ 0
+zero-moments k = by (decLt k mostClocks)
+  where
+    zero : Moment
+    zero = record { 0 = 0 }
+
+    by : Dec (k < mostClocks) → momentsOf (zeroMonitor .at .resets) k ≡ 0
+    by (yes h) = ap (λ (x : Moment). x .0) (getD-replicate mostClocks k (record { 0 = 0 }) (record { 0 = 0 }) h)
+    by (no h) =
+        let l : length (replicate {A = Moment} mostClocks (record { 0 = 0 })) ≤ k = simp length-replicate (omega arith) in
+        ap (λ (x : Moment). x .0) (List·getD-eq-default (replicate mostClocks (record { 0 = 0 })) (record { 0 = 0 }) l)
+
+zero-fresh : monitorAt zeroMonitor ≡ fresh
+zero-fresh = λ i. record {
+  at = record { fired = fun-ext contains-empty i; clocks = fun-ext zero-moments i };
+  now = 0;
+  records = 0;
+  kept = 0;
+  dropped = 0;
+  break = 0;
+  reason = 0;
+}
+
+module _ (c : Chart) (wf : wellFormed c ≡ true) (A : Accepted (chartOf c)) where
+  -- a fit monitor is fed as the machine is
+  fed-fit : (m : Monitor) (e : Record) → Fit (chartOf c) (monitorAt m) → feedOf c m e ≡ feed (chartOf c) (monitorAt m) (logRecord e)
+  unfolding feedOf
+  fed-fit m e F = rw (wf, of-fit (chartOf c) A m F)
+
+  abbrev D : Demand3 (chartOf c)
+  D = demand-3 (chartOf c) A
+
+  -- the monitor and the answers after a list
+  record Goes (es : Snoc Record) (told : Snoc Told) (m : Monitor) : Type 0 where
+    monitor : monitorAt m ≡ after (chartOf c) (logged es)
+    answered : told ≡ answers (chartOf c) (logged es)
+
+  fit-after : {es : Snoc Record} {told : Snoc Told} {m : Monitor} → Goes es told m → Fit (chartOf c) (monitorAt m)
+  fit-after {es} g = subst (λ (x : AbstractMonitor). Fit (chartOf c) x) (sym (g .monitor)) (D .stays-fit (logged es))
+
+  step-after : {es : Snoc Record} {told : Snoc Told} {m : Monitor} → Goes es told m → (e : Record) (r : Step) → stepOf r ≡ feedOf c m e
+      → stepOf r ≡ feed (chartOf c) (after (chartOf c) (logged es)) (logRecord e)
+  step-after {es} {told} {m} g e r q =
+      q ∙ fed-fit m e (fit-after g) ∙ ap (λ (x : AbstractMonitor). feed (chartOf c) x (logRecord e)) (g .monitor)
+
+  goes : {es : Snoc Record} {told : Snoc Told} {m : Monitor} → Run c es told m → Goes es told m
+  unfolding after answers
+  goes none-yet = record { monitor = zero-fresh; answered = refl }
+  goes (one-more {es} {told} {m} e r q h) =
+      let g = goes q in
+      let s = step-after g e r h in
+      record {
+        monitor = ap (λ (x : AbstractStep). x .next) s;
+        answered = λ i. g .answered i ▸ s i .answer;
+      }
+
+  -- the machine never says 20 or 21
+  other : (k : FeedRefusal) → Type 0
+  other k = (feedRefusalNumber k ≢ timeFalls) × (feedRefusalNumber k ≢ tooManyRecords)
+
+  same-number : {a b : ℕ} → refused a ≡ refused b → a ≡ b
+  same-number e = cc
+
+  never-said : (k : FeedRefusal) → feedRefusalNumber k ≢ timeFalls → feedRefusalNumber k ≢ tooManyRecords → (m : AbstractMonitor) (e : LogRecord)
+      → feed (chartOf c) m e .answer ≡ refused (feedRefusalNumber k) → ⊥
+  unfolding feed Taken
+  never-said k n l m e h = elim (split (eqb (m .break) 0)) [
+    | inl p ↦ elim (split (ltb (e .time) (m .now))) [
+      | inl q ↦ n (sym (same-number (rw (p, q) at h)))
+      | inr q ↦ elim (split (leb mostRecords (m .records))) [
+        | inl r ↦ l (sym (same-number (rw (p, q, r) at h)))
+        | inr r ↦ subst Taken (rw (p, q, r) at h) (accept-taken (chartOf c) m e)
+      ]
+    ]
+    | inr p ↦ clashes (rw p at h)
+  ]
+    where
+      clashes : {a b : ℕ} → toldBroken a b ≡ refused (feedRefusalNumber k) → ⊥
+      clashes e = let z : _≡_ {A = ℕ} 0 1 = cc in omega arith
+
+  never : {es : Snoc Record} {told : Snoc Told} {m : Monitor} → Goes es told m → (e : Record) (r : Step) → stepOf r ≡ feedOf c m e
+      → (k : FeedRefusal) → feedRefusalNumber k ≢ timeFalls → feedRefusalNumber k ≢ tooManyRecords → r .answer ≢ Refused k
+  never {es} g e r h k n l q =
+      never-said k n l (after (chartOf c) (logged es)) (logRecord e)
+      (sym (ap (λ (x : AbstractStep). x .answer) (step-after g e r h)) ∙ ap answerOf q)
+
+  pub demand-3-of : Demand3Of c
+  demand-3-of = record {
+    cut-exists = λ es. D .cut-exists (logged es);
+    cut-unique = λ es. D .cut-unique;
+    one-row = D .one-row;
+    agrees = λ {es} {told} {m} q M.
+        let g = goes q in
+        let a = D .monitor-agrees M in
+        (g .answered ∙ a .0, subst (λ (x : AbstractMonitor). Agrees (chartOf c) (M .accepted) (M .stretches) (M .last) x) (sym (g .monitor)) (a .1));
+    exactly = λ {es} {told} {m} q M o s e r l n h.
+        let g = goes q in
+        subst (λ (x : AbstractStep). Exactly (chartOf c) o s (logRecord e) (x .answer)) (sym (step-after g e r h))
+        (D .exactly M o s (logRecord e) l n);
+    never-refused = λ {es} {told} {m} q e r h.
+        let g = goes q in
+        (never g e r h NotAChart (λ z. omega arith) (λ z. omega arith), never g e r h Unfit (λ z. omega arith) (λ z. omega arith));
+  }
+
+-- the view fixes the monitor
+pub view-tells : ViewTells
+view-tells m n p q e =
+    let f : m .at .fired ≡ n .at .fired =
+    same-members mostRegions (m .at .fired) (n .at .fired) (p .bits) (q .bits) (λ i l. ap (λ (x : AbstractMonitor). x .at .fired i) e) in
+    let zero : Moment = record { 0 = 0 } in
+    let k : length (m .at .resets) ≡ length (n .at .resets) = p .places ∙ sym (q .places) in
+    let r : m .at .resets ≡ n .at .resets =
+    ext-getD (record { 0 = 0 }) (m .at .resets) (n .at .resets) k
+    (λ i l j. record { 0 = e j .at .clocks i }) in
+    λ i. record {
+      at = record { fired = f i; resets = r i };
+      now = record { 0 = e i .now };
+      records = e i .records;
+      kept = e i .kept;
+      dropped = e i .dropped;
+      «break_record» = e i .break;
+      reason = e i .reason;
+    }

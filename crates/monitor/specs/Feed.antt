@@ -1,0 +1,48 @@
+-- Making a monitor and feeding it a record.
+use mathlib.Core.Path.{_≡_}
+use mathlib.Core.Bool.{cond, not}
+use Prim.Native.Nat.{ℕ}
+use Rattle.model.specs.declared.Chart.{Chart}
+use Rattle.model.specs.declared.Monitor.{Monitor}
+use Rattle.model.specs.declared.Record.{Record}
+use Rattle.model.specs.declared.Record.the-variants.{Message, Time}
+use Rattle.model.specs.Monitor.{zeroMonitor}
+use Rattle.chart_value.specs.WellFormed.{wellFormed}
+use Rattle.chart_value.specs.View.{codeOf, chartOf}
+use Rattle.rounds.specs.Rows.{LogRecord}
+use Rattle.rounds.specs.Feeds.{refused}
+use Rattle.rounds.specs.Machine as machine
+use Rattle.stepping.specs.declared.FeedRefusal.{FeedRefusal}
+use Rattle.stepping.specs.declared.FeedRefusal.the-variants.{NotAChart, Unfit}
+use Rattle.stepping.specs.Answers.{feedRefusalNumber}
+use Rattle.stepping.specs.View.{monitorAt}
+use Rattle.monitor.specs.declared.MadeAnswer.{MadeAnswer}
+use Rattle.monitor.specs.declared.MadeAnswer.the-variants.{Fresh, NoChart}
+use Rattle.monitor.specs.declared.Made.{Made}
+use Rattle.monitor.specs.Fit.{fits}
+
+-- 0 made; 20: the chart value is not one that some accepted bytes give
+abbrev pub madeNumber : MadeAnswer → ℕ
+madeNumber Fresh = 0
+madeNumber NoChart = feedRefusalNumber NotAChart
+
+-- Making a monitor: fresh, all zeros, or 20 with a monitor of zeros.
+pub record MadeOf (c : Chart) (r : Made) : Type 0 where
+  pub number : madeNumber (r .answer) ≡ cond (wellFormed c) 0 (feedRefusalNumber NotAChart)
+  pub monitor : r .monitor ≡ zeroMonitor
+
+-- a record as the theory takes it: its time, and 0 or the code of its message
+abbrev pub logRecord : Record → LogRecord
+logRecord (Message m t) = record { time = t .0; code = codeOf m }
+logRecord (Time t) = record { time = t .0; code = 0 }
+
+-- a refusal gives the monitor as it came
+abbrev pub refuse : FeedRefusal → Monitor → machine.Step
+refuse k m = record { answer = refused (feedRefusalNumber k); next = monitorAt m }
+
+-- Feeding a record: 20, 21, then the broken answer again, 22, 23, else steps 1 to 7.
+unfoldable pub feedOf : Chart → Monitor → Record → machine.Step
+feedOf c m e =
+    cond (not (wellFormed c)) (refuse NotAChart m)
+    (cond (not (fits (chartOf c) m)) (refuse Unfit m)
+    (machine.feed (chartOf c) (monitorAt m) (logRecord e)))

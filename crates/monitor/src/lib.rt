@@ -1,0 +1,189 @@
+// Making a monitor and feeding it records.
+use model::CLOCK_PLACES;
+use model::Chart;
+use model::MOST_RECORDS;
+use model::MOST_REGIONS;
+use model::Moment;
+use model::Monitor;
+use model::Record;
+use stepping::Answer;
+use stepping::CONDITION_FAILS;
+use stepping::FeedRefusal;
+use stepping::Found;
+use stepping::Head;
+use stepping::NO_READY_REGION;
+use stepping::Step;
+use stepping::TERM_PLACES;
+ghost use mathlib.Core.Path.{_≡_};
+ghost use mathlib.Core.Bool.{true, not, _||_};
+ghost use mathlib.Core.Logic.{_↔_};
+ghost use Prim.Native.Nat.{_≤_, _<_};
+ghost use lib.ListN.{length, getD};
+ghost use Rattle.bitset.specs.Set.{contains, isSubset};
+ghost use Rattle.model.specs.Chart.{mostRegions, mostClocks};
+ghost use Rattle.rounds.specs.Base.{allBelow};
+ghost use Rattle.rounds.specs.Machine.{Fit};
+ghost use Rattle.stepping.specs.View.{planChart, Compiled, monitorAt, stepOf};
+ghost use Rattle.stepping.specs.Parts.{foundOf};
+ghost use Rattle.stepping.specs.Answers.{HandsBack};
+ghost use Rattle.monitor.specs.Fit.{isNone, momentsFit, breakFits, countsFit, fits};
+ghost use Rattle.monitor.specs.Feed.{MadeOf, logRecord, refuse, feedOf};
+
+pub enum MadeAnswer {
+    Fresh,
+    NoChart,
+}
+
+pub struct Made {
+    pub answer: MadeAnswer,
+    pub monitor: Monitor,
+}
+
+// All above each fired region are fired.
+fn closed_upward(above: &[u32; MOST_REGIONS], count: usize, fired: u32) -> bool
+    requires { ⌜ count ≤ mostRegions ⌝ }
+    ensures { λ r. ⌜ r ≡ allBelow count (λ i. not (contains fired i) || isSubset (getD (now (above .entry)) i 0) fired) ⌝ }
+{
+    let mut ok = true;
+    let mut i: usize = 0;
+    while i < count {
+        ok = ok & (!bitset::member(fired, i as u32) | bitset::subset(above[i], fired));
+        i += 1;
+    }
+    ok
+}
+
+// Reset moments are at most now, unused ones zero.
+fn moments_fit(clocks: usize, resets: [Moment; CLOCK_PLACES], now: Moment) -> bool
+    ensures test { λ r. ⌜ r ≡ momentsFit clocks resets (now .0) ⌝ }
+    ensures places { λ r. ⌜ length resets ≡ mostClocks ⌝ }
+{
+    let mut ok = true;
+    let mut k: usize = 0;
+    while k < CLOCK_PLACES {
+        let t = resets[k];
+        ok = ok & ((t.0 <= now.0) & ((k < clocks) | (t.0 == 0)));
+        k += 1;
+    }
+    ok
+}
+
+fn wide(x: u32) -> u64
+    ensures { λ r. ⌜ (r ≡ x) × (r < 0x1_0000_0000) ⌝ }
+{
+    x as u64
+}
+
+// Records are at most 1,000,000, and kept plus dropped at most records.
+fn counts_fit(m: Monitor) -> bool
+    ensures { λ r. ⌜ r ≡ countsFit m ⌝ }
+{
+    (m.records <= MOST_RECORDS) & (wide(m.kept) + wide(m.dropped) <= wide(m.records))
+}
+
+// The break is two zeros, or a record from 1 to the count with reason 1 or 2.
+fn break_fits(records: u32, broken: u32, reason: u8) -> bool
+    ensures { λ r. ⌜ r ≡ breakFits records broken reason ⌝ }
+{
+    let whole = (broken == 0) & (reason == 0);
+    let known = (reason == NO_READY_REGION) | (reason == CONDITION_FAILS);
+    whole | ((1 <= broken) & ((broken <= records) & known))
+}
+
+fn is_nothing(f: Found) -> bool
+    ensures { λ r. ⌜ r ≡ isNone (foundOf f) ⌝ }
+{
+    match f {
+        Found::At(_) => false,
+        Found::Nothing => true,
+    }
+}
+
+// Whether the monitor is fit for the compiled chart.
+pub fn is_fit<'a>(
+    h: Head,
+    keys: &'a [u64; MOST_REGIONS],
+    above: &'a [u32; MOST_REGIONS],
+    resets: &'a [u32; MOST_REGIONS],
+    terms: &'a [u64; TERM_PLACES],
+    m: Monitor,
+) -> bool
+    requires { ⌜ Compiled h (now keys) (now above) (now resets) (now terms) ⌝ }
+    ensures test { λ r. ⌜ r ≡ fits (planChart h (now (keys .entry)) (now (above .entry)) (now (resets .entry)) (now (terms .entry))) m ⌝ }
+    ensures list { λ r. ⌜ ((r ≡ true) ↔ Fit (planChart h (now (keys .entry)) (now (above .entry)) (now (resets .entry)) (now (terms .entry))) (monitorAt m)) ⌝ }
+{
+    let at = m.at;
+    let fired = at.fired;
+    let moments = at.resets;
+    let count = h.count;
+    let rests = is_nothing(stepping::ready_plain(h.plain, above, count, fired));
+    let settled = (m.break_record != 0) | rests;
+    let counted = counts_fit(m) & break_fits(m.records, m.break_record, m.reason);
+    let set = bitset::within(count as u32, fired)
+        & (!stepping::all_fired(count, fired)
+            & (settled & (moments_fit(h.clocks, moments, m.now) & counted)));
+    closed_upward(above, count, fired) & set
+}
+
+// A fresh monitor for the chart: nothing fired, all else zero.
+pub fn new(chart: Chart) -> Made
+    ensures { λ r. ⌜ MadeOf chart r ⌝ }
+{
+    let monitor = model::zero_monitor();
+    if chart_value::well_formed(chart) {
+        return Made {
+            answer: MadeAnswer::Fresh,
+            monitor,
+        };
+    }
+    Made {
+        answer: MadeAnswer::NoChart,
+        monitor,
+    }
+}
+
+fn refused(k: FeedRefusal, m: Monitor) -> Step
+    ensures step { λ r. ⌜ stepOf r ≡ refuse k m ⌝ }
+    ensures back { λ r. ⌜ HandsBack m r ⌝ }
+{
+    Step {
+        answer: Answer::Refused(k),
+        next: m,
+    }
+}
+
+fn time_of(e: Record) -> Moment
+    ensures { λ r. ⌜ r .0 ≡ logRecord e .time ⌝ }
+{
+    match e {
+        Record::Message(_, t) => t,
+        Record::Time(t) => t,
+    }
+}
+
+// One record: refused, or taken, with the monitor afterwards.
+pub fn feed(chart: Chart, monitor: Monitor, e: Record) -> Step
+    ensures step { λ r. ⌜ stepOf r ≡ feedOf chart monitor e ⌝ }
+    ensures back { λ r. ⌜ HandsBack monitor r ⌝ }
+{
+    if !chart_value::well_formed(chart) {
+        return refused(FeedRefusal::NotAChart, monitor);
+    }
+    let p = plan::compile(chart);
+    let h = p.head;
+    if !is_fit(h, &p.keys, &p.above, &p.resets, &p.terms, monitor) {
+        return refused(FeedRefusal::Unfit, monitor);
+    }
+    let code = plan::record_code(e);
+    let time = time_of(e);
+    stepping::feed_fit(
+        h,
+        &p.keys,
+        &p.above,
+        &p.resets,
+        &p.terms,
+        monitor,
+        code,
+        time,
+    )
+}

@@ -1,0 +1,136 @@
+-- What is compiled part by part shows the chart. Assumes nothing.
+use mathlib.Core.Path.{_≡_, refl, sym, ap, subst, _∙_}
+use mathlib.Core.Bool.{Bool, true, false, cond, _&&_}
+use mathlib.Core.List.{List}
+use Prim.Native.Nat.{ℕ, _+_, _*_, _/_, _%_, _≤_, _<_}
+use native.Mathlib.Omega.{arith}
+use native.Mathlib.Decide.{decLt}
+use borrow.Author.Tests.{lt-ltb, le-ltb, ltb-false, ne-eqb}
+use lib.Dec.{eqb, ltb}
+use lib.ListN.{getD}
+use Rattle.bitset.specs.Set.{contains}
+use Rattle.bitset.proofs.Laws.{contains-empty}
+use Rattle.model.specs.declared.Chart.{Chart}
+use Rattle.model.specs.declared.Event.{Event}
+use Rattle.model.specs.declared.Event.the-variants.{Plain, Message}
+use Rattle.model.specs.declared.Region.{Region}
+use Rattle.model.specs.Chart.{zeroRegion, regionAt, termAt, isPlain, mostRegions, mostTerms}
+use Rattle.model.proofs.Filled.{Filled}
+use Rattle.order.specs.Order.{aboveOf}
+use Rattle.order.proofs.Laws.{sets-beyond}
+use Rattle.condition.specs.Condition.{conditionHolds}
+use Rattle.rounds.specs.Chart.{Accepted}
+use Rattle.chart_value.specs.View.{codeOf, keyOf, regionOf, chartOf}
+use Rattle.chart_value.proofs.Facts.{WellFormed}
+use Rattle.chart_value.proofs.Order.{fits-at}
+use Rattle.stepping.specs.View.{firstPlace, conditionBy, planChart}
+use Rattle.plan.specs.declared.Plan.{Plan}
+use Rattle.plan.specs.Words.{wordOf, wordAt}
+use Rattle.plan.specs.Plan.{Compiles}
+use Rattle.plan.proofs.Words.{word-holds, words-hold}
+use Rattle.plan.proofs.Members.{Gathered}
+
+-- a part of the region at i, or of zeros beyond the chart
+clipped : {A : Type 0} (c : Chart) (f : Region → A) (z : A) → z ≡ f zeroRegion → (i : ℕ)
+    → cond (ltb i (c .count)) (f (regionAt c i)) z ≡ f (regionOf c i)
+clipped {A} c f z e i = by (ltb i (c .count))
+  where
+    by : (b : Bool) → cond b (f (regionAt c i)) z ≡ f (cond b (regionAt c i) zeroRegion)
+    by true = refl
+    by false = e
+
+pub keys-show : (c : Chart) (keys : List ℕ) → Filled (λ i. keyOf (regionAt c i .event)) (c .count) keys → (i : ℕ) → getD keys i 0 ≡ chartOf c .key i
+keys-show c keys F i = F .is i ∙ clipped c (λ g. keyOf (g .event)) 0 refl i
+
+pub resets-show : (c : Chart) (resets : List ℕ) → Filled (λ i. regionAt c i .resets) (c .count) resets
+    → (i k : ℕ) → contains (getD resets i 0) k ≡ chartOf c .resets i k
+resets-show c resets F i k = ap (λ (s : ℕ). contains s k) (F .is i ∙ clipped c (λ g. g .resets) 0 refl i)
+
+pub hot-shows : (c : Chart) (hot : ℕ) → Gathered (λ i. regionAt c i .hot) (c .count) hot → (i : ℕ) → contains hot i ≡ chartOf c .hot i
+hot-shows c hot G i = G .has i ∙ clipped c (λ g. g .hot) false refl i
+
+plain-key : (e : Event) → isPlain e ≡ eqb (keyOf e) 0
+plain-key (Message m) = sym (ne-eqb (codeOf m) 0 (λ z. omega arith))
+plain-key (Plain l) = refl
+
+pub plain-shows : (c : Chart) (plain : ℕ) → Gathered (λ i. isPlain (regionAt c i .event)) (c .count) plain
+    → (i : ℕ) → i < c .count → contains plain i ≡ eqb (chartOf c .key i) 0
+plain-shows c plain G i h =
+    G .has i ∙ rw (lt-ltb i (c .count) h) (plain-key (regionAt c i .event))
+
+-- beyond the chart nothing is above
+above-shows : (c : Chart) (a b : ℕ) → contains (getD (aboveOf c) b 0) a ≡ chartOf c .above a b
+above-shows c a b = by (ltb b (c .count)) refl
+  where
+    by : (t : Bool) → ltb b (c .count) ≡ t → contains (getD (aboveOf c) b 0) a ≡ (t && contains (getD (aboveOf c) b 0) a)
+    by true e = refl
+    by false e = ap (λ (s : ℕ). contains s a) (sets-beyond c b (ltb-false _ _ e)) ∙ contains-empty a
+
+module _ (c : Chart) (w : WellFormed c) (numbers : (i j : ℕ) → i < mostRegions → j < mostTerms → termAt (regionAt c i) j .n < firstPlace)
+    (terms : List ℕ) (F : Filled (λ k. wordAt (regionAt c (k / mostTerms)) (k % mostTerms)) (c .count * mostTerms) terms) where
+  -- the words of region i
+  words-in : (i j : ℕ) → i < c .count → j < mostTerms → getD terms (i * mostTerms + j) 0 ≡ wordAt (regionAt c i) j
+  words-in i j h l =
+      let a : i * mostTerms + j < c .count * mostTerms = omega arith in
+      let d : (i * mostTerms + j) / mostTerms ≡ i = omega arith in
+      let m : (i * mostTerms + j) % mostTerms ≡ j = omega arith in
+      F .is (i * mostTerms + j) ∙ rw (lt-ltb (i * mostTerms + j) (c .count * mostTerms) a, d, m)
+
+  words-beyond : (i j : ℕ) → c .count ≤ i → getD terms (i * mostTerms + j) 0 ≡ 0
+  words-beyond i j h =
+      let a : c .count * mostTerms ≤ i * mostTerms + j = omega arith in
+      F .is (i * mostTerms + j) ∙ rw (le-ltb (i * mostTerms + j) (c .count * mostTerms) a)
+
+  pub terms-show : (i : ℕ) (v : ℕ → ℕ) → conditionBy terms i v ≡ chartOf c .condition i v
+  terms-show i v = by (decLt i (c .count))
+    where
+      by : Dec (i < c .count) → conditionBy terms i v ≡ conditionHolds (regionOf c i) v
+      by (yes h) =
+          let r : c .count ≤ mostRegions = w .room in
+          let t = fits-at c w i h .terms in
+          let n : regionAt c i .«term_count» ≤ mostTerms = t .count in
+          words-hold (regionAt c i) v (λ j. getD terms (i * mostTerms + j) 0) n (λ j l. words-in i j h l)
+          (λ j l. word-holds (c .clocks) (termAt (regionAt c i) j) (w .clocks) (t .used j l) (numbers i j (omega arith) (omega arith)) v)
+          ∙ ap (λ (b : Bool). conditionHolds (cond b (regionAt c i) zeroRegion) v) (sym (lt-ltb i (c .count) h))
+      by (no h) =
+          let l : c .count ≤ i = omega arith in
+          words-hold zeroRegion v (λ j. getD terms (i * mostTerms + j) 0) (omega arith)
+          (λ j k. words-beyond i j l ∙ sym (ap (λ (b : Bool). cond b (wordOf (termAt zeroRegion j)) 0) (le-ltb j 0 (omega arith))))
+          (λ j k. absurd (omega arith))
+          ∙ ap (λ (b : Bool). conditionHolds (cond b (regionAt c i) zeroRegion) v) (sym (le-ltb i (c .count) l))
+
+-- the parts together
+module _ (c : Chart) (p : Plan) (w : WellFormed c) (accepted : Accepted (chartOf c))
+    (heading : (p .head .count ≡ c .count) × (p .head .prechart ≡ c .prechart) × (p .head .clocks ≡ c .clocks))
+    (plain : (i : ℕ) → i < c .count → contains (p .head .plain) i ≡ eqb (chartOf c .key i) 0)
+    (hot : (i : ℕ) → contains (p .head .hot) i ≡ chartOf c .hot i)
+    (keys : (i : ℕ) → getD (p .keys) i 0 ≡ chartOf c .key i)
+    (above : p .above ≡ aboveOf c)
+    (resets : (i k : ℕ) → contains (getD (p .resets) i 0) k ≡ chartOf c .resets i k)
+    (terms : (i : ℕ) (v : ℕ → ℕ) → conditionBy (p .terms) i v ≡ chartOf c .condition i v) where
+  above-set : (a b : ℕ) → contains (getD (p .above) b 0) a ≡ chartOf c .above a b
+  above-set a b = ap (λ (l : List ℕ). contains (getD l b 0) a) above ∙ above-shows c a b
+
+  shows : planChart (p .head) (p .keys) (p .above) (p .resets) (p .terms) ≡ chartOf c
+  shows =
+      λ x. record {
+        regions = heading .0 x;
+        prechart = heading .1 x;
+        key = λ i. keys i x;
+        above = λ a b. above-set a b x;
+        clocks = heading .2 x;
+        resets = λ i k. resets i k x;
+        condition = λ i v. terms i v x;
+        hot = λ i. hot i x;
+      }
+
+  pub compiles : Compiles c p
+  compiles = record {
+    shows = shows;
+    compiled = record {
+      regions = rw (heading .0) (w .room);
+      clocks = rw (heading .2) (w .clocks);
+      plain = λ i h. plain i (rw (heading .0) at h) ∙ ap (λ (k : ℕ). eqb k 0) (sym (keys i));
+      accepted = subst Accepted (sym shows) accepted;
+    };
+  }

@@ -1,0 +1,270 @@
+// A chart compiled into numbers for stepping: it shows the same abstract chart as the chart's value.
+use model::Chart;
+use model::Event;
+use model::Left;
+use model::MOST_CLOCKS;
+use model::MOST_REGIONS;
+use model::MOST_TERMS;
+use model::Message;
+use model::Record;
+use model::Region;
+use model::Relation;
+use model::Term;
+use stepping::FIRST_PLACE;
+use stepping::Head;
+use stepping::RELATION_PLACE;
+use stepping::SECOND_PLACE;
+use stepping::TERM_PLACES;
+ghost use mathlib.Core.Path.{_≡_};
+ghost use mathlib.Core.Bool.{true, cond};
+ghost use Prim.Native.Nat.{ℕ, _<_};
+ghost use lib.Dec.{eqb};
+ghost use lib.ListN.{getD};
+ghost use Rattle.bitset.specs.Set.{contains, inserted};
+ghost use Rattle.model.specs.Chart.{mostRegions, mostTerms};
+ghost use Rattle.chart_value.specs.WellFormed.{wellFormed};
+ghost use Rattle.chart_value.specs.View.{codeOf, keyOf, chartOf};
+ghost use Rattle.stepping.specs.View.{conditionBy};
+ghost use Rattle.plan.specs.Words.{relationNumber, firstClock, secondClock, wordOf, wordAt};
+ghost use Rattle.plan.specs.Plan.{recordCode, Compiles};
+
+// A message's code: one more than label, source and destination at their places.
+const LABEL_PLACE: u64 = 0x1_0000;
+
+const SOURCE_PLACE: u64 = 0x100;
+
+// The second clock of a term of one clock.
+const NO_CLOCK: u64 = MOST_CLOCKS as u64;
+
+// A compiled chart: each region's key, the regions above it, the clocks that it resets, and four words of terms.
+pub struct Plan {
+    pub head: Head,
+    pub keys: [u64; MOST_REGIONS],
+    pub above: [u32; MOST_REGIONS],
+    pub resets: [u32; MOST_REGIONS],
+    pub terms: [u64; TERM_PLACES],
+}
+
+// The same number in 64 bits.
+fn wide8(x: u8) -> u64
+    ensures value { λ r. ⌜ r ≡ x ⌝ }
+    ensures bound { λ r. ⌜ r < 256 ⌝ }
+{
+    x as u64
+}
+
+fn wide16(x: u16) -> u64
+    ensures value { λ r. ⌜ r ≡ x ⌝ }
+    ensures bound { λ r. ⌜ r < 65536 ⌝ }
+{
+    x as u64
+}
+
+fn wide32(x: u32) -> u64
+    ensures value { λ r. ⌜ r ≡ x ⌝ }
+    ensures bound { λ r. ⌜ r < 0x1_0000_0000 ⌝ }
+{
+    x as u64
+}
+
+// One number for a message; it is never 0.
+pub fn code_of(m: Message) -> u64
+    ensures { λ r. ⌜ r ≡ codeOf m ⌝ }
+{
+    wide16(m.label) * LABEL_PLACE + wide8(m.source) * SOURCE_PLACE + wide8(m.destination) + 1
+}
+
+// The code of a record's message, 0 for a record of time.
+pub fn record_code(r: Record) -> u64
+    ensures { λ k. ⌜ k ≡ recordCode r ⌝ }
+{
+    match r {
+        Record::Message(m, _) => code_of(m),
+        Record::Time(_) => 0,
+    }
+}
+
+// The code of a region's message, 0 for a plain region.
+fn key_of(e: Event) -> u64
+    ensures { λ r. ⌜ r ≡ keyOf e ⌝ }
+{
+    match e {
+        Event::Message(m) => code_of(m),
+        Event::Plain(_) => 0,
+    }
+}
+
+// The key of each region.
+fn keys_of(c: Chart) -> [u64; MOST_REGIONS]
+    requires { ⌜ wellFormed c ≡ true ⌝ }
+    ensures { λ r. ⌜ ((i : ℕ) → getD r i 0 ≡ chartOf c .key i) ⌝ }
+{
+    let count = c.count as usize;
+    let mut keys = [0u64; MOST_REGIONS];
+    let mut i: usize = 0;
+    while i < count {
+        let g = c.regions[i];
+        let e = g.event;
+        keys[i] = key_of(e);
+        i += 1;
+    }
+    keys
+}
+
+// The same set of clocks, in 32 bits.
+fn clock_set(set: u8) -> u32
+    ensures { λ r. ⌜ r ≡ set ⌝ }
+{
+    set as u32
+}
+
+// The clocks that each region resets, as a set.
+fn resets_of(c: Chart) -> [u32; MOST_REGIONS]
+    requires { ⌜ wellFormed c ≡ true ⌝ }
+    ensures { λ r. ⌜ ((i k : ℕ) → contains (getD r i 0) k ≡ chartOf c .resets i k) ⌝ }
+{
+    let count = c.count as usize;
+    let mut resets = [0u32; MOST_REGIONS];
+    let mut i: usize = 0;
+    while i < count {
+        resets[i] = clock_set(c.regions[i].resets);
+        i += 1;
+    }
+    resets
+}
+
+// Number i comes into the set if b holds.
+fn insert_if(set: u32, i: usize, b: bool) -> u32
+    requires { ⌜ i < mostRegions ⌝ }
+    ensures { λ r. ⌜ r ≡ cond b (inserted set i) set ⌝ }
+{
+    if b {
+        return bitset::insert(set, i as u32);
+    }
+    set
+}
+
+// The set of the regions whose condition is hot.
+fn hot_of(c: Chart) -> u32
+    requires { ⌜ wellFormed c ≡ true ⌝ }
+    ensures { λ r. ⌜ ((i : ℕ) → contains r i ≡ chartOf c .hot i) ⌝ }
+{
+    let count = c.count as usize;
+    let mut hot: u32 = 0;
+    let mut i: usize = 0;
+    while i < count {
+        hot = insert_if(hot, i, c.regions[i].hot);
+        i += 1;
+    }
+    hot
+}
+
+// The set of the plain regions.
+fn plain_of(c: Chart) -> u32
+    requires { ⌜ wellFormed c ≡ true ⌝ }
+    ensures { λ r. ⌜ ((i : ℕ) → i < c .count → contains r i ≡ eqb (chartOf c .key i) 0) ⌝ }
+{
+    let count = c.count as usize;
+    let mut plain: u32 = 0;
+    let mut i: usize = 0;
+    while i < count {
+        let g = c.regions[i];
+        let e = g.event;
+        plain = insert_if(plain, i, model::is_plain(e));
+        i += 1;
+    }
+    plain
+}
+
+// The relations by codes from 1 on; 0 is left for no term.
+fn relation_number(e: Relation) -> u64
+    ensures value { λ r. ⌜ r ≡ relationNumber e ⌝ }
+    ensures bound { λ r. ⌜ r < 6 ⌝ }
+{
+    match e {
+        Relation::Less => 1,
+        Relation::AtMost => 2,
+        Relation::Equal => 3,
+        Relation::AtLeast => 4,
+        Relation::More => 5,
+    }
+}
+
+// The clock of a term, or the first of two.
+fn first_clock(l: Left) -> u64
+    ensures value { λ r. ⌜ r ≡ firstClock l ⌝ }
+    ensures bound { λ r. ⌜ r < 256 ⌝ }
+{
+    match l {
+        Left::Clock(k) => wide8(k),
+        Left::Difference(a, _) => wide8(a),
+    }
+}
+
+// The second clock of a term, or none.
+fn second_clock(l: Left) -> u64
+    ensures value { λ r. ⌜ r ≡ secondClock l ⌝ }
+    ensures bound { λ r. ⌜ r < 256 ⌝ }
+{
+    match l {
+        Left::Clock(_) => NO_CLOCK,
+        Left::Difference(_, b) => wide8(b),
+    }
+}
+
+// A term as one number.
+fn word_of(t: Term) -> u64
+    ensures { λ r. ⌜ r ≡ wordOf t ⌝ }
+{
+    let l = t.left;
+    let e = t.relation;
+    let clocks = second_clock(l) * SECOND_PLACE + first_clock(l) * FIRST_PLACE;
+    relation_number(e) * RELATION_PLACE + clocks + wide32(t.n)
+}
+
+// The word of term j; 0 where there is none.
+fn word_at(g: Region, j: usize) -> u64
+    requires { ⌜ j < mostTerms ⌝ }
+    ensures { λ r. ⌜ r ≡ wordAt g j ⌝ }
+{
+    if j < g.term_count as usize {
+        return word_of(g.terms[j]);
+    }
+    0
+}
+
+// The words of each region's terms, four places a region.
+fn terms_of(c: Chart) -> [u64; TERM_PLACES]
+    requires { ⌜ wellFormed c ≡ true ⌝ }
+    ensures { λ r. ⌜ ((i : ℕ) (value : ℕ → ℕ) → conditionBy r i value ≡ chartOf c .condition i value) ⌝ }
+{
+    let places = c.count as usize * MOST_TERMS;
+    let mut terms = [0u64; TERM_PLACES];
+    let mut k: usize = 0;
+    while k < places {
+        terms[k] = word_at(c.regions[k / MOST_TERMS], k % MOST_TERMS);
+        k += 1;
+    }
+    terms
+}
+
+// The chart as numbers.
+pub fn compile(c: Chart) -> Plan
+    requires { ⌜ wellFormed c ≡ true ⌝ }
+    ensures { λ r. ⌜ Compiles c r ⌝ }
+{
+    let head = Head {
+        count: c.count as usize,
+        prechart: c.prechart as usize,
+        clocks: c.clocks as usize,
+        plain: plain_of(c),
+        hot: hot_of(c),
+    };
+    Plan {
+        head,
+        keys: keys_of(c),
+        above: order::above_sets(c),
+        resets: resets_of(c),
+        terms: terms_of(c),
+    }
+}

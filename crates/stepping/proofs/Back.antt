@@ -1,0 +1,62 @@
+-- A record that is taken is not refused. Assumes nothing.
+use mathlib.Core.Path.{_≡_, refl, sym, subst}
+use mathlib.Core.Bool.{Bool, true, false, cond, not, _&&_}
+use Rattle.model.specs.declared.Monitor.{Monitor}
+use Rattle.rounds.specs.Chart.{Chart}
+use Rattle.rounds.specs.Rows.{LogRecord, chartMessage}
+use Rattle.rounds.specs.Feeds.{Answer as AbstractAnswer, refused, toldBroken, toldKept, toldDropped, entered, moved, quiet}
+use Rattle.rounds.specs.Machine.{Monitor as AbstractMonitor, Step as AbstractStep, Move, stuck, fails, rests, place, full, prechartDone, goOn, keepRound, dropRound, breakRound, conclude, accept}
+use Rattle.rounds.proofs.Facts.{clash}
+use Rattle.stepping.specs.declared.Answer.{Answer}
+use Rattle.stepping.specs.declared.Answer.the-variants.{Refused, Broken, Kept, Dropped, Entered, Moved, Quiet}
+use Rattle.stepping.specs.declared.Step.{Step}
+use Rattle.stepping.specs.Answers.{answerOf, isRefused, HandsBack}
+
+unfoldable pub Taken : AbstractAnswer → Type 0
+Taken (refused k) = ⊥
+Taken (toldBroken n k) = Unit {0}
+Taken toldKept = Unit {0}
+Taken toldDropped = Unit {0}
+Taken entered = Unit {0}
+Taken moved = Unit {0}
+Taken quiet = Unit {0}
+
+either-taken : (b : Bool) (x y : AbstractStep) → Taken (x .answer) → Taken (y .answer) → Taken (cond b x y .answer)
+either-taken true x y p q = p
+either-taken false x y p q = q
+
+module _ (C : Chart) (m : AbstractMonitor) (e : LogRecord) where
+  conclude-taken : (v : Move) → Taken (conclude C m e v .answer)
+  unfolding conclude goOn keepRound dropRound breakRound Taken
+  conclude-taken stuck = either-taken (prechartDone C (m .at .fired)) (breakRound C m e _ (m .at)) (dropRound C m e) tt tt
+  conclude-taken (fails i p) = either-taken (C .hot i) (breakRound C m e _ p) (dropRound C m e) tt tt
+  conclude-taken (rests p) = either-taken (full C (p .fired)) (keepRound C m e) _ tt (on (not (prechartDone C (m .at .fired)) && prechartDone C (p .fired)))
+    where
+      on : (b : Bool) → Taken (cond b entered moved)
+      on true = tt
+      on false = tt
+
+  pub accept-taken : Taken (accept C m e .answer)
+  unfolding accept goOn Taken
+  accept-taken = either-taken (chartMessage C e) (conclude C m e (place C (m .at) e)) (goOn C m e quiet (m .at)) (conclude-taken (place C (m .at) e)) tt
+
+not-refused : (a : Answer) → Taken (answerOf a) → isRefused a ≡ false
+unfolding Taken
+not-refused (Refused k) t = absurd t
+not-refused (Broken n k) t = refl
+not-refused Kept t = refl
+not-refused Dropped t = refl
+not-refused Entered t = refl
+not-refused Moved t = refl
+not-refused Quiet t = refl
+
+pub taken-back : (C : Chart) (v : AbstractMonitor) (e : LogRecord) (m : Monitor) (r : Step) → answerOf (r .answer) ≡ accept C v e .answer
+    → m .«break_record» ≡ 0 → HandsBack m r
+taken-back C v e m r q z = record {
+  refused = λ p. clash p (not-refused (r .answer) (subst Taken (sym q) (accept-taken C v e)));
+  broken = λ n. absurd (n z);
+}
+
+-- the monitor itself is handed back
+pub same-back : (m : Monitor) (r : Step) → r .next ≡ m → HandsBack m r
+same-back m r e = record { refused = λ p. e; broken = λ n. e }

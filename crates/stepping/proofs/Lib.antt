@@ -1,0 +1,6 @@
+pub mod Loops
+pub mod Ready
+pub mod Scan
+pub mod Fires
+pub mod Walk
+pub mod Back

@@ -1,0 +1,61 @@
+-- What a loop over the numbers below a bound keeps. Assumes nothing.
+use mathlib.Core.Path.{_≡_, refl, _∙_}
+use mathlib.Core.Logic.{inl, inr}
+use mathlib.Core.Bool.{Bool, true, false, or-true, or-false}
+use mathlib.Core.Option.{none, some}
+use Prim.Native.Nat.{ℕ, zero, suc, _+_, _<_}
+use native.Mathlib.Decide.{decLt, ℕ-discrete}
+use native.Mathlib.Nat.{not-suc-le-zero}
+use native.Mathlib.Numerals.{add-one}
+use native.Mathlib.Omega.{arith}
+use Rattle.rounds.specs.Base.{allBelow, someBelow, first}
+use Rattle.rounds.proofs.Facts.{split, clash, first-is, first-is-none, all-of, all-at}
+
+-- the test gave b for every number below k
+pub record SoFar (t : ℕ → Bool) (b : Bool) (k : ℕ) : Type 0 where
+  pub is : (j : ℕ) → j < k → t j ≡ b
+
+pub at-start : {t : ℕ → Bool} {b : Bool} → SoFar t b 0
+at-start = record { is = λ j l. absurd (not-suc-le-zero l) }
+
+pub one-more : {t : ℕ → Bool} {b : Bool} {k : ℕ} → SoFar t b k → t k ≡ b → SoFar t b (k + 1)
+one-more {k = k} S h = record { is = λ j l. elim (ℕ-discrete j k) [ yes q ↦ rw q h | no q ↦ S .is j (omega arith) ] }
+
+pub none-passes : {t : ℕ → Bool} {k : ℕ} (n : ℕ) → SoFar t false k → k ≡ n → first n t ≡ none
+none-passes {t} n S q = first-is-none n t (λ j l e. clash e (S .is j (omega arith)))
+
+pub first-passes : {t : ℕ → Bool} {k : ℕ} (n : ℕ) → SoFar t false k → t k ≡ true → k < n → first n t ≡ some k
+first-passes {t} {k} n S h l = first-is n t k (record {
+  below = l;
+  passes = h;
+  lowest = λ j m e. elim (decLt j k) [ yes b ↦ clash e (S .is j b) | no b ↦ omega arith ];
+})
+
+pub all-pass : {t : ℕ → Bool} {k : ℕ} (n : ℕ) → SoFar t true k → k ≡ n → allBelow n t ≡ true
+all-pass {t} n S q = all-of n t (λ j l. S .is j (omega arith))
+
+pub one-fails : (t : ℕ → Bool) (k n : ℕ) → k < n → t k ≡ false → allBelow n t ≡ false
+one-fails t k n l h = elim (split (allBelow n t)) [ inl p ↦ clash (all-at n t p k l) h | inr p ↦ p ]
+
+pub one-passes : (t : ℕ → Bool) (k n : ℕ) → k < n → t k ≡ true → someBelow n t ≡ true
+one-passes t k zero l h = absurd (not-suc-le-zero l)
+one-passes t k (suc n) l h = elim (ℕ-discrete k n) [
+  | yes q ↦ rw (← q, h) (or-true (someBelow k t))
+  | no q ↦ rw (one-passes t k n (omega arith) h)
+]
+
+-- b: some number below k passes
+pub record SomeSoFar (t : ℕ → Bool) (k : ℕ) (b : Bool) : Type 0 where
+  pub is : someBelow k t ≡ b
+
+pub some-start : {t : ℕ → Bool} → SomeSoFar t 0 false
+some-start = record { is = refl }
+
+pub some-hit : {t : ℕ → Bool} {k : ℕ} {b : Bool} → SomeSoFar t k b → t k ≡ true → SomeSoFar t (k + 1) true
+some-hit {t} {k} S h = record { is = rw (add-one, h) (or-true (someBelow k t)) }
+
+pub some-miss : {t : ℕ → Bool} {k : ℕ} {b : Bool} → SomeSoFar t k b → t k ≡ false → SomeSoFar t (k + 1) b
+some-miss {t} {k} S h = record { is = rw (add-one, h) (or-false (someBelow k t) ∙ S .is) }
+
+pub some-passes : {t : ℕ → Bool} {k : ℕ} {b : Bool} (n : ℕ) → SomeSoFar t k b → k ≡ n → someBelow n t ≡ b
+some-passes n S q = rw (← q) (S .is)

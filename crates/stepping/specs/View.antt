@@ -1,0 +1,117 @@
+-- What the numbers stand for: a compiled chart as an abstract chart, a stored monitor as its monitor.
+use mathlib.Core.Path.{_≡_}
+use mathlib.Core.Bool.{Bool, true, cond}
+use mathlib.Core.List.{List}
+use Prim.Native.Nat.{ℕ, _+_, _*_, _/_, _%_, _≤_, _<_}
+use lib.Dec.{eqb, ltb}
+use lib.IntN.{pos, _-ℤ_}
+use lib.ListN.{getD}
+use Rattle.bitset.specs.Set.{contains}
+use Rattle.model.specs.declared.Moment.{Moment}
+use Rattle.model.specs.declared.Relation.{Relation}
+use Rattle.model.specs.declared.Relation.the-variants.{Less, AtMost, Equal, AtLeast, More}
+use Rattle.model.specs.declared.Place.{Place}
+use Rattle.model.specs.declared.Monitor.{Monitor}
+use Rattle.model.specs.Chart.{mostClocks, mostRegions, mostTerms}
+use Rattle.condition.specs.Condition.{related, signed}
+use Rattle.rounds.specs.Base.{allBelow}
+use Rattle.rounds.specs.Chart.{Chart, Accepted}
+use Rattle.rounds.specs.Rows.{LogRecord}
+use Rattle.rounds.specs.Machine.{Place as AbstractPlace, Monitor as AbstractMonitor, Step as AbstractStep}
+use Rattle.stepping.specs.declared.Head.{Head}
+use Rattle.stepping.specs.declared.Step.{Step}
+use Rattle.stepping.specs.Answers.{answerOf}
+
+-- A term as one number, its word: n, then the first clock, the second clock and the relation's code, each at its place. A term of one
+-- clock has, as its second clock, a number from 8 on.
+abbrev pub firstPlace : ℕ
+firstPlace = 0x1_0000_0000
+
+abbrev pub secondPlace : ℕ
+secondPlace = 0x10_0000_0000
+
+abbrev pub relationPlace : ℕ
+relationPlace = 0x100_0000_0000
+
+-- the number of codes of a clock in a word
+abbrev pub clockCodes : ℕ
+clockCodes = 16
+
+abbrev pub numberOf : ℕ → ℕ
+numberOf w = w % firstPlace
+
+abbrev pub firstOf : ℕ → ℕ
+firstOf w = w / firstPlace % clockCodes
+
+abbrev pub secondOf : ℕ → ℕ
+secondOf w = w / secondPlace % clockCodes
+
+abbrev pub relationCode : ℕ → ℕ
+relationCode w = w / relationPlace
+
+-- the relations, by codes from 1 on
+abbrev pub relationIn : ℕ → Relation
+relationIn w = cond (eqb (relationCode w) 1) Less
+    (cond (eqb (relationCode w) 2) AtMost (cond (eqb (relationCode w) 3) Equal (cond (eqb (relationCode w) 4) AtLeast More)))
+
+-- the second clock's value; a term of one clock has no second clock: 0
+abbrev pub secondValue : ℕ → (ℕ → ℕ) → ℕ
+secondValue w v = cond (ltb (secondOf w) mostClocks) (v (secondOf w)) 0
+
+-- the word's term holds, given each clock's value; with code 0 there is no term
+unfoldable pub holdsBy : ℕ → (ℕ → ℕ) → Bool
+holdsBy w v = cond (eqb (relationCode w) 0) true
+    (related (relationIn w) (pos (v (firstOf w)) -ℤ pos (secondValue w v)) (signed (numberOf w)))
+
+-- the condition of region i: its four words
+abbrev pub conditionBy : List ℕ → ℕ → (ℕ → ℕ) → Bool
+conditionBy terms i v = allBelow mostTerms (λ j. holdsBy (getD terms (i * mostTerms + j) 0) v)
+
+-- the chart that the numbers stand for
+abbrev pub planChart : Head → List ℕ → List ℕ → List ℕ → List ℕ → Chart
+planChart h keys above resets terms = record {
+  regions = h .count;
+  prechart = h .prechart;
+  clocks = h .clocks;
+  key = λ i. getD keys i 0;
+  above = λ a i. contains (getD above i 0) a;
+  resets = λ i c. contains (getD resets i 0) c;
+  condition = conditionBy terms;
+  hot = contains (h .hot);
+}
+
+-- what compiling an accepted chart gives
+pub record Compiled (h : Head) (keys above resets terms : List ℕ) : Type 0 where
+  pub regions : h .count ≤ mostRegions
+  pub clocks : h .clocks ≤ mostClocks
+  -- the set of plain regions
+  pub plain : (i : ℕ) → i < h .count → contains (h .plain) i ≡ eqb (getD keys i 0) 0
+  pub accepted : Accepted (planChart h keys above resets terms)
+
+-- each clock's reset moment
+abbrev pub momentsOf : List Moment → ℕ → ℕ
+momentsOf l c = getD l c (record { 0 = 0 }) .0
+
+-- a stored place
+abbrev pub placeAt : Place → AbstractPlace
+placeAt p = record { fired = contains (p .fired); clocks = momentsOf (p .resets) }
+
+-- a record by its code, 0 where only time passes, and its time
+abbrev pub recordOf : ℕ → ℕ → LogRecord
+recordOf code t = record { time = t; code = code }
+
+-- a stored monitor
+abbrev pub monitorAt : Monitor → AbstractMonitor
+monitorAt m = record {
+  at = placeAt (m .at);
+  now = m .now .0;
+  records = m .records;
+  kept = m .kept;
+  dropped = m .dropped;
+  break = m .«break_record»;
+  reason = m .reason;
+}
+
+-- an answer with the monitor behind it
+abbrev pub stepOf : Step → AbstractStep
+stepOf s = record { answer = answerOf (s .answer); next = monitorAt (s .next) }

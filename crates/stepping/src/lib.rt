@@ -1,0 +1,560 @@
+// One record taken by a fit monitor. A chart comes as numbers: its head, and four arrays lent beside it.
+use model::CLOCK_PLACES;
+use model::Length;
+use model::MOST_RECORDS;
+use model::MOST_REGIONS;
+use model::MOST_TERMS;
+use model::Moment;
+use model::Monitor;
+use model::Place;
+use model::Relation;
+ghost use mathlib.Core.Path.{_≡_};
+ghost use mathlib.Core.Bool.{So, _&&_, not, cond};
+ghost use mathlib.Core.List.{List};
+ghost use Prim.Native.Nat.{ℕ, _<_, _≤_, _+_, _-_, _^_};
+ghost use lib.ListN.{getD};
+ghost use Rattle.bitset.specs.Set.{contains};
+ghost use Rattle.model.specs.Chart.{mostRegions, mostClocks};
+ghost use Rattle.rounds.specs.Base.{first, allBelow};
+ghost use Rattle.rounds.specs.Chart.{Chart};
+ghost use Rattle.rounds.specs.Rows.{Ready};
+ghost use Rattle.rounds.specs.Feeds.{mostRecords, entered, moved};
+ghost use Rattle.rounds.specs.Machine.{stuck, opening as opened, goOn, keepRound, dropRound, breakRound, conclude as concluded, accept as accepted, feed as fed, Fit};
+ghost use Rattle.stepping.specs.declared.Rest.the-variants.{Fails as FailsAt};
+ghost use Rattle.stepping.specs.Answers.{feedRefusalNumber, answerNumber, answerOf, HandsBack};
+ghost use Rattle.stepping.specs.View.{momentsOf, relationIn, holdsBy, conditionBy, planChart, placeAt, recordOf, monitorAt, stepOf, Compiled};
+ghost use Rattle.stepping.specs.Parts.{readyBy, foundOf, soughtBy, valueAt, fireBy, takenAt, moveOf};
+
+pub const TERM_PLACES: usize = MOST_REGIONS * MOST_TERMS;
+
+// A term's word: n below FIRST_PLACE, then the first clock, the second clock and the relation's code, each at its place.
+pub const FIRST_PLACE: u64 = 0x1_0000_0000;
+
+pub const SECOND_PLACE: u64 = 0x10_0000_0000;
+
+pub const RELATION_PLACE: u64 = 0x100_0000_0000;
+
+pub const CLOCK_CODES: u64 = 16;
+
+// The reasons of a break.
+pub const NO_READY_REGION: u8 = 1;
+
+pub const CONDITION_FAILS: u8 = 2;
+
+// A compiled chart's numbers; `plain` and `hot` are sets of regions.
+pub struct Head {
+    pub count: usize,
+    pub prechart: usize,
+    pub clocks: usize,
+    pub plain: u32,
+    pub hot: u32,
+}
+
+// Why a record is refused.
+pub enum FeedRefusal {
+    NotAChart,
+    Unfit,
+    TimeFalls,
+    TooManyRecords,
+}
+
+// The answer for a record; a break with its record and reason.
+pub enum Answer {
+    Refused(FeedRefusal),
+    Broken(u32, u8),
+    Kept,
+    Dropped,
+    Entered,
+    Moved,
+    Quiet,
+}
+
+// What a feed gives.
+pub struct Step {
+    pub answer: Answer,
+    pub next: Monitor,
+}
+
+// The refusal's number.
+pub fn refusal_number(k: FeedRefusal) -> u8
+    ensures { λ r. ⌜ r ≡ feedRefusalNumber k ⌝ }
+{
+    match k {
+        FeedRefusal::NotAChart => 20,
+        FeedRefusal::Unfit => 21,
+        FeedRefusal::TimeFalls => 22,
+        FeedRefusal::TooManyRecords => 23,
+    }
+}
+
+// The answer's number.
+pub fn answer_number(a: Answer) -> u8
+    ensures { λ r. ⌜ r ≡ answerNumber a ⌝ }
+{
+    match a {
+        Answer::Refused(k) => refusal_number(k),
+        Answer::Broken(_, _) => 1,
+        Answer::Kept => 2,
+        Answer::Dropped => 3,
+        Answer::Entered => 4,
+        Answer::Moved => 5,
+        Answer::Quiet => 6,
+    }
+}
+
+// Region i isn't fired, and those above it are.
+fn is_ready(above: &[u32; MOST_REGIONS], fired: u32, i: usize) -> bool
+    requires { ⌜ i < mostRegions ⌝ }
+    ensures { λ r. ⌜ r ≡ readyBy (now (above .entry)) fired i ⌝ }
+{
+    !bitset::member(fired, i as u32) & bitset::subset(above[i], fired)
+}
+
+// What a search for a region finds.
+pub enum Found {
+    At(usize),
+    Nothing,
+}
+
+// The lowest plain region that is ready.
+pub fn ready_plain(plain: u32, above: &[u32; MOST_REGIONS], count: usize, fired: u32) -> Found
+    requires { ⌜ count ≤ mostRegions ⌝ }
+    ensures { λ r. ⌜ foundOf r ≡ first count (λ i. contains plain i && readyBy (now (above .entry)) fired i) ⌝ }
+{
+    if bitset::subset(plain, fired) {
+        return Found::Nothing;
+    }
+    let mut i: usize = 0;
+    while i < count {
+        if bitset::member(plain, i as u32) && is_ready(above, fired, i) {
+            return Found::At(i);
+        }
+        i += 1;
+    }
+    Found::Nothing
+}
+
+// What the chart has for a message: a ready region, only regions that aren't ready, or no region.
+enum Sought {
+    Ready(usize),
+    Unready,
+    Foreign,
+}
+
+// The ready region that has the message, in one scan that also tells whether any region has it.
+fn seek(
+    keys: &[u64; MOST_REGIONS],
+    above: &[u32; MOST_REGIONS],
+    count: usize,
+    fired: u32,
+    code: u64,
+) -> Sought
+    requires { ⌜ count ≤ mostRegions ⌝ }
+    ensures { λ r. ⌜ r ≡ soughtBy (now (keys .entry)) (now (above .entry)) count fired code ⌝ }
+{
+    let mut known = false;
+    let mut i: usize = 0;
+    while i < count {
+        if keys[i] == code {
+            if is_ready(above, fired, i) {
+                return Sought::Ready(i);
+            }
+            known = true;
+        }
+        i += 1;
+    }
+    if known {
+        Sought::Unready
+    } else {
+        Sought::Foreign
+    }
+}
+
+// A clock's value at moment t; beyond the chart's clocks it is 0.
+fn clock_value(clocks: usize, resets: [Moment; CLOCK_PLACES], t: Moment, c: usize) -> Length
+    requires { ⌜ clocks ≤ mostClocks ⌝ }
+    ensures { λ r. ⌜ r .0 ≡ valueAt clocks (t .0) resets c ⌝ }
+{
+    if c < clocks {
+        let m = resets[c];
+        return t.since(m);
+    }
+    Length(0)
+}
+
+// The relation of a term's word.
+fn relation_in(word: u64) -> Relation
+    ensures { λ r. ⌜ r ≡ relationIn word ⌝ }
+{
+    match word / RELATION_PLACE {
+        1 => Relation::Less,
+        2 => Relation::AtMost,
+        3 => Relation::Equal,
+        4 => Relation::AtLeast,
+        _ => Relation::More,
+    }
+}
+
+// The term of a word holds; relation code 0 is no term.
+fn term_holds(word: u64, clocks: usize, resets: [Moment; CLOCK_PLACES], t: Moment) -> bool
+    requires { ⌜ clocks ≤ mostClocks ⌝ }
+    ensures { λ r. ⌜ r ≡ holdsBy word (valueAt clocks (t .0) resets) ⌝ }
+{
+    if word / RELATION_PLACE == 0 {
+        return true;
+    }
+    let first = clock_value(
+        clocks,
+        resets,
+        t,
+        (word / FIRST_PLACE % CLOCK_CODES) as usize,
+    );
+    let second = clock_value(
+        clocks,
+        resets,
+        t,
+        (word / SECOND_PLACE % CLOCK_CODES) as usize,
+    );
+    let n = (word % FIRST_PLACE) as u32;
+    condition::compares(relation_in(word), first, second, n)
+}
+
+// All terms of region i hold.
+fn holds(
+    terms: &[u64; TERM_PLACES],
+    clocks: usize,
+    resets: [Moment; CLOCK_PLACES],
+    i: usize,
+    t: Moment,
+) -> bool
+    requires { ⌜ i < mostRegions ⌝ }
+    requires { ⌜ clocks ≤ mostClocks ⌝ }
+    ensures { λ r. ⌜ r ≡ conditionBy (now (terms .entry)) i (valueAt clocks (t .0) resets) ⌝ }
+{
+    let mut j: usize = 0;
+    while j < MOST_TERMS {
+        if !term_holds(terms[i * MOST_TERMS + j], clocks, resets, t) {
+            return false;
+        }
+        j += 1;
+    }
+    true
+}
+
+// x if b, otherwise y.
+fn pick(b: bool, x: Moment, y: Moment) -> Moment
+    ensures { λ r. ⌜ r .0 ≡ cond b (x .0) (y .0) ⌝ }
+{
+    if b { x } else { y }
+}
+
+// The reset moments once the clocks of the set are reset at moment t.
+fn reset_clocks(set: u32, old: [Moment; CLOCK_PLACES], t: Moment) -> [Moment; CLOCK_PLACES]
+    requires { ⌜ ((c : ℕ) → So (contains set c) → c < mostClocks) ⌝ }
+    ensures { λ r. ⌜ ((c : ℕ) → momentsOf r c ≡ cond (contains set c) (t .0) (momentsOf old c)) ⌝ }
+{
+    if set == 0 {
+        return old;
+    }
+    let mut out = old;
+    let mut c: usize = 0;
+    while c < CLOCK_PLACES {
+        let v = pick(bitset::member(set, c as u32), t, old[c]);
+        out[c] = v;
+        c += 1;
+    }
+    out
+}
+
+// The place with region i fired at moment t, its clocks reset.
+fn fire(resets: &[u32; MOST_REGIONS], p: Place, i: usize, t: Moment) -> Place
+    requires { ⌜ i < mostRegions ⌝ }
+    requires { ⌜ ((c : ℕ) → So (contains (getD (now resets) i 0) c) → c < mostClocks) ⌝ }
+    ensures { λ r. ⌜ placeAt r ≡ fireBy (now (resets .entry)) (t .0) p i ⌝ }
+{
+    let old = p.resets;
+    let moments = reset_clocks(resets[i], old, t);
+    Place {
+        fired: bitset::insert(p.fired, i as u32),
+        resets: moments,
+    }
+}
+
+// How steps 3 and 4 end: nothing more is ready, or a region's condition fails.
+enum Rest {
+    Rests,
+    Fails(usize),
+}
+
+// A rest, and the place at it: before the region that fails.
+struct Settled {
+    rest: Rest,
+    place: Place,
+}
+
+// Steps 3 and 4, from the ready region that has the message: it is tested on the clocks before its own resets and fires; then, while
+// a plain region is ready, the lowest likewise.
+fn take_region<'a>(
+    h: Head,
+    keys: &'a [u64; MOST_REGIONS],
+    above: &'a [u32; MOST_REGIONS],
+    resets: &'a [u32; MOST_REGIONS],
+    terms: &'a [u64; TERM_PLACES],
+    p: Place,
+    i: usize,
+    t: Moment,
+) -> Settled
+    requires { ⌜ Compiled h (now keys) (now above) (now resets) (now terms) ⌝ }
+    requires { ⌜ Ready (planChart h (now keys) (now above) (now resets) (now terms)) (contains (p .fired)) i ⌝ }
+    ensures place { λ r. ⌜ moveOf r ≡ takenAt (planChart h (now (keys .entry)) (now (above .entry)) (now (resets .entry)) (now (terms .entry))) (t .0) (placeAt p) i ⌝ }
+    ensures region { λ r. ⌜ ((j : ℕ) → r .rest ≡ FailsAt j → j < mostRegions) ⌝ }
+{
+    let mut q = p;
+    let mut k = i;
+    loop {
+        let next = fire(resets, q, k, t);
+        let clocks = q.resets;
+        if !holds(terms, h.clocks, clocks, k, t) {
+            return Settled {
+                rest: Rest::Fails(k),
+                place: q,
+            };
+        }
+        q = next;
+        let f = ready_plain(h.plain, above, h.count, q.fired);
+        let Found::At(j) = f else {
+            return Settled {
+                rest: Rest::Rests,
+                place: q,
+            };
+        };
+        k = j;
+    }
+}
+
+// The set of all numbers below n.
+fn below(n: usize) -> u32
+    requires { ⌜ n ≤ mostRegions ⌝ }
+    ensures { λ r. ⌜ r ≡ 2 ^ n - 1 ⌝ }
+{
+    let i = n as u32;
+    ((1u64 << i) - 1) as u32
+}
+
+// All regions below n are fired.
+pub fn all_fired(n: usize, fired: u32) -> bool
+    requires { ⌜ n ≤ mostRegions ⌝ }
+    ensures { λ r. ⌜ r ≡ allBelow n (contains fired) ⌝ }
+{
+    bitset::subset(below(n), fired)
+}
+
+// Nothing fired, every clock reset at moment t.
+fn opening(clocks: usize, t: Moment) -> Place
+    requires { ⌜ clocks ≤ mostClocks ⌝ }
+    ensures { λ r. ⌜ ((C : Chart) → C .clocks ≡ clocks → placeAt r ≡ opened C (t .0)) ⌝ }
+{
+    let zero = Moment(0);
+    let resets = reset_clocks(below(clocks), [zero; CLOCK_PLACES], t);
+    Place { fired: 0, resets }
+}
+
+// The record is counted, and the round runs on at a place.
+fn go_on(m: Monitor, t: Moment, answer: Answer, place: Place) -> Step
+    requires { ⌜ m .records < mostRecords ⌝ }
+    ensures { λ r. ⌜ ((C : Chart) (code : ℕ) → stepOf r ≡ goOn C (monitorAt m) (recordOf code (t .0)) (answerOf answer) (placeAt place)) ⌝ }
+{
+    Step {
+        answer,
+        next: Monitor {
+            at: place,
+            now: t,
+            records: m.records + 1,
+            kept: m.kept,
+            dropped: m.dropped,
+            break_record: 0,
+            reason: 0,
+        },
+    }
+}
+
+// The record is counted, and the round is kept.
+fn keep_round(clocks: usize, m: Monitor, t: Moment) -> Step
+    requires { ⌜ clocks ≤ mostClocks ⌝ }
+    requires { ⌜ (m .records < mostRecords) × (m .kept ≤ m .records) ⌝ }
+    ensures { λ r. ⌜ ((C : Chart) (code : ℕ) → C .clocks ≡ clocks → stepOf r ≡ keepRound C (monitorAt m) (recordOf code (t .0))) ⌝ }
+{
+    let place = opening(clocks, t);
+    Step {
+        answer: Answer::Kept,
+        next: Monitor {
+            at: place,
+            now: t,
+            records: m.records + 1,
+            kept: m.kept + 1,
+            dropped: m.dropped,
+            break_record: 0,
+            reason: 0,
+        },
+    }
+}
+
+// The record is counted, and the round is dropped.
+fn drop_round(clocks: usize, m: Monitor, t: Moment) -> Step
+    requires { ⌜ clocks ≤ mostClocks ⌝ }
+    requires { ⌜ (m .records < mostRecords) × (m .dropped ≤ m .records) ⌝ }
+    ensures { λ r. ⌜ ((C : Chart) (code : ℕ) → C .clocks ≡ clocks → stepOf r ≡ dropRound C (monitorAt m) (recordOf code (t .0))) ⌝ }
+{
+    let place = opening(clocks, t);
+    Step {
+        answer: Answer::Dropped,
+        next: Monitor {
+            at: place,
+            now: t,
+            records: m.records + 1,
+            kept: m.kept,
+            dropped: m.dropped + 1,
+            break_record: 0,
+            reason: 0,
+        },
+    }
+}
+
+// The record is counted, and the round is broken at it.
+fn break_round(m: Monitor, t: Moment, reason: u8, place: Place) -> Step
+    requires { ⌜ m .records < mostRecords ⌝ }
+    ensures { λ r. ⌜ ((C : Chart) (code : ℕ) → stepOf r ≡ breakRound C (monitorAt m) (recordOf code (t .0)) reason (placeAt place)) ⌝ }
+{
+    let n = m.records + 1;
+    Step {
+        answer: Answer::Broken(n, reason),
+        next: Monitor {
+            at: place,
+            now: t,
+            records: n,
+            kept: m.kept,
+            dropped: m.dropped,
+            break_record: n,
+            reason,
+        },
+    }
+}
+
+// The answer where a round runs on: was the prechart complete before, and is it after?
+fn entered_or_moved(before: bool, after: bool) -> Answer
+    ensures { λ r. ⌜ answerOf r ≡ cond (not before && after) entered moved ⌝ }
+{
+    if !before & after {
+        return Answer::Entered;
+    }
+    Answer::Moved
+}
+
+// Step 6: a chart message with no ready region.
+fn unplaced(h: Head, m: Monitor, t: Moment) -> Step
+    requires { ⌜ (h .prechart ≤ mostRegions) × (h .clocks ≤ mostClocks) ⌝ }
+    requires { ⌜ (m .records < mostRecords) × (m .kept + m .dropped ≤ m .records) ⌝ }
+    ensures { λ r. ⌜ ((keys above resets terms : List ℕ) (code : ℕ) → stepOf r ≡ concluded (planChart h keys above resets terms) (monitorAt m) (recordOf code (t .0)) stuck) ⌝ }
+{
+    let at = m.at;
+    if all_fired(h.prechart, at.fired) {
+        return break_round(m, t, NO_READY_REGION, at);
+    }
+    drop_round(h.clocks, m, t)
+}
+
+// Steps 5 and 7.
+fn conclude(h: Head, m: Monitor, t: Moment, s: Settled) -> Step
+    requires { ⌜ (h .count ≤ mostRegions) × (h .prechart ≤ mostRegions) × (h .clocks ≤ mostClocks) ⌝ }
+    requires { ⌜ (m .records < mostRecords) × (m .kept + m .dropped ≤ m .records) ⌝ }
+    requires { ⌜ ((i : ℕ) → s .rest ≡ FailsAt i → i < mostRegions) ⌝ }
+    ensures { λ r. ⌜ ((keys above resets terms : List ℕ) (code : ℕ) → stepOf r ≡ concluded (planChart h keys above resets terms) (monitorAt m) (recordOf code (t .0)) (moveOf s)) ⌝ }
+{
+    let rest = s.rest;
+    let place = s.place;
+    let at = m.at;
+    match rest {
+        Rest::Fails(i) => {
+            if bitset::member(h.hot, i as u32) {
+                return break_round(m, t, CONDITION_FAILS, place);
+            }
+            drop_round(h.clocks, m, t)
+        }
+        Rest::Rests => {
+            if all_fired(h.count, place.fired) {
+                return keep_round(h.clocks, m, t);
+            }
+            let before = all_fired(h.prechart, at.fired);
+            let after = all_fired(h.prechart, place.fired);
+            go_on(m, t, entered_or_moved(before, after), place)
+        }
+    }
+}
+
+// A record that is neither refused nor behind a break.
+pub fn accept<'a>(
+    h: Head,
+    keys: &'a [u64; MOST_REGIONS],
+    above: &'a [u32; MOST_REGIONS],
+    resets: &'a [u32; MOST_REGIONS],
+    terms: &'a [u64; TERM_PLACES],
+    m: Monitor,
+    code: u64,
+    t: Moment,
+) -> Step
+    requires { ⌜ Compiled h (now keys) (now above) (now resets) (now terms) ⌝ }
+    requires { ⌜ (m .records < mostRecords) × (m .kept + m .dropped ≤ m .records) ⌝ }
+    ensures { λ r. ⌜ stepOf r ≡ accepted (planChart h (now (keys .entry)) (now (above .entry)) (now (resets .entry)) (now (terms .entry))) (monitorAt m) (recordOf code (t .0)) ⌝ }
+{
+    let at = m.at;
+    if code == 0 {
+        return go_on(m, t, Answer::Quiet, at);
+    }
+    let sought = seek(keys, above, h.count, at.fired, code);
+    match sought {
+        Sought::Foreign => go_on(m, t, Answer::Quiet, at),
+        Sought::Unready => unplaced(h, m, t),
+        Sought::Ready(i) => {
+            let s = take_region(h, keys, above, resets, terms, at, i, t);
+            conclude(h, m, t, s)
+        }
+    }
+}
+
+// Feeding a record to a fit monitor; code 0 is a record of time.
+pub fn feed_fit<'a>(
+    h: Head,
+    keys: &'a [u64; MOST_REGIONS],
+    above: &'a [u32; MOST_REGIONS],
+    resets: &'a [u32; MOST_REGIONS],
+    terms: &'a [u64; TERM_PLACES],
+    m: Monitor,
+    code: u64,
+    t: Moment,
+) -> Step
+    requires { ⌜ Compiled h (now keys) (now above) (now resets) (now terms) ⌝ }
+    requires { ⌜ Fit (planChart h (now keys) (now above) (now resets) (now terms)) (monitorAt m) ⌝ }
+    ensures step { λ r. ⌜ stepOf r ≡ fed (planChart h (now (keys .entry)) (now (above .entry)) (now (resets .entry)) (now (terms .entry))) (monitorAt m) (recordOf code (t .0)) ⌝ }
+    ensures back { λ r. ⌜ HandsBack m r ⌝ }
+{
+    let now = m.now;
+    if m.break_record != 0 {
+        return Step {
+            answer: Answer::Broken(m.break_record, m.reason),
+            next: m,
+        };
+    }
+    if t.0 < now.0 {
+        return Step {
+            answer: Answer::Refused(FeedRefusal::TimeFalls),
+            next: m,
+        };
+    }
+    if MOST_RECORDS <= m.records {
+        return Step {
+            answer: Answer::Refused(FeedRefusal::TooManyRecords),
+            next: m,
+        };
+    }
+    accept(h, keys, above, resets, terms, m, code, t)
+}
