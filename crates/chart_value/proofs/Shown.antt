@@ -104,7 +104,7 @@ module _ (c : Chart) (w : WellFormed c) where
 
 -- said of bytes
 pub shown-of : (s : List ℕ) (c : Chart) → readChart s ≡ acceptedAs c → Shown c
-shown-of s c e = let w = wf-of c (sound s c e .fine) in record { accepted = accepted c w; order = order c w }
+shown-of s c e = let w = wf-of c (sound s c e .fine) in record { accepted = accepted c w; region = inside c w; order = order c w }
 
 pub shown : (c : Chart) → Given c → Shown c
 shown c g = shown-of (g .bytes) c (g .accepted)

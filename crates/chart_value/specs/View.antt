@@ -45,6 +45,8 @@ chartOf c =
 -- What the view keeps of a chart that some accepted bytes give.
 pub record Shown (c : Chart) : Type 0 where
   pub accepted : Accepted (chartOf c)
+  -- each region is shown as it is stored: its message's code, its resets, its condition and its temperature
+  pub region : (i : ℕ) → i < c .count → regionOf c i ≡ regionAt c i
   -- the abstract chart's order is document 01's
   pub order : (a b : ℕ) → So (chartOf c .above a b) ↔ ((b < c .count) × AboveIn c a b)
 

@@ -1,11 +1,13 @@
 // Feeds logs to charts record by record. Standard input has a line for each: a name, ':', the chart's bytes in hexadecimal, '/', the
 // log's. For each record it writes the answer's number, and of the monitor then handed back: fired regions as a set, now, records, kept,
-// dropped, break, reason, and the reset moment of clock 0. The expected lines, in the file stdout, are worked out from the scope.
+// dropped, break, reason, and each clock's reset moment. The expected lines, in the file stdout, are worked out from the scope.
 use libc::STDIN_FILENO;
 use libc::STDOUT_FILENO;
 use lines::COLON;
 use lines::LINE_FEED;
 use log_reader::Next;
+use model::CLOCK_PLACES;
+use model::Moment;
 use model::Monitor;
 use stepping::Step;
 
@@ -20,10 +22,19 @@ fn put_number(n: u32) {
     io::print_decimal(STDOUT_FILENO, n as u64);
 }
 
+fn put_moments(moments: [Moment; CLOCK_PLACES]) {
+    let mut k: usize = 0;
+    while k < CLOCK_PLACES {
+        let t = moments[k];
+        put_number(t.0);
+        k += 1;
+    }
+}
+
 fn put_monitor(m: Monitor) {
     let at = m.at;
     let now = m.now;
-    let first = at.resets[0];
+    let moments = at.resets;
     put_number(at.fired);
     put_number(now.0);
     put_number(m.records);
@@ -31,7 +42,7 @@ fn put_monitor(m: Monitor) {
     put_number(m.dropped);
     put_number(m.break_record);
     put_number(m.reason as u32);
-    put_number(first.0);
+    put_moments(moments);
 }
 
 fn put_step(s: Step) {

@@ -1,4 +1,5 @@
 // Lines of text with bytes in hexadecimal, for the programs that run stored examples.
+ghost use mathlib.Core.Path.{_≡_};
 ghost use Prim.Native.Nat.{_≤_, _<_};
 ghost use lib.ListN.{length};
 
@@ -18,7 +19,8 @@ pub fn digit(b: u8) -> u8 {
 // The first place from `from` on, and before `to`, that holds the byte; `to` if none does.
 pub fn find(text: &[u8], from: usize, to: usize, byte: u8) -> usize
     requires { ⌜ (from ≤ to) × (to ≤ length (now text)) ⌝ }
-    ensures { λ r. ⌜ (from ≤ r) × (r ≤ to) ⌝ }
+    ensures between { λ r. ⌜ (from ≤ r) × (r ≤ to) ⌝ }
+    ensures unchanged { λ r. ⌜ now (text .exit) ≡ now (text .entry) ⌝ }
 {
     let mut i = from;
     while i < to {
