@@ -2,8 +2,7 @@
 use mathlib.Core.Path.{_≡_, refl, sym, ap, subst, _∙_}
 use mathlib.Core.Logic.{_≢_}
 use mathlib.Core.List.{List}
-use Prim.Native.Nat.{ℕ, suc, _-_, _<_}
-use native.Mathlib.Omega.{arith}
+use Prim.Native.Nat.{ℕ, _-_, _<_}
 use lib.ListN.{length}
 use Rattle.model.specs.declared.Chart.{Chart}
 use Rattle.model.specs.declared.Monitor.{Monitor}
@@ -14,18 +13,27 @@ use Rattle.chart_reader.specs.Read.{Said, said, readChart, acceptedAs, numberOf
 use Rattle.chart_value.proofs.Shown.{shown-of}
 use Rattle.chart_value.proofs.Sound.{sound}
 use Rattle.log_reader.specs.declared.RecordRefusal.{RecordRefusal}
-use Rattle.log_reader.specs.declared.Next.{Next}
 use Rattle.log_reader.specs.declared.Next.the-variants.{End, Refused, Taken}
 use Rattle.log_reader.specs.Record.{nextAt}
 use Rattle.rounds.specs.Base.{Snoc, ε, _▸_}
 use Rattle.rounds.specs.Feeds.{Answer as Told}
+use Rattle.rounds.specs.Machine.{after}
+use Rattle.rounds.specs.Demand3.{Meaning}
+use Rattle.rounds.proofs.Demand3.{demand-3}
+use Rattle.chart_value.specs.View.{chartOf}
+use Rattle.judge.specs.declared.Checked.the-variants.{Fine}
+use Rattle.judge.specs.Check.{checkLog}
+use Rattle.judge.specs.Judge.{judgeOf}
 use Rattle.stepping.specs.declared.Step.{Step}
 use Rattle.stepping.specs.View.{stepOf}
 use Rattle.monitor.specs.Feed.{feedOf}
-use Rattle.monitor.specs.Runs.{Run, none-yet, one-more, Demand3Of}
+use Rattle.monitor.specs.Runs.{Run, none-yet, one-more, logged, Demand3Of}
 use Rattle.monitor.proofs.Runs.{demand-3-of}
 use Rattle.claims.specs.declared.Watched.{Watched}
-use Rattle.claims.specs.Watch.{onRecord, recordsFrom, recordsIn, FedAll, Watches}
+use Rattle.claims.specs.Judged.{JudgedBy}
+use Rattle.claims.specs.Watch.{FedAll, Watches}
+use Rattle.log_reader.specs.Records.{recordsFrom, recordsIn}
+use Rattle.log_reader.proofs.Records.{one-record}
 
 -- the third demand of every chart that is read
 pub demand-3-read : (bytes : List ℕ) (c : Chart) → readChart bytes ≡ acceptedAs c → Demand3Of c
@@ -37,13 +45,6 @@ pub record SoFar (c : Chart) (s : List ℕ) (m : Monitor) (at left : ℕ) : Type
   pub told : Snoc Told
   pub run : Run c before told m
   pub rest : recordsFrom left s at before ≡ recordsIn s
-
-one-record : (s : List ℕ) (at left : ℕ) → 0 < left → (es : Snoc Record) (n : Next) → nextAt s at ≡ n
-    → recordsFrom left s at es ≡ onRecord (λ e place. recordsFrom (left - 1) s place (es ▸ e)) n es
-unfolding recordsFrom
-one-record s at left h es n q =
-    let k : left ≡ suc (left - 1) = omega arith in
-    ap (λ (j : ℕ). recordsFrom j s at es) k ∙ ap (λ (x : Next). onRecord (λ e place. recordsFrom (left - 1) s place (es ▸ e)) x es) q
 
 pub at-start : {c : Chart} {s : List ℕ} (m : Monitor) → m ≡ zeroMonitor → SoFar c s m 0 (length s)
 unfolding recordsIn
@@ -84,4 +85,14 @@ watched chart log x r e a z f = record {
   fed = λ c q.
       subst (λ (d : Chart). FedAll d (recordsIn log) (r .monitor)) (ap (λ (s : Said). s .chart) (e ∙ q)) (f (ap (λ (s : Said). s .number) (e ∙ q)));
   demand-3 = demand-3-read chart;
+}
+
+-- the verdict, by the stretches
+pub judged-read : (bytes log : List ℕ) (c : Chart) (n : ℕ) → readChart bytes ≡ acceptedAs c → checkLog log ≡ Fine n
+    → (M : Meaning (chartOf c) (logged (recordsIn log))) → JudgedBy c log M
+unfolding judgeOf
+judged-read bytes log c n e q M = record {
+  monitor = after (chartOf c) (logged (recordsIn log));
+  verdict = rw (sound bytes c e .fine, q);
+  agrees = demand-3 (chartOf c) (shown-of bytes c e .accepted) .monitor-agrees M .1;
 }

@@ -7,9 +7,14 @@ use Rattle.chart_reader.specs.declared.ChartRead.{ChartRead}
 use Rattle.chart_reader.specs.Read.{said, readChart, acceptedAs}
 use Rattle.model.specs.declared.Chart.{Chart}
 use Rattle.chart_value.specs.Given.{Given}
-use Rattle.chart_value.specs.View.{Shown, CodesTell}
+use Rattle.chart_value.specs.View.{chartOf, Shown, CodesTell}
 use Rattle.chart_value.specs.Guards.{NeverFire}
-use Rattle.monitor.specs.Runs.{Demand3Of, ViewTells}
+use Rattle.rounds.specs.Demand3.{Meaning}
+use Rattle.log_reader.specs.Records.{recordsIn}
+use Rattle.monitor.specs.Runs.{logged, Demand3Of, ViewTells}
+use Rattle.judge.specs.declared.Checked.the-variants.{Fine}
+use Rattle.judge.specs.Check.{checkLog}
+use Rattle.claims.specs.Judged.{JudgedBy}
 use Rattle.claims.specs.Examples.{allRead, chartExamples}
 
 pub record Claims : Type 0 where
@@ -23,6 +28,9 @@ pub record Claims : Type 0 where
   pub guards : NeverFire
   -- the third demand, of every list of feeds with a chart that is read from bytes
   pub demand-3 : (bytes : List ℕ) (c : Chart) → readChart bytes ≡ acceptedAs c → Demand3Of c
+  -- the verdict over a log that is not refused is what the stretches of its records give
+  pub judged : (bytes log : List ℕ) (c : Chart) (n : ℕ) → readChart bytes ≡ acceptedAs c → checkLog log ≡ Fine n
+      → (M : Meaning (chartOf c) (logged (recordsIn log))) → JudgedBy c log M
   -- the view through which feeding's promise speaks fixes every field of the monitor
   pub view-tells : ViewTells
   -- the ◆ examples of charts

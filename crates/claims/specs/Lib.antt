@@ -1,3 +1,4 @@
 pub mod Examples
 pub mod Watch
+pub mod Judged
 pub mod Claims

@@ -2,34 +2,17 @@
 use mathlib.Core.Path.{_≡_}
 use mathlib.Core.Logic.{_≢_}
 use mathlib.Core.List.{List}
-use Prim.Native.Nat.{ℕ, zero, suc}
-use lib.ListN.{length}
+use Prim.Native.Nat.{ℕ}
 use Rattle.model.specs.declared.Chart.{Chart}
 use Rattle.model.specs.declared.Monitor.{Monitor}
 use Rattle.model.specs.declared.Record.{Record}
 use Rattle.model.specs.Monitor.{zeroMonitor}
 use Rattle.chart_reader.specs.Read.{readChart, acceptedAs, numberOf, offsetOf}
-use Rattle.log_reader.specs.declared.Next.{Next}
-use Rattle.log_reader.specs.declared.Next.the-variants.{End, Refused, Taken}
-use Rattle.log_reader.specs.Record.{nextAt}
-use Rattle.rounds.specs.Base.{Snoc, ε, _▸_}
+use Rattle.log_reader.specs.Records.{recordsIn}
+use Rattle.rounds.specs.Base.{Snoc}
 use Rattle.rounds.specs.Feeds.{Answer as Told}
 use Rattle.monitor.specs.Runs.{Run, Demand3Of}
 use Rattle.claims.specs.declared.Watched.{Watched}
-
-abbrev pub onRecord : (Record → ℕ → Snoc Record) → Next → Snoc Record → Snoc Record
-onRecord k End es = es
-onRecord k (Refused f) es = es
-onRecord k (Taken e place) es = k e place
-
--- the records from a place on, behind those read before; at most n
-unfoldable pub recordsFrom : ℕ → List ℕ → ℕ → Snoc Record → Snoc Record
-recordsFrom zero s at es = es
-recordsFrom (suc n) s at es = onRecord (λ e place. recordsFrom n s place (es ▸ e)) (nextAt s at) es
-
--- the log's records from the left, to the end or to the first place where none stands
-unfoldable pub recordsIn : List ℕ → Snoc Record
-recordsIn s = recordsFrom (length s) s 0 ε
 
 -- the monitor m after feeding these records to a fresh one, with the answers told
 pub record FedAll (c : Chart) (es : Snoc Record) (m : Monitor) : Type 0 where

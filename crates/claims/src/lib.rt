@@ -6,7 +6,8 @@ use model::Monitor;
 ghost use mathlib.Core.Path.{_≡_};
 ghost use Rattle.model.specs.Monitor.{zeroMonitor};
 ghost use Rattle.claims.specs.Claims.{Claims};
-ghost use Rattle.claims.specs.Watch.{recordsIn, FedAll, Watches};
+ghost use Rattle.log_reader.specs.Records.{recordsIn};
+ghost use Rattle.claims.specs.Watch.{FedAll, Watches};
 
 // What reading the chart said, and the monitor after the log's records.
 pub struct Watched {

@@ -49,7 +49,7 @@ zero-moments k = by (decLt k mostClocks)
         let l : length (replicate {A = Moment} mostClocks (record { 0 = 0 })) ≤ k = simp length-replicate (omega arith) in
         ap (λ (x : Moment). x .0) (List·getD-eq-default (replicate mostClocks (record { 0 = 0 })) (record { 0 = 0 }) l)
 
-zero-fresh : monitorAt zeroMonitor ≡ fresh
+pub zero-fresh : monitorAt zeroMonitor ≡ fresh
 zero-fresh = λ i. record {
   at = record { fired = fun-ext contains-empty i; clocks = fun-ext zero-moments i };
   now = 0;

@@ -7,14 +7,14 @@ use Rattle.chart_value.proofs.Guards.{never-fire}
 use Rattle.claims.specs.Examples.{allRead}
 use Rattle.monitor.proofs.Runs.{view-tells}
 use Rattle.claims.proofs.Answers.{answers-tell}
-use Rattle.claims.proofs.Watching.{demand-3-read}
+use Rattle.claims.proofs.Watching.{demand-3-read, judged-read}
 use Rattle.claims.proofs.claims.Statement.{statement}
 use Rattle.claims.proofs.claims.Tie as tie
 
 returns : tie.Need-returns
 unfolding allRead readChart readFrom advanceOf within
 returns c =
-    record { answers-tell = answers-tell; shown = shown; codes-tell = codes-tell; guards = never-fire; demand-3 = demand-3-read; view-tells = view-tells; charts-read = refl }
+    record { answers-tell = answers-tell; shown = shown; codes-tell = codes-tell; guards = never-fire; demand-3 = demand-3-read; judged = judged-read; view-tells = view-tells; charts-read = refl }
 
 pub claims-spec : {M : Type 1} → statement M
 claims-spec = tie.close (tie.spec returns)

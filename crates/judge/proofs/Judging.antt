@@ -1,0 +1,55 @@
+-- Judging by its tests in their order. Assumes nothing.
+use mathlib.Core.Path.{_≡_, sym, ap, subst, _∙_}
+use mathlib.Core.Bool.{true, false}
+use mathlib.Core.List.{List}
+use Prim.Native.Nat.{ℕ, _≤_, _<_}
+use native.Mathlib.Omega.{arith}
+use Rattle.model.specs.declared.Chart.{Chart}
+use Rattle.model.specs.declared.Monitor.{Monitor}
+use Rattle.model.specs.Chart.{mostRegions}
+use Rattle.chart_value.specs.WellFormed.{wellFormed}
+use Rattle.chart_value.specs.Given.{Given}
+use Rattle.chart_value.specs.View.{chartOf}
+use Rattle.chart_value.proofs.Facts.{wf-of}
+use Rattle.chart_value.proofs.Shown.{shown}
+use Rattle.rounds.specs.Machine.{Monitor as AbstractMonitor, Fit, after}
+use Rattle.rounds.proofs.Fitness.{after-fit}
+use Rattle.stepping.specs.View.{monitorAt}
+use Rattle.log_reader.specs.Records.{recordsIn}
+use Rattle.monitor.specs.Runs.{logged}
+use Rattle.judge.specs.declared.LogRefusal.{LogRefusal}
+use Rattle.judge.specs.declared.Checked.the-variants as checked
+use Rattle.judge.specs.declared.JudgeAnswer.the-variants.{Judged, NoChart, Refused}
+use Rattle.judge.specs.declared.Verdict.{Verdict}
+use Rattle.judge.specs.declared.Judgement.{Judgement}
+use Rattle.judge.specs.Check.{checkLog}
+use Rattle.judge.specs.Judge.{verdictOf, verdictBy, zeroVerdict, said, judgeOf}
+use Rattle.judge.proofs.Fed.{verdict-same}
+
+pub half-fits : (c : Chart) → wellFormed c ≡ true → c .prechart ≤ mostRegions
+half-fits c e =
+    let w = wf-of c e in
+    let m : c .prechart < c .count = w .main in
+    let r : c .count ≤ mostRegions = w .room in
+    omega arith
+
+module _ (c : Chart) (s : List ℕ) where
+  pub judged-no-chart : (r : Judgement) → wellFormed c ≡ false → r ≡ record { answer = NoChart; verdict = zeroVerdict } → said r ≡ judgeOf c s
+  unfolding judgeOf
+  judged-no-chart r w e = rw w (ap said e)
+
+  pub judged-refused : (r : Judgement) (k : LogRefusal) (o : ℕ) → wellFormed c ≡ true → checkLog s ≡ checked.Refused k o
+      → r ≡ record { answer = Refused k o; verdict = zeroVerdict } → said r ≡ judgeOf c s
+  unfolding judgeOf
+  judged-refused r k o w q e = rw (w, q) (ap said e)
+
+  pub judged-fine : (v : Verdict) (m : Monitor) (n : ℕ) → wellFormed c ≡ true → Given c → checkLog s ≡ checked.Fine n
+      → monitorAt m ≡ after (chartOf c) (logged (recordsIn s)) → v ≡ verdictBy (c .prechart) m
+      → said (record { answer = Judged; verdict = v }) ≡ judgeOf c s
+  unfolding judgeOf
+  judged-fine v m n w g q a e =
+      let fit : Fit (chartOf c) (monitorAt m) =
+      subst (λ (x : AbstractMonitor). Fit (chartOf c) x) (sym a) (after-fit (chartOf c) (shown c g .accepted) (logged (recordsIn s))) in
+      let same : v ≡ verdictOf (chartOf c) (after (chartOf c) (logged (recordsIn s))) =
+      e ∙ verdict-same (chartOf c) (c .prechart) m (λ i. c .prechart) fit ∙ ap (verdictOf (chartOf c)) a in
+      rw (w, q) (λ i. record { number = 0; offset = 0; verdict = same i })

@@ -1,0 +1,67 @@
+-- `judge::judge` meets its contract: the tests in their order, then the verdict. Assumes nothing.
+use mathlib.Core.Path.{refl, sym, _∙_}
+use borrow.Author.Tests.{not-true, not-false}
+use Rattle.judge.proofs.Judging.{half-fits, judged-no-chart, judged-refused, judged-fine}
+use borrow.Author.Needs.{needs}
+use Rattle.judge.proofs.judge.Statement.{statement}
+use Rattle.judge.proofs.judge.Tie as tie
+
+well-formed-requires : tie.Need-well-formed-requires
+well-formed-requires c κs = search needs
+
+refused-requires : tie.Need-refused-requires
+refused-requires c κs = search needs
+
+returns : tie.Need-returns
+returns c = (judged-no-chart _ _ _ (sym (c .before .before .well-formed .ensures .0) ∙ not-true _ (c .before .if1 .taken)) (c .refused .ensures), refl)
+
+check-log-requires : tie.Need-check-log-requires
+check-log-requires c κs = search needs
+
+enum-known-checked : tie.Need-enum-known-checked
+enum-known-checked c = search needs
+
+refused-requires-2 : tie.Need-refused-requires-2
+refused-requires-2 c κs = search needs
+
+enum-told : tie.Need-enum-told
+enum-told c = search needs
+
+feed-log-requires : tie.Need-feed-log-requires
+feed-log-requires c κs = sym (c .before .before .before .before .well-formed .ensures .0) ∙ not-false _ (c .before .before .before .if1 .left)
+
+cast-verdict-of : tie.Need-cast-verdict-of
+cast-verdict-of c = search needs
+
+verdict-of-requires : tie.Need-verdict-of-requires
+verdict-of-requires c κs = half-fits (c .before .before .before .before .before .before .before .before .args .chart) (sym (c .before .before .before .before .before .before .well-formed .ensures .0) ∙ not-false _ (c .before .before .before .before .before .if1 .left))
+
+returns-2 : tie.Need-returns-2
+returns-2 c = (
+  judged-refused _ _ _ _ _ (sym (c .before .before .before .before .before .before .well-formed .ensures .0) ∙ not-false _ (c .before .before .before .before .before .if1 .left)) (sym (c .before .before .before .before .check-log .ensures .0) ∙ c .before .before .checked .given .1) (c .refused2 .ensures),
+  refl,
+)
+
+returns-3 : tie.Need-returns-3
+returns-3 c = (
+  judged-fine _ _ _ _ _ (sym (c .before .before .before .before .before .before .before .well-formed .ensures .0) ∙ not-false _ (c .before .before .before .before .before .before .if1 .left)) (c .before .before .before .before .before .before .before .well-formed .ensures .1 .0 (not-false _ (c .before .before .before .before .before .before .if1 .left)))
+      (sym (c .before .before .before .before .before .check-log .ensures .0) ∙ c .before .before .before .enum-told .given .1) (c .before .before .feed-log .ensures) (c .verdict-of .ensures),
+  refl,
+)
+
+pub judge-spec : {M : Type 1} → statement M
+judge-spec =
+    tie.close
+    (tie.spec
+    well-formed-requires
+    refused-requires
+    returns
+    check-log-requires
+    enum-known-checked
+    refused-requires-2
+    enum-told
+    feed-log-requires
+    cast-verdict-of
+    verdict-of-requires
+    returns-2
+    returns-3)

@@ -1,0 +1,56 @@
+-- Checking a whole log: each record from the left, with its offset.
+use Prim.Native.Nat.{ℕ, zero, suc, _+_}
+use mathlib.Core.Bool.{cond}
+use mathlib.Core.List.{List}
+use lib.ListN.{length}
+use lib.Dec.{leb, ltb}
+use Rattle.model.specs.declared.Moment.{Moment}
+use Rattle.model.specs.declared.Record.{Record}
+use Rattle.model.specs.declared.Record.the-variants.{Message, Time}
+use Rattle.log_reader.specs.Record.{nextAt, recordRefusalNumber}
+use Rattle.log_reader.specs.declared.Next.{Next}
+use Rattle.log_reader.specs.declared.Next.the-variants as next
+use Rattle.rounds.specs.Feeds.{timeFalls, tooManyRecords, mostRecords}
+use Rattle.judge.specs.declared.LogRefusal.{LogRefusal}
+use Rattle.judge.specs.declared.LogRefusal.the-variants.{NoRecord, TimeFalls, TooManyRecords}
+use Rattle.judge.specs.declared.Checked.{Checked}
+use Rattle.judge.specs.declared.Checked.the-variants.{Fine, Refused}
+use Rattle.judge.specs.declared.CheckStep.{CheckStep}
+use Rattle.judge.specs.declared.CheckStep.the-variants.{Over, Going}
+
+-- 31 unknown record byte; 30 cut short; 22 a time below the one before; 23 it would be record 1,000,001
+abbrev pub logRefusalNumber : LogRefusal → ℕ
+logRefusalNumber (NoRecord k) = recordRefusalNumber k
+logRefusalNumber TimeFalls = timeFalls
+logRefusalNumber TooManyRecords = tooManyRecords
+
+abbrev pub timeOf : Record → Moment
+timeOf (Message m t) = t
+timeOf (Time t) = t
+
+-- a record that was read at `at`, behind the time `last` and n records
+abbrev pub takeRecord : Moment → ℕ → ℕ → Moment → ℕ → CheckStep
+takeRecord time place at last n =
+    cond (ltb (time .0) (last .0)) (Over (Refused TimeFalls at))
+    (cond (leb mostRecords n) (Over (Refused TooManyRecords at)) (Going place time (n + 1)))
+
+abbrev pub stepBy : ℕ → Moment → ℕ → Next → CheckStep
+stepBy at last n next.End = Over (Fine n)
+stepBy at last n (next.Refused k) = Over (Refused (NoRecord k) at)
+stepBy at last n (next.Taken r place) = takeRecord (timeOf r) place at last n
+
+unfoldable pub stepAt : List ℕ → ℕ → Moment → ℕ → CheckStep
+stepAt s at last n = stepBy at last n (nextAt s at)
+
+abbrev pub continueBy : (ℕ → Moment → ℕ → Checked) → CheckStep → Checked
+continueBy k (Over c) = c
+continueBy k (Going place time n) = k place time n
+
+-- at most f records from a place on, the time before and the count given
+unfoldable pub checkFrom : ℕ → List ℕ → ℕ → Moment → ℕ → Checked
+checkFrom zero s at last n = Fine n
+checkFrom (suc f) s at last n = continueBy (checkFrom f s) (stepAt s at last n)
+
+-- each record takes a byte at least
+unfoldable pub checkLog : List ℕ → Checked
+checkLog s = checkFrom (length s + 1) s 0 (record { 0 = 0 }) 0

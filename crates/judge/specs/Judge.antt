@@ -1,0 +1,108 @@
+-- Judging a whole log: 20, then the whole log checked, then each record fed; the verdict.
+use mathlib.Core.Bool.{cond, not}
+use mathlib.Core.List.{List}
+use Prim.Native.Nat.{ℕ}
+use lib.Dec.{eqb}
+use Rattle.bitset.specs.Set.{contains}
+use Rattle.model.specs.declared.Chart.{Chart}
+use Rattle.model.specs.declared.Monitor.{Monitor}
+use Rattle.chart_value.specs.WellFormed.{wellFormed}
+use Rattle.chart_value.specs.View.{chartOf}
+use Rattle.rounds.specs.Base.{allBelow}
+use Rattle.rounds.specs.Chart.{Chart as Abstract}
+use Rattle.rounds.specs.Machine.{Monitor as AbstractMonitor, prechartDone, after}
+use Rattle.stepping.specs.declared.FeedRefusal.the-variants.{NotAChart}
+use Rattle.stepping.specs.Answers.{feedRefusalNumber}
+use Rattle.monitor.specs.Runs.{logged}
+use Rattle.log_reader.specs.Records.{recordsIn}
+use Rattle.judge.specs.declared.Checked.{Checked}
+use Rattle.judge.specs.declared.Checked.the-variants as checked
+use Rattle.judge.specs.declared.JudgeAnswer.{JudgeAnswer}
+use Rattle.judge.specs.declared.JudgeAnswer.the-variants.{Judged, NoChart, Refused}
+use Rattle.judge.specs.declared.Verdict.{Verdict}
+use Rattle.judge.specs.declared.Judgement.{Judgement}
+use Rattle.judge.specs.Check.{checkLog, logRefusalNumber}
+
+-- "Standing, the first that applies: 3 broken, 0 nothing fired, 1 in the prechart, 2 owed in the main chart."
+abbrev pub broken : ℕ
+broken = 3
+
+abbrev pub nothingFired : ℕ
+nothingFired = 0
+
+abbrev pub inPrechart : ℕ
+inPrechart = 1
+
+abbrev pub owed : ℕ
+owed = 2
+
+unfoldable pub standingOf : Abstract → AbstractMonitor → ℕ
+standingOf C m =
+    cond (not (eqb (m .break) 0)) broken
+    (cond (allBelow (C .regions) (λ i. not (m .at .fired i))) nothingFired
+    (cond (not (prechartDone C (m .at .fired))) inPrechart owed))
+
+-- the same, of a stored monitor
+unfoldable pub standingBy : ℕ → Monitor → ℕ
+standingBy prechart m =
+    cond (not (eqb (m .«break_record») 0)) broken
+    (cond (eqb (m .at .fired) 0) nothingFired
+    (cond (not (allBelow prechart (contains (m .at .fired)))) inPrechart owed))
+
+-- "The verdict is standing, kept, dropped, records (to the break if there is one), break, reason."
+abbrev pub verdictOf : Abstract → AbstractMonitor → Verdict
+verdictOf C m =
+    record {
+      standing = standingOf C m;
+      kept = m .kept;
+      dropped = m .dropped;
+      records = m .records;
+      «break_record» = m .break;
+      reason = m .reason;
+    }
+
+-- the same, of a stored monitor
+abbrev pub verdictBy : ℕ → Monitor → Verdict
+verdictBy prechart m =
+    record {
+      standing = standingBy prechart m;
+      kept = m .kept;
+      dropped = m .dropped;
+      records = m .records;
+      «break_record» = m .«break_record»;
+      reason = m .reason;
+    }
+
+abbrev pub zeroVerdict : Verdict
+zeroVerdict = record { standing = 0; kept = 0; dropped = 0; records = 0; «break_record» = 0; reason = 0 }
+
+-- What judging says: 0 and the verdict, or a refusal with its offset and zeros for the verdict.
+pub record Said : Type 0 where
+  pub number : ℕ
+  pub offset : ℕ
+  pub verdict : Verdict
+
+-- the number and the offset of each answer
+abbrev pub numberOf : JudgeAnswer → ℕ
+numberOf Judged = 0
+numberOf NoChart = feedRefusalNumber NotAChart
+numberOf (Refused k offset) = logRefusalNumber k
+
+abbrev pub offsetOf : JudgeAnswer → ℕ
+offsetOf Judged = 0
+offsetOf NoChart = 0
+offsetOf (Refused k offset) = offset
+
+abbrev pub said : Judgement → Said
+said r = record { number = numberOf (r .answer); offset = offsetOf (r .answer); verdict = r .verdict }
+
+-- the verdict over a log that was checked: its records, fed one after the other to a fresh monitor
+abbrev pub byCheck : Chart → List ℕ → Checked → Said
+byCheck c s (checked.Fine n) =
+    record { number = 0; offset = 0; verdict = verdictOf (chartOf c) (after (chartOf c) (logged (recordsIn s))) }
+byCheck c s (checked.Refused k offset) = record { number = logRefusalNumber k; offset = offset; verdict = zeroVerdict }
+
+-- 20 at 0, then the faults of the log, all before a record is fed, then the verdict
+unfoldable pub judgeOf : Chart → List ℕ → Said
+judgeOf c s =
+    cond (not (wellFormed c)) (record { number = feedRefusalNumber NotAChart; offset = 0; verdict = zeroVerdict }) (byCheck c s (checkLog s))

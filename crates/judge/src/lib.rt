@@ -1,0 +1,231 @@
+// Judging a whole log: it is checked first, then its records are fed.
+use log_reader::Next;
+use log_reader::RecordRefusal;
+use model::Chart;
+use model::MOST_RECORDS;
+use model::Moment;
+use model::Monitor;
+use model::Record;
+ghost use mathlib.Core.Path.{_≡_};
+ghost use mathlib.Core.Bool.{true};
+ghost use Prim.Native.Nat.{_≤_};
+ghost use Rattle.model.specs.Chart.{mostRegions};
+ghost use Rattle.rounds.specs.Machine.{after};
+ghost use Rattle.chart_value.specs.WellFormed.{wellFormed};
+ghost use Rattle.chart_value.specs.View.{chartOf};
+ghost use Rattle.stepping.specs.View.{monitorAt};
+ghost use Rattle.monitor.specs.Runs.{logged};
+ghost use Rattle.log_reader.specs.Records.{recordsIn};
+ghost use Rattle.judge.specs.Check.{timeOf, takeRecord, stepAt, checkLog};
+ghost use Rattle.judge.specs.Judge.{standingBy, verdictBy, zeroVerdict, said, judgeOf};
+
+// Why a log is refused.
+pub enum LogRefusal {
+    NoRecord(RecordRefusal),
+    TimeFalls,
+    TooManyRecords,
+}
+
+// The number of records, or a refusal with the offset of its record.
+pub enum Checked {
+    Fine(u32),
+    Refused(LogRefusal, usize),
+}
+
+// One record checked: the check is over, or it goes on at a place, with the time before and the count.
+pub enum CheckStep {
+    Over(Checked),
+    Going(usize, Moment, u32),
+}
+
+pub fn time_of(e: Record) -> Moment
+    ensures { λ r. ⌜ r ≡ timeOf e ⌝ }
+{
+    match e {
+        Record::Message(_, t) => t,
+        Record::Time(t) => t,
+    }
+}
+
+// A record that was read: 22 its time is below the one before; 23 it would be record 1,000,001.
+fn take_record(time: Moment, place: usize, at: usize, last: Moment, records: u32) -> CheckStep
+    ensures { λ r. ⌜ r ≡ takeRecord time place at last records ⌝ }
+{
+    if time.0 < last.0 {
+        return CheckStep::Over(Checked::Refused(LogRefusal::TimeFalls, at));
+    }
+    if MOST_RECORDS <= records {
+        return CheckStep::Over(Checked::Refused(LogRefusal::TooManyRecords, at));
+    }
+    CheckStep::Going(place, time, records + 1)
+}
+
+fn step_at(log: &[u8], at: usize, last: Moment, records: u32) -> CheckStep
+    ensures { λ r. ⌜ r ≡ stepAt (now (log .entry)) at last records ⌝ }
+{
+    let next = log_reader::read_record(log, at);
+    match next {
+        Next::End => CheckStep::Over(Checked::Fine(records)),
+        Next::Refused(k) => CheckStep::Over(Checked::Refused(LogRefusal::NoRecord(k), at)),
+        Next::Taken(e, place) => take_record(time_of(e), place, at, last, records),
+    }
+}
+
+// The whole log, before a record of it is fed.
+pub fn check_log(log: &[u8]) -> Checked
+    ensures check { λ r. ⌜ r ≡ checkLog (now (log .entry)) ⌝ }
+    ensures unchanged { λ r. ⌜ now (log .exit) ≡ now (log .entry) ⌝ }
+{
+    let mut at: usize = 0;
+    let mut last = Moment(0);
+    let mut records: u32 = 0;
+    while at < log.len() {
+        let step = step_at(log, at, last, records);
+        match step {
+            CheckStep::Over(checked) => {
+                return checked;
+            }
+            CheckStep::Going(place, time, more) => {
+                at = place;
+                last = time;
+                records = more;
+            }
+        }
+    }
+    Checked::Fine(records)
+}
+
+pub struct Verdict {
+    pub standing: u8,
+    pub kept: u32,
+    pub dropped: u32,
+    pub records: u32,
+    pub break_record: u32,
+    pub reason: u8,
+}
+
+pub enum JudgeAnswer {
+    Judged,
+    NoChart,
+    Refused(LogRefusal, usize),
+}
+
+pub struct Judgement {
+    pub answer: JudgeAnswer,
+    pub verdict: Verdict,
+}
+
+const BROKEN: u8 = 3;
+
+const NOTHING_FIRED: u8 = 0;
+
+const IN_PRECHART: u8 = 1;
+
+const OWED: u8 = 2;
+
+// The chart compiled once; each record of the log where it lies, fed to a fresh monitor.
+fn feed_log(c: Chart, log: &[u8]) -> Monitor
+    requires { ⌜ wellFormed c ≡ true ⌝ }
+    ensures end { λ r. ⌜ monitorAt r ≡ after (chartOf c) (logged (recordsIn (now (log .entry)))) ⌝ }
+{
+    let p = plan::compile(c);
+    let h = p.head;
+    let mut m = model::zero_monitor();
+    let mut at: usize = 0;
+    let mut left = log.len();
+    while 0 < left {
+        let next = log_reader::read_record(log, at);
+        match next {
+            Next::End => {
+                return m;
+            }
+            Next::Refused(_) => {
+                return m;
+            }
+            Next::Taken(e, place) => {
+                let code = plan::record_code(e);
+                let s = stepping::feed_fit(
+                    h,
+                    &p.keys,
+                    &p.above,
+                    &p.resets,
+                    &p.terms,
+                    m,
+                    code,
+                    time_of(e),
+                );
+                m = s.next;
+                at = place;
+                left -= 1;
+            }
+        }
+    }
+    m
+}
+
+fn standing(prechart: usize, m: Monitor) -> u8
+    requires { ⌜ prechart ≤ mostRegions ⌝ }
+    ensures { λ r. ⌜ r ≡ standingBy prechart m ⌝ }
+{
+    let at = m.at;
+    if m.break_record != 0 {
+        return BROKEN;
+    }
+    if at.fired == 0 {
+        return NOTHING_FIRED;
+    }
+    if stepping::all_fired(prechart, at.fired) {
+        return OWED;
+    }
+    IN_PRECHART
+}
+
+fn verdict_of(prechart: usize, m: Monitor) -> Verdict
+    requires { ⌜ prechart ≤ mostRegions ⌝ }
+    ensures { λ r. ⌜ r ≡ verdictBy prechart m ⌝ }
+{
+    Verdict {
+        standing: standing(prechart, m),
+        kept: m.kept,
+        dropped: m.dropped,
+        records: m.records,
+        break_record: m.break_record,
+        reason: m.reason,
+    }
+}
+
+fn refused(answer: JudgeAnswer) -> Judgement
+    ensures { λ r. ⌜ r ≡ record { answer = answer; verdict = zeroVerdict } ⌝ }
+{
+    let verdict = Verdict {
+        standing: 0,
+        kept: 0,
+        dropped: 0,
+        records: 0,
+        break_record: 0,
+        reason: 0,
+    };
+    Judgement { answer, verdict }
+}
+
+// The verdict over a whole log, or why there is none, with zeros for the verdict.
+pub fn judge(chart: Chart, log: &[u8]) -> Judgement
+    ensures verdict { λ r. ⌜ said r ≡ judgeOf chart (now (log .entry)) ⌝ }
+    ensures unchanged { λ r. ⌜ now (log .exit) ≡ now (log .entry) ⌝ }
+{
+    if !chart_value::well_formed(chart) {
+        return refused(JudgeAnswer::NoChart);
+    }
+    let checked = check_log(log);
+    match checked {
+        Checked::Refused(k, offset) => refused(JudgeAnswer::Refused(k, offset)),
+        Checked::Fine(_) => {
+            let m = feed_log(chart, log);
+            let verdict = verdict_of(chart.prechart as usize, m);
+            Judgement {
+                answer: JudgeAnswer::Judged,
+                verdict,
+            }
+        }
+    }
+}
