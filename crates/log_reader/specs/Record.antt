@@ -49,3 +49,12 @@ recordBy s at b =
 -- With the place at or past the end of the bytes it says "end"; otherwise 31 or 30, or the record with the place just behind it.
 abbrev pub nextAt : List ℕ → ℕ → Next
 nextAt s at = cond (leb (length s) at) End (recordBy s at (getD s at 0))
+
+-- the place moves only when a record is handed out
+abbrev pub placeOr : ℕ → Next → ℕ
+placeOr at End = at
+placeOr at (Refused k) = at
+placeOr at (Taken r place) = place
+
+abbrev pub placeBehind : List ℕ → ℕ → ℕ
+placeBehind s at = placeOr at (nextAt s at)

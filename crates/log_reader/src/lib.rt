@@ -5,7 +5,7 @@ use model::Record;
 ghost use mathlib.Core.Path.{_≡_};
 ghost use Prim.Native.Nat.{_<_};
 ghost use lib.ListN.{length};
-ghost use Rattle.log_reader.specs.Record.{recordRefusalNumber, messageAt, timeAt, nextAt};
+ghost use Rattle.log_reader.specs.Record.{recordRefusalNumber, messageAt, timeAt, nextAt, placeBehind};
 
 // Why no record is handed out.
 pub enum RecordRefusal {
@@ -58,10 +58,9 @@ fn time_at(s: &[u8], at: usize) -> Record
     Record::Time(Moment(wire::word32_at(s, at + 1)))
 }
 
-// The record at a place.
-pub fn read_record(bytes: &[u8], place: usize) -> Next
-    ensures record { λ r. ⌜ r ≡ nextAt (now (bytes .entry)) place ⌝ }
-    ensures unchanged { λ r. ⌜ now (bytes .exit) ≡ now (bytes .entry) ⌝ }
+// The work: the record at a place, in a function without a held reference.
+fn record_at(bytes: &[u8], place: usize) -> Next
+    ensures { λ r. ⌜ r ≡ nextAt (now (bytes .entry)) place ⌝ }
 {
     if bytes.len() <= place {
         return Next::End;
@@ -82,4 +81,52 @@ pub fn read_record(bytes: &[u8], place: usize) -> Next
         }
         _ => Next::Refused(RecordRefusal::UnknownByte),
     }
+}
+
+// The place just behind the record at a place; where none stands it stays.
+fn place_behind(bytes: &[u8], place: usize) -> usize
+    ensures { λ r. ⌜ r ≡ placeBehind (now (bytes .entry)) place ⌝ }
+{
+    let next = record_at(bytes, place);
+    match next {
+        Next::End => place,
+        Next::Refused(_) => place,
+        Next::Taken(_, behind) => behind,
+    }
+}
+
+// A log's bytes where they lie, and a place in them.
+pub struct LogReader<'a> {
+    pub log: &'a [u8],
+    pub at: usize,
+}
+
+pub fn reader_at<'a>(log: &'a [u8], at: usize) -> LogReader<'a>
+    ensures { λ r. ⌜ (r .log ≡ log .entry) × (r .at ≡ at) ⌝ }
+{
+    LogReader { log, at }
+}
+
+// The record at the reader's place.
+pub fn current<'a>(r: LogReader<'a>) -> Next
+    ensures { λ n. ⌜ n ≡ nextAt (now (r .entry .log)) (r .entry .at) ⌝ }
+{
+    record_at(r.log, r.at)
+}
+
+// The reader just behind the record at its place; where none stands it stays.
+pub fn advance<'a>(r: LogReader<'a>) -> LogReader<'a>
+    ensures { λ q. ⌜ (q .log ≡ r .entry .log) × (q .at ≡ placeBehind (now (r .entry .log)) (r .entry .at)) ⌝ }
+{
+    LogReader {
+        log: r.log,
+        at: place_behind(r.log, r.at),
+    }
+}
+
+// The record at a place, for callers that hold no reader.
+pub fn read_record(bytes: &[u8], place: usize) -> Next
+    ensures { λ r. ⌜ (r ≡ nextAt (now (bytes .entry)) place) × (now (bytes .exit) ≡ now (bytes .entry)) ⌝ }
+{
+    current(reader_at(bytes, place))
 }
