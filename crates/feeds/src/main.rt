@@ -75,31 +75,17 @@ fn put_feeds(chart: &[u8], log: &[u8]) {
 
 fn put_log(chart: &[u8], digits: &[u8]) {
     let mut log = [0u8; 256];
-    let mut n: usize = 0;
-    let mut i: usize = 0;
-    while i < digits.len() {
-        let d = lines::digit(digits[i]);
-        log[n / 2] = lines::with_digit(log[n / 2], d);
-        n = lines::count_digit(n, d);
-        i += 1;
-    }
-    put_feeds(chart, &log[..n / 2]);
+    let n = lines::put_bytes(digits, &mut log);
+    put_feeds(chart, &log[..n]);
 }
 
 // One line: the name, the chart's digits and the log's.
 fn show(name: &[u8], digits: &[u8], log: &[u8]) {
     let mut chart = [0u8; 256];
-    let mut n: usize = 0;
-    let mut i: usize = 0;
-    while i < digits.len() {
-        let d = lines::digit(digits[i]);
-        chart[n / 2] = lines::with_digit(chart[n / 2], d);
-        n = lines::count_digit(n, d);
-        i += 1;
-    }
+    let n = lines::put_bytes(digits, &mut chart);
     put(name);
     put(b"\n");
-    put_log(&chart[..n / 2], log);
+    put_log(&chart[..n], log);
 }
 
 fn show_all(text: &[u8]) {

@@ -31,7 +31,8 @@ use Rattle.monitor.specs.Feed.{logRecord}
 use Rattle.monitor.specs.Runs.{logged}
 use Rattle.monitor.proofs.Runs.{zero-fresh}
 use Rattle.judge.specs.Check.{timeOf}
-use Rattle.judge.specs.Judge.{standingOf, standingBy, verdictOf, verdictBy}
+use Rattle.judge.specs.Judge.{standingOf, verdictOf}
+use Rattle.judge.specs.Parts.{standingBy, verdictBy}
 
 same-record : (e : Record) (code t : ℕ) → code ≡ recordCode e → t ≡ timeOf e .0 → recordOf code t ≡ logRecord e
 same-record (Message m u) code t p q = λ i. record { time = q i; code = p i }

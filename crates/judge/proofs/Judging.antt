@@ -23,7 +23,8 @@ use Rattle.judge.specs.declared.JudgeAnswer.the-variants.{Judged, NoChar
 use Rattle.judge.specs.declared.Verdict.{Verdict}
 use Rattle.judge.specs.declared.Judgement.{Judgement}
 use Rattle.judge.specs.Check.{checkLog}
-use Rattle.judge.specs.Judge.{verdictOf, verdictBy, zeroVerdict, said, judgeOf}
+use Rattle.judge.specs.Judge.{verdictOf, zeroVerdict, said, judgeOf}
+use Rattle.judge.specs.Parts.{verdictBy}
 use Rattle.judge.proofs.Fed.{verdict-same}
 
 pub half-fits : (c : Chart) → wellFormed c ≡ true → c .prechart ≤ mostRegions

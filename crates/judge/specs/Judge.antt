@@ -3,9 +3,7 @@ use mathlib.Core.Bool.{cond, not}
 use mathlib.Core.List.{List}
 use Prim.Native.Nat.{ℕ}
 use lib.Dec.{eqb}
-use Rattle.bitset.specs.Set.{contains}
 use Rattle.model.specs.declared.Chart.{Chart}
-use Rattle.model.specs.declared.Monitor.{Monitor}
 use Rattle.chart_value.specs.WellFormed.{wellFormed}
 use Rattle.chart_value.specs.View.{chartOf}
 use Rattle.rounds.specs.Base.{allBelow}
@@ -42,13 +40,6 @@ standingOf C m =
     (cond (allBelow (C .regions) (λ i. not (m .at .fired i))) nothingFired
     (cond (not (prechartDone C (m .at .fired))) inPrechart owed))
 
--- the same, of a stored monitor
-unfoldable pub standingBy : ℕ → Monitor → ℕ
-standingBy prechart m =
-    cond (not (eqb (m .«break_record») 0)) broken
-    (cond (eqb (m .at .fired) 0) nothingFired
-    (cond (not (allBelow prechart (contains (m .at .fired)))) inPrechart owed))
-
 -- "The verdict is standing, kept, dropped, records (to the break if there is one), break, reason."
 abbrev pub verdictOf : Abstract → AbstractMonitor → Verdict
 verdictOf C m =
@@ -58,18 +49,6 @@ verdictOf C m =
       dropped = m .dropped;
       records = m .records;
       «break_record» = m .break;
-      reason = m .reason;
-    }
-
--- the same, of a stored monitor
-abbrev pub verdictBy : ℕ → Monitor → Verdict
-verdictBy prechart m =
-    record {
-      standing = standingBy prechart m;
-      kept = m .kept;
-      dropped = m .dropped;
-      records = m .records;
-      «break_record» = m .«break_record»;
       reason = m .reason;
     }
 

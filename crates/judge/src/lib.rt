@@ -16,14 +16,28 @@ ghost use Rattle.chart_value.specs.View.{chartOf};
 ghost use Rattle.stepping.specs.View.{monitorAt};
 ghost use Rattle.monitor.specs.Runs.{logged};
 ghost use Rattle.log_reader.specs.Records.{recordsIn};
-ghost use Rattle.judge.specs.Check.{timeOf, takeRecord, stepAt, checkLog};
-ghost use Rattle.judge.specs.Judge.{standingBy, verdictBy, zeroVerdict, said, judgeOf};
+ghost use Rattle.judge.specs.Check.{logRefusalNumber, timeOf, takeRecord, stepAt, checkLog};
+ghost use Rattle.judge.specs.Judge.{zeroVerdict, said, judgeOf};
+ghost use Rattle.judge.specs.Parts.{standingBy, verdictBy};
 
 // Why a log is refused.
 pub enum LogRefusal {
     NoRecord(RecordRefusal),
     TimeFalls,
     TooManyRecords,
+}
+
+// The number of the answer that the value is no chart.
+pub const NO_CHART: u8 = 20;
+
+pub fn refusal_number(k: LogRefusal) -> u8
+    ensures { λ r. ⌜ r ≡ logRefusalNumber k ⌝ }
+{
+    match k {
+        LogRefusal::NoRecord(why) => log_reader::number(why),
+        LogRefusal::TimeFalls => 22,
+        LogRefusal::TooManyRecords => 23,
+    }
 }
 
 // The number of records, or a refusal with the offset of its record.

@@ -1,14 +1,15 @@
 // Lines of text with bytes in hexadecimal, for the programs that run stored examples.
 ghost use mathlib.Core.Path.{_≡_};
-ghost use Prim.Native.Nat.{_≤_, _<_};
+ghost use Prim.Native.Nat.{_+_, _≤_};
 ghost use lib.ListN.{length};
+ghost use Rattle.io.specs.Counts.{Counts};
 
 pub const LINE_FEED: u8 = 10;
 
 pub const COLON: u8 = b':';
 
 // The value of a hexadecimal digit; 16 for any other byte.
-pub fn digit(b: u8) -> u8 {
+fn digit(b: u8) -> u8 {
     match b {
         48..=57 => b - 48,
         97..=102 => b - 87,
@@ -33,17 +34,38 @@ pub fn find(text: &[u8], from: usize, to: usize, byte: u8) -> usize
 }
 
 // The byte with a digit put behind what it holds; the byte itself where d is no digit.
-pub fn with_digit(byte: u8, d: u8) -> u8 {
+fn with_digit(byte: u8, d: u8) -> u8 {
     if d < 16 { byte << 4 | d } else { byte }
 }
 
-// How many digits there are, once d is read: 511 at most, so that they lie in 256 bytes.
-pub fn count_digit(n: usize, d: u8) -> usize
-    ensures { λ r. ⌜ r < 512 ⌝ }
+fn one_digit(d: u8) -> usize
+    ensures { λ r. ⌜ r ≤ 1 ⌝ }
 {
-    if n < 511 {
-        if d < 16 { n + 1 } else { n }
-    } else {
-        511
+    if d < 16 { 1 } else { 0 }
+}
+
+// Puts the n-th digit where it belongs, and answers how many there are then.
+fn put_digit(out: &mut [u8], n: usize, d: u8) -> usize
+    requires { ⌜ n ≤ length (now out) + length (now out) ⌝ }
+    ensures { λ r. ⌜ r ≤ length (now (out .exit)) + length (now (out .exit)) ⌝ }
+{
+    if n / 2 < out.len() {
+        out[n / 2] = with_digit(out[n / 2], d);
+        return n + one_digit(d);
     }
+    n
+}
+
+// Puts the bytes that hexadecimal digits spell at the start of a buffer of zeros, as far as it reaches, and answers how many there are.
+// Other bytes of the text are passed over.
+pub fn put_bytes(digits: &[u8], out: &mut [u8]) -> usize
+    ensures { λ r. ⌜ Counts r (now (out .exit)) ⌝ }
+{
+    let mut n: usize = 0;
+    let mut i: usize = 0;
+    while i < digits.len() {
+        n = put_digit(out, n, digit(digits[i]));
+        i += 1;
+    }
+    n / 2
 }

@@ -492,7 +492,7 @@ fn conclude(h: Head, m: Monitor, t: Moment, s: Settled) -> Step
 }
 
 // A record that is neither refused nor behind a break.
-pub fn accept<'a>(
+fn accept<'a>(
     h: Head,
     keys: &'a [u64; MOST_REGIONS],
     above: &'a [u32; MOST_REGIONS],

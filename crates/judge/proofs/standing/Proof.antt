@@ -1,5 +1,5 @@
 use borrow.Author.Tests.{eq-eqb, ne-eqb}
-use Rattle.judge.specs.Judge.{standingBy}
+use Rattle.judge.specs.Parts.{standingBy}
 use borrow.Author.Needs.{needs}
 use Rattle.judge.proofs.standing.Statement.{statement}
 use Rattle.judge.proofs.standing.Tie as tie

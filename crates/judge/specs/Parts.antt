@@ -1,0 +1,28 @@
+-- The standing and the verdict of a stored monitor, for the functions that compute them.
+use mathlib.Core.Bool.{cond, not}
+use Prim.Native.Nat.{ℕ}
+use lib.Dec.{eqb}
+use Rattle.bitset.specs.Set.{contains}
+use Rattle.model.specs.declared.Monitor.{Monitor}
+use Rattle.rounds.specs.Base.{allBelow}
+use Rattle.judge.specs.declared.Verdict.{Verdict}
+use Rattle.judge.specs.Judge.{broken, nothingFired, inPrechart, owed}
+
+-- `standingOf`, with the number of prechart regions
+unfoldable pub standingBy : ℕ → Monitor → ℕ
+standingBy prechart m =
+    cond (not (eqb (m .«break_record») 0)) broken
+    (cond (eqb (m .at .fired) 0) nothingFired
+    (cond (not (allBelow prechart (contains (m .at .fired)))) inPrechart owed))
+
+-- `verdictOf`, likewise
+abbrev pub verdictBy : ℕ → Monitor → Verdict
+verdictBy prechart m =
+    record {
+      standing = standingBy prechart m;
+      kept = m .kept;
+      dropped = m .dropped;
+      records = m .records;
+      «break_record» = m .«break_record»;
+      reason = m .reason;
+    }

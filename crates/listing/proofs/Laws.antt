@@ -1,0 +1,33 @@
+-- The parts of a listing, put one behind the other, are the listing: appending is associative. Assumes nothing.
+use mathlib.Core.Path.{_≡_, refl}
+use mathlib.Core.List.{List, [], _∷_, _++_, append-assoc, append-nil}
+use Prim.Native.Nat.{ℕ}
+use Rattle.text.specs.Text.{bytesOf, decimalOf}
+use Rattle.judge.specs.declared.Verdict.{Verdict}
+use Rattle.listing.specs.declared.Part.{Part}
+use Rattle.listing.specs.declared.Part.the-variants.{Input, Chart, Log}
+use Rattle.listing.specs.Listing.{joined, verdictLines, refusalLine}
+use Rattle.listing.specs.Parts.{fieldText, threeFields, partText}
+
+-- a header h, six texts, spaces s between them and n behind the last
+six : (h a b c d e f s n : List ℕ)
+    → (h ++ (((a ++ s) ++ (b ++ s)) ++ (c ++ s))) ++ (((d ++ s) ++ (e ++ s)) ++ (f ++ n))
+    ≡ joined (h ∷ a ∷ s ∷ b ∷ s ∷ c ∷ s ∷ d ∷ s ∷ e ∷ s ∷ f ∷ n ∷ [])
+six h a b c d e f s n = simp (append-assoc, append-nil)
+
+pub verdict-joined : (v : Verdict)
+    → (bytesOf "STANDING KEPT DROPPED RECORDS BREAK REASON\n" ++ threeFields (v .standing) (v .kept) (v .dropped) 32)
+    ++ threeFields (v .records) (v .«break_record») (v .reason) 10 ≡ verdictLines v
+unfolding verdictLines bytesOf
+verdict-joined v = six (bytesOf "STANDING KEPT DROPPED RECORDS BREAK REASON\n") (decimalOf (v .standing)) (decimalOf (v .kept))
+    (decimalOf (v .dropped)) (decimalOf (v .records)) (decimalOf (v .«break_record»)) (decimalOf (v .reason)) (32 ∷ []) (10 ∷ [])
+
+refusal : (p a t b s n : List ℕ) → ((p ++ (a ++ s)) ++ t) ++ (b ++ n) ≡ p ++ (a ++ ((s ++ t) ++ (b ++ (n ++ []))))
+refusal p a t b s n = simp (append-assoc, append-nil)
+
+pub refusal-joined : (part : Part) (number offset : ℕ)
+    → ((partText part ++ fieldText number 32) ++ bytesOf "at ") ++ fieldText offset 10 ≡ refusalLine part number offset
+unfolding refusalLine bytesOf
+refusal-joined Input number offset = refusal (bytesOf "refused input ") (decimalOf number) (bytesOf "at ") (decimalOf offset) (32 ∷ []) (10 ∷ [])
+refusal-joined Chart number offset = refusal (bytesOf "refused chart ") (decimalOf number) (bytesOf "at ") (decimalOf offset) (32 ∷ []) (10 ∷ [])
+refusal-joined Log number offset = refusal (bytesOf "refused log ") (decimalOf number) (bytesOf "at ") (decimalOf offset) (32 ∷ []) (10 ∷ [])

@@ -1,0 +1,28 @@
+use native.Mathlib.Omega.{arith}
+use Rattle.text.proofs.Laws.{then}
+use borrow.Author.Needs.{needs}
+use Rattle.listing.proofs.put_three.Statement.{statement}
+use Rattle.listing.proofs.put_three.Tie as tie
+
+put-field-requires : tie.Need-put-field-requires
+put-field-requires c κs = search needs
+
+put-field-requires-2 : tie.Need-put-field-requires-2
+put-field-requires-2 c κs = search needs
+
+put-field-requires-3 : tie.Need-put-field-requires-3
+put-field-requires-3 c κs = search needs
+
+same-length : tie.Need-same-length
+same-length c = search needs
+
+returns : tie.Need-returns
+returns c = let x = c .before .before .before .before .before .before .before .before .before .before .put-field .ensures in
+    let y = c .before .before .before .before .before .before .put-field2 .ensures in
+    let z = c .before .before .put-field3 .ensures in
+    (then (then (x .0) (y .0)) (z .0), omega arith)
+
+pub put-three-spec : {M : Type 1} → statement M
+put-three-spec =
+    tie.close
+    (tie.spec put-field-requires put-field-requires-2 put-field-requires-3 same-length returns)

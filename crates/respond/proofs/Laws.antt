@@ -1,0 +1,62 @@
+-- What is printed of an answer: no refusal has the number 0, so each is told as a refusal. Assumes nothing.
+use mathlib.Core.Path.{_≡_, refl, sym, ap, _∙_}
+use mathlib.Core.List.{List}
+use borrow.Author.Tests.{lt-ltb, le-ltb}
+use lib.ListN.{length}
+use Prim.Native.Nat.{ℕ, _≤_, _<_}
+use Rattle.model.specs.declared.Chart.{Chart}
+use Rattle.chart_step.specs.declared.Refusal.{Refusal}
+use Rattle.chart_step.specs.declared.Refusal.the-variants as chart
+use Rattle.chart_step.specs.Refusal.{refusalNumber}
+use Rattle.chart_reader.specs.declared.ChartAnswer.{ChartAnswer}
+use Rattle.chart_reader.specs.declared.ChartAnswer.the-variants as read
+use Rattle.chart_reader.specs.Read as read-specs
+use Rattle.log_reader.specs.declared.RecordRefusal.the-variants as bytes
+use Rattle.judge.specs.declared.LogRefusal.{LogRefusal}
+use Rattle.judge.specs.declared.LogRefusal.the-variants as log
+use Rattle.judge.specs.declared.JudgeAnswer.{JudgeAnswer}
+use Rattle.judge.specs.declared.JudgeAnswer.the-variants as judge
+use Rattle.judge.specs.declared.Verdict.{Verdict}
+use Rattle.judge.specs.Check.{logRefusalNumber}
+use Rattle.judge.specs.Judge as judge-specs
+use Rattle.judge.specs.Judge.{judgeOf}
+use Rattle.listing.specs.declared.Part.the-variants as part
+use Rattle.listing.specs.declared.Report.{Report}
+use Rattle.listing.specs.declared.Report.the-variants.{Judged, Refused}
+use Rattle.listing.specs.Listing.{listed, room}
+use Rattle.respond.specs.declared.Response.the-variants.{Written, TooShort}
+use Rattle.respond.specs.Respond.{logReport, chartReport, responseOf, bufferAfter}
+
+-- the report of a judge's answer
+abbrev pub ofAnswer : Verdict → JudgeAnswer → Report
+ofAnswer v a = logReport (record { number = judge-specs.numberOf a; offset = judge-specs.offsetOf a; verdict = v })
+
+pub log-refused : (v : Verdict) (k : LogRefusal) (offset : ℕ) → ofAnswer v (judge.Refused k offset) ≡ Refused part.Log (logRefusalNumber k) offset
+log-refused v (log.NoRecord bytes.CutShort) offset = refl
+log-refused v (log.NoRecord bytes.UnknownByte) offset = refl
+log-refused v log.TimeFalls offset = refl
+log-refused v log.TooManyRecords offset = refl
+
+-- the report of a reader's answer
+abbrev pub ofRead : Chart → List ℕ → ChartAnswer → Report
+ofRead c s a = chartReport (record { number = read-specs.numberOf a; offset = read-specs.offsetOf a; chart = c }) s
+
+pub chart-refused : (c : Chart) (s : List ℕ) (f : Refusal) (offset : ℕ) → ofRead c s (read.Refused f offset) ≡ Refused part.Chart (refusalNumber f) offset
+chart-refused c s chart.CutShort offset = refl
+chart-refused c s chart.UnknownCommand offset = refl
+chart-refused c s chart.OutOfPlace offset = refl
+chart-refused c s chart.OutOfRange offset = refl
+chart-refused c s chart.NoRoom offset = refl
+chart-refused c s chart.BareRegion offset = refl
+chart-refused c s chart.HotWithoutTerm offset = refl
+chart-refused c s chart.HotInPrechart offset = refl
+chart-refused c s chart.NoneAbove offset = refl
+chart-refused c s chart.NoMainRegion offset = refl
+chart-refused c s chart.BytesAfterEnd offset = refl
+
+pub too-short : (l t : List ℕ) → length l < room → (TooShort ≡ responseOf (length l) t) × (l ≡ bufferAfter l t)
+too-short l t h = let e = lt-ltb (length l) room h in (rw e, rw e)
+
+pub written : (l m t : List ℕ) (n : ℕ) → room ≤ length l → n ≡ length t → m ≡ listed l t
+    → (Written n ≡ responseOf (length l) t) × (m ≡ bufferAfter l t)
+written l m t n h e b = let f = le-ltb (length l) room h in (rw f (ap Written e), rw f b)

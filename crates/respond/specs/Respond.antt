@@ -1,0 +1,59 @@
+-- From the printing program's input to what it prints: "chart length (2 bytes, most significant first), chart, log".
+use Prim.Native.Nat.{ℕ, _+_, _-_}
+use mathlib.Core.Bool.{cond}
+use mathlib.Core.List.{List}
+use lib.ListN.{length, take, drop}
+use lib.Dec.{eqb, ltb}
+use Rattle.wire.specs.Bytes.{word16}
+use Rattle.chart_reader.specs.Read as read
+use Rattle.chart_reader.specs.Read.{readChart}
+use Rattle.judge.specs.Judge as judge
+use Rattle.judge.specs.Judge.{judgeOf}
+use Rattle.listing.specs.Listing.{listingOf, listed, room}
+use Rattle.listing.specs.declared.Part.the-variants.{Input, Chart, Log}
+use Rattle.listing.specs.declared.Report.{Report}
+use Rattle.listing.specs.declared.Report.the-variants.{Judged, Refused}
+use Rattle.respond.specs.declared.Response.{Response}
+use Rattle.respond.specs.declared.Response.the-variants.{Written, TooShort}
+
+-- "refused log N at O", or the verdict
+abbrev pub logReport : judge.Said → Report
+logReport said = cond (eqb (said .number) 0) (Judged (said .verdict)) (Refused Log (said .number) (said .offset))
+
+-- "refused chart N at O", or what judging says
+abbrev pub chartReport : read.Said → List ℕ → Report
+chartReport said log = cond (eqb (said .number) 0) (logReport (judgeOf (said .chart) log)) (Refused Chart (said .number) (said .offset))
+
+unfoldable pub partsReport : List ℕ → List ℕ → Report
+partsReport chart log = chartReport (readChart chart) log
+
+abbrev pub mostInput : ℕ
+mostInput = 65536
+
+abbrev pub lengthSize : ℕ
+lengthSize = 2
+
+-- "refused input 40 at 0 (over 65,536 bytes), refused input 41 at 0 (under 2 bytes, or a length beyond the rest)", then the chart's and
+-- the log's, "tried in this order"
+unfoldable pub reportOf : List ℕ → Report
+reportOf s =
+    cond (ltb mostInput (length s)) (Refused Input 40 0)
+    (cond (ltb (length s) lengthSize) (Refused Input 41 0)
+    (cond (ltb (length s - lengthSize) (word16 s 0)) (Refused Input 41 0)
+    (partsReport (take (word16 s 0) (drop lengthSize s)) (drop (lengthSize + word16 s 0) s))))
+
+-- what is printed for an input
+abbrev pub textOf : List ℕ → List ℕ
+textOf s = listingOf (reportOf s)
+
+-- A buffer in which some listing would find no room is refused and stays as it was.
+abbrev pub responseOf : ℕ → List ℕ → Response
+responseOf size text = cond (ltb size room) TooShort (Written (length text))
+
+abbrev pub bufferAfter : List ℕ → List ℕ → List ℕ
+bufferAfter buffer text = cond (ltb (length buffer) room) buffer (listed buffer text)
+
+-- the number of bytes written
+abbrev pub countOf : Response → ℕ
+countOf (Written n) = n
+countOf TooShort = 0

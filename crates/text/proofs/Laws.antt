@@ -1,0 +1,109 @@
+-- Texts put one behind the other. Assumes nothing.
+use mathlib.Core.Path.{_≡_, refl, sym, ap, _∙_, subst}
+use mathlib.Core.Bool.{Bool, true, false, cond}
+use mathlib.Core.List.{List, [], _∷_, _++_}
+use Prim.Native.Nat.{ℕ, zero, suc, _+_, _-_, _/_, _%_, _*_, _^_, _≤_, _<_}
+use native.Mathlib.Nat.{add-zero, add-suc, suc-add, pow-suc}
+use native.Mathlib.Numerals.{add-one}
+use native.Mathlib.Omega.{arith}
+use borrow.Author.Tests.{ltb-false, lt-ltb, le-ltb}
+use lib.ListN.{length, getD, set, take, drop, length-append, length-set}
+use lib.Seq.{sets, length-take-le, take-suc, sets-eq}
+use lib.Dec.{ltb}
+use Rattle.text.specs.Text.{Wrote, Spells, digitsOf, spelt}
+
+pub sets-append : (l : List ℕ) (i : ℕ) (t u : List ℕ) → sets l i (t ++ u) ≡ sets (sets l i t) (i + length t) u
+sets-append l i [] u = ap (λ (k : ℕ). sets l k u) (sym (add-zero i))
+sets-append l i (a ∷ t) u =
+    sets-append (set l i a) (suc i) t u
+    ∙ ap (λ (k : ℕ). sets (sets (set l i a) (suc i) t) k u) (suc-add i (length t) ∙ sym (add-suc i (length t)))
+
+-- one text behind another
+pub then : {l t m u k : List ℕ} {i j n : ℕ} → Wrote l i t m j → Wrote m j u k n → Wrote l i (t ++ u) k n
+then {l} {t} {m} {u} {k} {i} {j} {n} a b = record {
+  place = omega (arith, a .place, b .place, length-append t u);
+  bytes = b .bytes ∙ ap (λ (x : List ℕ). sets x j u) (a .bytes) ∙ ap (λ (x : ℕ). sets (sets l i t) x u) (a .place) ∙ sym (sets-append l i t u);
+  size = b .size ∙ a .size;
+}
+
+pub nothing : (l : List ℕ) (i j : ℕ) → j ≡ i → Wrote l i [] l j
+nothing l i j e = record { place = e ∙ sym (add-zero i); bytes = refl; size = refl }
+
+pub one : (l : List ℕ) (i a j : ℕ) → j ≡ i + 1 → Wrote l i (a ∷ []) (set l i a) j
+one l i a j e = record { place = e; bytes = refl; size = length-set l i a }
+
+-- the same text, written otherwise
+pub spelled : {l t u m : List ℕ} {i j : ℕ} → t ≡ u → Wrote l i t m j → Wrote l i u m j
+spelled {l} {t} {u} {m} {i} {j} e w = subst (λ (x : List ℕ). Wrote l i x m j) e w
+
+-- one byte more of a text
+pub take-more : (s : List ℕ) (i : ℕ) → i < length s → take i s ++ (getD s i 0 ∷ []) ≡ take (i + 1) s
+take-more s i h = sym (ap (λ (k : ℕ). take k s) (add-one i) ∙ take-suc s i 0 h)
+
+pub digits-length : (k n : ℕ) → length (digitsOf k n) ≤ k
+unfolding digitsOf
+digits-length zero n = omega arith
+digits-length (suc k) n = by (ltb n 10) (digits-length k (n / 10))
+  where
+    by : (b : Bool) → length (digitsOf k (n / 10)) ≤ k → length (cond b ((48 + n) ∷ []) (digitsOf k (n / 10) ++ ((48 + n % 10) ∷ []))) ≤ suc k
+    by true h = omega arith
+    by false h = omega (arith, length-append (digitsOf k (n / 10)) ((48 + n % 10) ∷ []))
+
+pub digits-none : (k n : ℕ) → k ≡ 0 → digitsOf k n ≡ []
+unfolding digitsOf
+digits-none k n e = ap (λ (x : ℕ). digitsOf x n) e
+
+pub digits-one : (k n : ℕ) → (k ≡ 0 → ⊥) → n < 10 → digitsOf k n ≡ (48 + n) ∷ []
+unfolding digitsOf
+digits-one k n z h =
+    let e : k ≡ suc (k - 1) = omega arith in
+    ap (λ (x : ℕ). digitsOf x n) e ∙ rw (lt-ltb _ _ h)
+
+pub digits-more : (k n : ℕ) → (k ≡ 0 → ⊥) → 10 ≤ n → digitsOf k n ≡ digitsOf (k - 1) (n / 10) ++ ((48 + n % 10) ∷ [])
+unfolding digitsOf
+digits-more k n z h =
+    let e : k ≡ suc (k - 1) = omega arith in
+    ap (λ (x : ℕ). digitsOf x n) e ∙ rw (le-ltb _ _ h)
+
+pub digits-room : (k n : ℕ) → (k ≡ 0 → ⊥) → 10 ≤ n → length (digitsOf k n) ≡ length (digitsOf (k - 1) (n / 10)) + 1
+digits-room k n z h = ap length (digits-more k n z h) ∙ length-append (digitsOf (k - 1) (n / 10)) ((48 + n % 10) ∷ [])
+
+spelt-append : (n : ℕ) (t u : List ℕ) → spelt n (t ++ u) ≡ spelt (spelt n t) u
+spelt-append n [] u = refl
+spelt-append n (d ∷ t) u = spelt-append (n * 10 + (d - 48)) t u
+
+-- the digits spell the number they are of
+pub digits-spell : (k n : ℕ) → n < 10 ^ k → spelt 0 (digitsOf k n) ≡ n
+unfolding digitsOf
+digits-spell zero n h = omega arith
+digits-spell (suc k) n h = by (ltb n 10) refl (λ g. digits-spell k (n / 10) g)
+  where
+    by : (b : Bool) → ltb n 10 ≡ b → (n / 10 < 10 ^ k → spelt 0 (digitsOf k (n / 10)) ≡ n / 10)
+        → spelt 0 (cond b ((48 + n) ∷ []) (digitsOf k (n / 10) ++ ((48 + n % 10) ∷ []))) ≡ n
+    by true e i = omega arith
+    by false e i =
+        let m : 10 ^ suc k ≡ 10 ^ k * 10 = pow-suc 10 k in
+        let g : n / 10 < 10 ^ k = omega arith in
+        spelt-append 0 (digitsOf k (n / 10)) ((48 + n % 10) ∷ []) ∙ rw (i g) (omega arith)
+
+first-of : (t u : List ℕ) → 48 < getD t 0 0 → getD (t ++ u) 0 0 ≡ getD t 0 0
+first-of [] u h = omega arith
+first-of (d ∷ t) u h = refl
+
+-- and the first is no zero, unless the number is 0
+pub digits-lead : (k n : ℕ) → n < 10 ^ k → 0 < n → 48 < getD (digitsOf k n) 0 0
+unfolding digitsOf
+digits-lead zero n h p = omega arith
+digits-lead (suc k) n h p = by (ltb n 10) refl (λ g q. digits-lead k (n / 10) g q)
+  where
+    by : (b : Bool) → ltb n 10 ≡ b → (n / 10 < 10 ^ k → 0 < n / 10 → 48 < getD (digitsOf k (n / 10)) 0 0)
+        → 48 < getD (cond b ((48 + n) ∷ []) (digitsOf k (n / 10) ++ ((48 + n % 10) ∷ []))) 0 0
+    by true e i = omega arith
+    by false e i =
+        let m : 10 ^ suc k ≡ 10 ^ k * 10 = pow-suc 10 k in
+        let g : n / 10 < 10 ^ k = omega arith in
+        let h : 48 < getD (digitsOf k (n / 10)) 0 0 = i g (omega (arith, ltb-false n 10 e)) in
+        rw (first-of (digitsOf k (n / 10)) ((48 + n % 10) ∷ []) h) h
+
+pub spells : (n : ℕ) → n < 10 ^ 20 → Spells n (digitsOf 20 n)
+spells n h = record { number = digits-spell 20 n h; no-leading-zero = λ p. digits-lead 20 n h p }

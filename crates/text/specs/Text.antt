@@ -1,0 +1,45 @@
+-- Text as a list of bytes, and a buffer in which it stands.
+use Prim.Native.Char.{code}
+use Prim.Native.String as string
+use Prim.Native.String.{String}
+use Prim.Native.Nat.{ℕ, zero, suc, _+_, _*_, _-_, _/_, _%_, _<_}
+use mathlib.Core.Path.{_≡_}
+use mathlib.Core.Bool.{cond}
+use mathlib.Core.List.{List, [], _∷_, _++_}
+use lib.ListN.{length, getD}
+use lib.Seq.{sets}
+use lib.Dec.{ltb}
+
+-- the bytes of a text in ASCII
+unfoldable pub bytesOf : String → List ℕ
+bytesOf string.[] = []
+bytesOf (string._∷_ c s) = code c ∷ bytesOf s
+
+-- the byte of the digit 0
+abbrev pub digitZero : ℕ
+digitZero = 48
+
+-- the decimal digits of n, the most significant first, without leading zeros; at most k of them
+unfoldable pub digitsOf : ℕ → ℕ → List ℕ
+digitsOf zero n = []
+digitsOf (suc k) n = cond (ltb n 10) ((digitZero + n) ∷ []) (digitsOf k (n / 10) ++ ((digitZero + n % 10) ∷ []))
+
+-- 20 digits are enough for every number below 2 ^ 64
+abbrev pub decimalOf : ℕ → List ℕ
+decimalOf n = digitsOf 20 n
+
+-- the number that digits spell behind those of n
+abbrev pub spelt : ℕ → List ℕ → ℕ
+spelt n [] = n
+spelt n (d ∷ ds) = spelt (n * 10 + (d - digitZero)) ds
+
+-- no digit is lost, and none stands there for nothing
+pub record Spells (n : ℕ) (t : List ℕ) : Type 0 where
+  pub number : spelt 0 t ≡ n
+  pub no-leading-zero : 0 < n → digitZero < getD t 0 0
+
+-- a buffer l has become m: the text t stands in it from i on, every other byte is as it was, and j is just behind t
+pub record Wrote (l : List ℕ) (i : ℕ) (t m : List ℕ) (j : ℕ) : Type 0 where
+  pub place : j ≡ i + length t
+  pub bytes : m ≡ sets l i t
+  pub size : length m ≡ length l

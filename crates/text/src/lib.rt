@@ -1,0 +1,64 @@
+// Text put into a buffer that the caller lends: bytes as they stand, and numbers in decimal.
+ghost use mathlib.Core.Path.{_≡_};
+ghost use mathlib.Core.List.{_∷_, []};
+ghost use Prim.Native.Nat.{_+_, _<_, _≤_};
+ghost use lib.ListN.{length};
+ghost use Rattle.text.specs.Text.{Wrote, Spells, digitsOf, decimalOf};
+
+// The digits of the largest u64.
+const MOST_DIGITS: usize = 20;
+
+const TEN: u64 = 10;
+
+pub fn put_byte(out: &mut [u8], at: usize, b: u8) -> usize
+    requires { ⌜ at < length (now out) ⌝ }
+    ensures { λ r. ⌜ Wrote (now (out .entry)) at (b ∷ []) (now (out .exit)) r ⌝ }
+{
+    out[at] = b;
+    at + 1
+}
+
+// A text as it stands.
+pub fn put_bytes(out: &mut [u8], at: usize, text: &[u8]) -> usize
+    requires { ⌜ at + length (now text) ≤ length (now out) ⌝ }
+    ensures { λ r. ⌜ Wrote (now (out .entry)) at (now (text .entry)) (now (out .exit)) r ⌝ }
+{
+    let mut i = 0;
+    while i < text.len() {
+        out[at + i] = text[i];
+        i += 1;
+    }
+    at + i
+}
+
+// A digit in ASCII.
+fn digit(d: u64) -> u8
+    requires { ⌜ d < 10 ⌝ }
+    ensures { λ r. ⌜ r ≡ 48 + d ⌝ }
+{
+    b'0' + d as u8
+}
+
+// The decimal digits of n, at most `places` of them.
+fn put_digits(out: &mut [u8], at: usize, n: u64, places: usize) -> usize
+    requires { ⌜ at + length (digitsOf places n) ≤ length (now out) ⌝ }
+    ensures { λ r. ⌜ Wrote (now (out .entry)) at (digitsOf places n) (now (out .exit)) r ⌝ }
+{
+    if places == 0 {
+        return at;
+    }
+    if n < TEN {
+        return put_byte(out, at, digit(n));
+    }
+    let next = put_digits(out, at, n / TEN, places - 1);
+    put_byte(out, next, digit(n % TEN))
+}
+
+// A number in decimal: its digits spell it, and the first is no zero, unless it is 0 itself.
+pub fn put_decimal(out: &mut [u8], at: usize, n: u64) -> usize
+    requires { ⌜ at + length (decimalOf n) ≤ length (now out) ⌝ }
+    ensures text { λ r. ⌜ Wrote (now (out .entry)) at (decimalOf n) (now (out .exit)) r ⌝ }
+    ensures spelling { λ r. ⌜ Spells n (decimalOf n) ⌝ }
+{
+    put_digits(out, at, n, MOST_DIGITS)
+}
