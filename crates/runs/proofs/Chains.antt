@@ -1,6 +1,6 @@
 -- A lawful row is a chain of the source's steps over the stretch's chart messages, and every such chain is a lawful row: record by
 -- record, through the machine's move. Assumes nothing.
-use mathlib.Core.Path.{_≡_, refl, sym, ap, _∙_, subst}
+use mathlib.Core.Path.{_≡_, refl, sym, ap, _∙_}
 use mathlib.Core.Logic.{inl, inr}
 use mathlib.Core.Bool.{So}
 use Prim.Native.Nat.{ℕ, suc, _-_, _≤_}
@@ -104,11 +104,11 @@ module _ (C : Chart) (A : Accepted C) (o : ℕ) where
       → Lawful C o s q → Lawful C o (s ▸ e) r
       → OneMessage C (shown C o s q) (e .time - lastOf o (chartMessages C s)) (e .code) (configOf C (e .time) o (chartMessages C (s ▸ e)) r)
   row-step s e q r h R M L =
-      let p : Place = placeOf C o (chartMessages C s) q in
-      let v : place C p e ≡ rests (placeOf C o (chartMessages C (s ▸ e)) r) = rests-row C o A (move-means C A o s e h q M) r L in
-      rw (← (config-of-place C o (lastOf o (chartMessages C s)) (chartMessages C s) q), ← (config-of-place C o (e .time) (chartMessages C (s ▸ e)) r))
-      (steps-of C A p e (lastOf o (chartMessages C s)) (past C o (chartMessages C s) q (R .0)) (R .1) h
-      (placeOf C o (chartMessages C (s ▸ e)) r) (at-rest s q M) v)
+      let l : Snoc LogRecord = chartMessages C s in
+      let l′ : Snoc LogRecord = chartMessages C (s ▸ e) in
+      let v : place C (placeOf C o l q) e ≡ rests (placeOf C o l′ r) = rests-row C o A (move-means C A o s e h q M) r L in
+      rw (← (config-of-place C o (lastOf o l) l q), ← (config-of-place C o (e .time) l′ r))
+      (steps-of C A (placeOf C o l q) e (lastOf o l) (past C o l q (R .0)) (R .1) h (placeOf C o l′ r) (at-rest s q M) v)
 
   pub row-is-chain : (s : Snoc LogRecord) (r : Row) → Rising o (chartMessages C s) → Lawful C o s r
       → Chain C o (chartMessages C s) (shown C o s r)
@@ -128,7 +128,8 @@ module _ (C : Chart) (A : Accepted C) (o : ℕ) where
       → (r : Row) × Lawful C o (s ▸ e) r × (z ≡ configOf C (e .time) o (chartMessages C (s ▸ e)) r)
   step-row s e q z h R M N =
       let l : Snoc LogRecord = chartMessages C s in
-      let S = of-steps C A (placeOf C o l q) e (lastOf o l) (past C o l q (R .0)) (R .1) h z (rw (config-of-place C o (lastOf o l) l q) N) in
+      let S = of-steps C A (placeOf C o l q) e (lastOf o l) (past C o l q (R .0)) (R .1) h z
+      (rw (config-of-place C o (lastOf o l) l q) N) in
       row-rests C o (move-means C A o s e h q M) (e .time) (S .0) z (S .1) (S .2)
 
   chain-empty : {z : Config} → Chain C o ε z → z ≡ initial

@@ -2,19 +2,19 @@
 -- the cases of `Taken` are matched, both ways. Assumes nothing.
 use mathlib.Core.Path.{_≡_, refl, sym, ap, _∙_, subst, fun-ext}
 use mathlib.Core.Logic.{inl, inr}
-use mathlib.Core.Bool.{Bool, false, So}
+use mathlib.Core.Bool.{Bool, true, false, cond, So}
 use Prim.Native.Nat.{ℕ, suc, _-_, _≤_}
 use native.Mathlib.Omega.{arith}
 use lib.Dec.{ltb}
 use borrow.Author.Tests.{eq-eqb, ltb-false, le-ltb, lt-leb}
 use Rattle.rounds.specs.Chart.{Chart, Accepted}
 use Rattle.rounds.specs.Rows.{LogRecord, chartMessage, Full, PrechartDone, values}
-use Rattle.rounds.specs.Feeds.{mostRecords, noReadyRegion, conditionFails, Answer, toldBroken, toldKept, toldDropped, entered, moved, quiet}
+use Rattle.rounds.specs.Feeds.{mostRecords, noReadyRegion, conditionFails, Answer, refused, toldBroken, toldKept, toldDropped, entered, moved, quiet}
 use Rattle.rounds.specs.Machine.{Place, Move, stuck, fails, rests, place, Monitor, Step, full, prechartDone, goOn, keepRound, dropRound, breakRound, conclude, accept, feed, Fit}
 use Rattle.rounds.proofs.Facts.{split, all-of}
 use Rattle.rounds.proofs.Machine.{full-true, full-false, done-true, done-false, done-is, done-is-not}
 use Rattle.runs.specs.Paper.{Config, AtRest, OneMessage, Failure, configAt}
-use Rattle.runs.specs.Taken.{Status, onward, keeping, dropping, breaking, wait, Unmatched, Taken, passes, moves, enters, keeps, fails-cold, fails-hot, unmatched-prechart, unmatched-main, statusOf, Acceptable}
+use Rattle.runs.specs.Taken.{Status, onward, keeping, dropping, breaking, wait, Unmatched, Taken, passes, moves, enters, keeps, fails-cold, fails-hot, unmatched-prechart, unmatched-main, caseOf, statusOf, Acceptable}
 use Rattle.runs.proofs.Steps.{shift-values, opening-config, terminates, stuck-of, of-unmatched, steps-of, failure-of, of-steps, of-failure}
 
 module _ (C : Chart) where
@@ -49,7 +49,8 @@ module _ (C : Chart) where
   pub same-monitor : (m m′ : Monitor) → Fit C m → Fit C m′ → statusOf C m ≡ statusOf C m′ → m ≡ m′
   unfolding configAt
   same-monitor m m′ F F′ E =
-      let v : values C (m .now) (m .at .clocks) ≡ values C (m′ .now) (m′ .at .clocks) = ap {B = ℕ → ℕ} (λ (x : Status). x .config .valuation) E in
+      let v : values C (m .now) (m .at .clocks) ≡ values C (m′ .now) (m′ .at .clocks)
+      = ap {B = ℕ → ℕ} (λ (x : Status). x .config .valuation) E in
       let k : m .at .clocks ≡ m′ .at .clocks = fun-ext (same-clocks m m′ F F′ (ap {B = ℕ} (λ (x : Status). x .now) E) v) in
       λ i. record {
         at = record { fired = E i .config .cut; clocks = k i };
@@ -60,6 +61,21 @@ module _ (C : Chart) where
         break = E i .break;
         reason = E i .reason;
       }
+
+-- the machine finds no region
+unplaceable : Move → Bool
+unplaceable stuck = true
+unplaceable (fails i p) = false
+unplaceable (rests p) = false
+
+caseFor : Bool → Answer → ℕ
+caseFor b (refused k) = 0
+caseFor b quiet = 0
+caseFor b moved = 1
+caseFor b entered = 2
+caseFor b toldKept = 3
+caseFor b toldDropped = cond b 6 4
+caseFor b (toldBroken n k) = cond b 7 5
 
 module _ (C : Chart) (A : Accepted C) where
   module _ (m : Monitor) (e : LogRecord) (P : Acceptable C m e) where
@@ -206,7 +222,8 @@ module _ (C : Chart) (A : Accepted C) where
     is (passes h) = rw h (is-on quiet (m .at) waited)
     is (moves h z M nf k) =
         let W : Rests h z = rests-at h z M in
-        rw (W .is-conclude ∙ concludes-moved (W .at) (rw (W .same-cut) at nf) (rw (W .same-cut) at k)) (is-on moved (W .at) (W .same-config))
+        rw (W .is-conclude ∙ concludes-moved (W .at) (rw (W .same-cut) at nf) (rw (W .same-cut) at k))
+        (is-on moved (W .at) (W .same-config))
     is (enters h z M nf k d) =
         let W : Rests h z = rests-at h z M in
         rw (W .is-conclude ∙ concludes-entered (W .at) (rw (W .same-cut) at nf) k (rw (W .same-cut) at d))
@@ -224,10 +241,24 @@ module _ (C : Chart) (A : Accepted C) where
     is (unmatched-main h U d) = rw (accept-as h (of-unmatched C A (m .at) e U), done-is C (m .at .fired) d)
         (is-break noReadyRegion (m .at) waited)
 
+    -- the answer tells the case, with whether the machine found a region
+    numbered : {y : Status} {a : Answer} (T : Taken C before e y a) → caseOf C T ≡ caseFor (unplaceable (place C (m .at) e)) a
+    unfolding caseFor unplaceable Unmatched configAt
+    numbered (passes h) = refl
+    numbered (moves h z M nf k) = refl
+    numbered (enters h z M nf k d) = refl
+    numbered (keeps h z M f) = refl
+    numbered (fails-cold h i y F t T) = rw (of-failure C A (m .at) e (m .now) (P .fit .moments) (P .forward) h i F .1)
+    numbered (fails-hot h i y F t) = rw (of-failure C A (m .at) e (m .now) (P .fit .moments) (P .forward) h i F .1)
+    numbered (unmatched-prechart h U n) = rw (of-unmatched C A (m .at) e U)
+    numbered (unmatched-main h U d) = rw (of-unmatched C A (m .at) e U)
+
   pub given : (m : Monitor) (e : LogRecord) → Acceptable C m e
       → Taken C (statusOf C m) e (statusOf C (feed C m e .next)) (feed C m e .answer)
   given m e P = rw (accepts C m e P) (told m e P)
 
-  pub only : (m : Monitor) (e : LogRecord) → Acceptable C m e → (y : Status) (a : Answer) → Taken C (statusOf C m) e y a
-      → (y ≡ statusOf C (feed C m e .next)) × (a ≡ feed C m e .answer)
-  only m e P y a T = rw (accepts C m e P) (is m e P T)
+  pub only : (m : Monitor) (e : LogRecord) (P : Acceptable C m e) (y : Status) (a : Answer) (T : Taken C (statusOf C m) e y a)
+      → (y ≡ statusOf C (feed C m e .next)) × (a ≡ feed C m e .answer) × (caseOf C T ≡ caseOf C (given m e P))
+  only m e P y a T =
+      let I : (y ≡ statusOf C (feed C m e .next)) × (a ≡ feed C m e .answer) = rw (accepts C m e P) (is m e P T) in
+      (I .0, I .1, numbered m e P T ∙ ap (caseFor (unplaceable (place C (m .at) e))) (I .1) ∙ sym (numbered m e P (given m e P)))

@@ -1,6 +1,6 @@
 -- Whole rounds after a list of feeds: the running one is a run to the monitor's configuration; where a record is answered entered or
 -- kept, the round's word satisfies the prechart or the chart. Times never fall, so that the rows are chains. Assumes nothing.
-use mathlib.Core.Path.{_≡_, refl, sym, ap, _∙_, subst}
+use mathlib.Core.Path.{_≡_, refl, sym, ap, _∙_}
 use mathlib.Core.Logic.{_≢_, inl, inr}
 use mathlib.Core.Option.{none, some}
 use Prim.Native.Nat.{ℕ, _-_, _≤_}
@@ -9,10 +9,10 @@ use lib.Dec.{ltb}
 use borrow.Author.Tests.{ltb-false}
 use Rattle.rounds.specs.Base.{Snoc, ε, _▸_}
 use Rattle.rounds.specs.Chart.{Chart, Accepted}
-use Rattle.rounds.specs.Rows.{LogRecord, Row, stands, chartMessage, chartMessages, Lawful, Full, PrechartDone}
+use Rattle.rounds.specs.Rows.{LogRecord, Row, stands, chartMessage, chartMessages, Lawful, PrechartDone}
 use Rattle.rounds.specs.Feeds.{timeFalls, lastMoment, refusal, kept, dropped, broken, Outcome, Stretch, Last, unended, behindBreak, behind, Answer, refused, toldKept, entered, Onward, completes-prechart, fires, stays, FedOne, refuses, runs-on, ends, again, Fed, none-yet, one-more}
 use Rattle.rounds.specs.Machine.{Place, Monitor, Step, goOn, keepRound, dropRound, breakRound, feed, after}
-use Rattle.rounds.specs.Demand3.{Unbroken, AtLast, Agrees, Meaning}
+use Rattle.rounds.specs.Demand3.{Unbroken, AtLast, Meaning}
 use Rattle.rounds.proofs.Facts.{split, found, none-some}
 use Rattle.rounds.proofs.Moments.{chartMessages-take, chartMessages-skip}
 use Rattle.rounds.proofs.Rows.{lawful-before, one-row}
@@ -21,7 +21,7 @@ use Rattle.rounds.proofs.Endings.{Comes, on, keeps, drops, breaks}
 use Rattle.rounds.proofs.Feeds.{feed-unbroken, comes-unbroken, agrees}
 use Rattle.rounds.proofs.Exactly.{exactly}
 use Rattle.rounds.proofs.Fitness.{after-fit}
-use Rattle.runs.specs.Paper.{Config, Letter, delay, message, IsCut, OneMessage, configAt, configOf, lastOf, Rising, spelled, Consumes}
+use Rattle.runs.specs.Paper.{Config, Letter, delay, message, IsCut, configAt, configOf, lastOf, Rising, spelled, Consumes}
 use Rattle.runs.specs.Demand2.{CompletedBy}
 use Rattle.runs.proofs.Words.{chain-run, full-completes, message-completes}
 use Rattle.runs.proofs.Chains.{shown, row-step, row-is-chain}
@@ -53,7 +53,8 @@ module _ (C : Chart) (A : Accepted C) (o : ℕ) (s : Snoc LogRecord) (e : LogRec
     | inr h ↦ absurd (undone (rw (← (one-row C A o s q r lawful (lawful-before C o s e r h L))) at done))
   ]
 
-  onward-enters : (r : Row) (a : Answer) → Lawful C o (s ▸ e) r → Onward C q r a → a ≡ entered → Enters (placeOf C o (chartMessages C (s ▸ e)) r)
+  onward-enters : (r : Row) (a : Answer) → Lawful C o (s ▸ e) r → Onward C q r a → a ≡ entered
+      → Enters (placeOf C o (chartMessages C (s ▸ e)) r)
   onward-enters r a L (completes-prechart undone done) p = rows-enter r L undone done
   onward-enters r a L (fires lt f) p = absurd (let z : _≡_ {A = ℕ} 0 1 = cc in omega arith)
   onward-enters r a L (stays h) p = absurd (let z : _≡_ {A = ℕ} 0 1 = cc in omega arith)

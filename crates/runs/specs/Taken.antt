@@ -78,6 +78,17 @@ module _ (C : Chart) where
     unmatched-main : So (chartMessage C e) → Unmatched (x .config) e → PrechartDone C (x .config .cut)
         → Taken x e (breaking x e noReadyRegion (wait (x .config) (ticks x e))) (toldBroken (suc (x .records)) noReadyRegion)
 
+  -- which case it is, in the order above
+  abbrev pub caseOf : {x : Status} {e : LogRecord} {y : Status} {a : Answer} → Taken x e y a → ℕ
+  caseOf (passes h) = 0
+  caseOf (moves h z M l p) = 1
+  caseOf (enters h z M l n p) = 2
+  caseOf (keeps h z M f) = 3
+  caseOf (fails-cold h i y F c T) = 4
+  caseOf (fails-hot h i y F c) = 5
+  caseOf (unmatched-prechart h U n) = 6
+  caseOf (unmatched-main h U d) = 7
+
   -- a monitor's status
   abbrev pub statusOf : Monitor → Status
   statusOf m = record { config = configAt C (m .now) (m .at); now = m .now; records = m .records; kept = m .kept; dropped = m .dropped; break = m .break; reason = m .reason }
