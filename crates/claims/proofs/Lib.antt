@@ -1,2 +1,5 @@
 pub mod Answers
 pub mod Watching
+pub mod Examples
+pub mod Demand1
+pub mod Demand2

@@ -1,13 +1,61 @@
-// What is claimed of the operations: a function that uses them all, and one whose contract is the page of claims.
+// What is claimed of the operations. The first demand is in the contracts of the five functions that call one operation each; the second
+// and the third are claims about what these operations cite, and `watch` uses them from bytes.
 use chart_reader::ChartAnswer;
+use chart_reader::ChartRead;
+use judge::Judgement;
 use log_reader::Next;
 use model::Chart;
 use model::Monitor;
+use model::Record;
+use monitor::Made;
+use stepping::Step;
 ghost use mathlib.Core.Path.{_≡_};
 ghost use Rattle.model.specs.Monitor.{zeroMonitor};
+ghost use Rattle.chart_reader.specs.Read.{said as readSaid};
+ghost use Rattle.stepping.specs.Answers.{answerOf};
+ghost use Rattle.judge.specs.Judge.{said as judgeSaid};
 ghost use Rattle.claims.specs.Claims.{Claims};
+ghost use Rattle.claims.specs.Demand1.{ReadsAs, MakesAs, FeedsAs, FindsAs, JudgesAs};
 ghost use Rattle.log_reader.specs.Records.{recordsIn};
 ghost use Rattle.claims.specs.Watch.{FedAll, Watches};
+
+// Reading a chart: every byte string.
+pub fn read_chart(bytes: &[u8]) -> ChartRead
+    ensures demand { λ r. ⌜ ReadsAs (now (bytes .entry)) (readSaid r) ⌝ }
+    ensures unchanged { λ r. ⌜ now (bytes .exit) ≡ now (bytes .entry) ⌝ }
+{
+    chart_reader::read(bytes)
+}
+
+// Making a monitor: every chart value.
+pub fn make_monitor(chart: Chart) -> Made
+    ensures { λ r. ⌜ MakesAs chart r ⌝ }
+{
+    monitor::new(chart)
+}
+
+// Feeding a record: every chart value, monitor and record.
+pub fn feed_record(chart: Chart, m: Monitor, e: Record) -> Step
+    ensures { λ r. ⌜ FeedsAs chart m e (answerOf (r .answer)) (r .next) ⌝ }
+{
+    monitor::feed(chart, m, e)
+}
+
+// Reading one record: every byte string and place.
+pub fn read_record(log: &[u8], place: usize) -> Next
+    ensures demand { λ r. ⌜ FindsAs (now (log .entry)) place r ⌝ }
+    ensures unchanged { λ r. ⌜ now (log .exit) ≡ now (log .entry) ⌝ }
+{
+    log_reader::read_record(log, place)
+}
+
+// Judging a whole log: every chart value and byte string.
+pub fn judge_log(chart: Chart, log: &[u8]) -> Judgement
+    ensures demand { λ r. ⌜ JudgesAs chart (now (log .entry)) (judgeSaid r) ⌝ }
+    ensures unchanged { λ r. ⌜ now (log .exit) ≡ now (log .entry) ⌝ }
+{
+    judge::judge(chart, log)
+}
 
 // What reading the chart said, and the monitor after the log's records.
 pub struct Watched {

@@ -1,5 +1,5 @@
 -- The parts of a listing, put one behind the other, are the listing: appending is associative. Assumes nothing.
-use mathlib.Core.Path.{_≡_, refl}
+use mathlib.Core.Path.{_≡_}
 use mathlib.Core.List.{List, [], _∷_, _++_, append-assoc, append-nil}
 use Prim.Native.Nat.{ℕ}
 use Rattle.text.specs.Text.{bytesOf, decimalOf}

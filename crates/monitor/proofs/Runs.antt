@@ -62,7 +62,7 @@ zero-fresh = λ i. record {
 
 module _ (c : Chart) (wf : wellFormed c ≡ true) (A : Accepted (chartOf c)) where
   -- a fit monitor is fed as the machine is
-  fed-fit : (m : Monitor) (e : Record) → Fit (chartOf c) (monitorAt m) → feedOf c m e ≡ feed (chartOf c) (monitorAt m) (logRecord e)
+  pub fed-fit : (m : Monitor) (e : Record) → Fit (chartOf c) (monitorAt m) → feedOf c m e ≡ feed (chartOf c) (monitorAt m) (logRecord e)
   unfolding feedOf
   fed-fit m e F = rw (wf, of-fit (chartOf c) A m F)
 
@@ -70,19 +70,19 @@ module _ (c : Chart) (wf : wellFormed c ≡ true) (A : Accepted (chartOf c)) whe
   D = demand-3 (chartOf c) A
 
   -- the monitor and the answers after a list
-  record Goes (es : Snoc Record) (told : Snoc Told) (m : Monitor) : Type 0 where
-    monitor : monitorAt m ≡ after (chartOf c) (logged es)
-    answered : told ≡ answers (chartOf c) (logged es)
+  pub record Goes (es : Snoc Record) (told : Snoc Told) (m : Monitor) : Type 0 where
+    pub monitor : monitorAt m ≡ after (chartOf c) (logged es)
+    pub answered : told ≡ answers (chartOf c) (logged es)
 
   fit-after : {es : Snoc Record} {told : Snoc Told} {m : Monitor} → Goes es told m → Fit (chartOf c) (monitorAt m)
   fit-after {es} g = subst (λ (x : AbstractMonitor). Fit (chartOf c) x) (sym (g .monitor)) (D .stays-fit (logged es))
 
-  step-after : {es : Snoc Record} {told : Snoc Told} {m : Monitor} → Goes es told m → (e : Record) (r : Step) → stepOf r ≡ feedOf c m e
+  pub step-after : {es : Snoc Record} {told : Snoc Told} {m : Monitor} → Goes es told m → (e : Record) (r : Step) → stepOf r ≡ feedOf c m e
       → stepOf r ≡ feed (chartOf c) (after (chartOf c) (logged es)) (logRecord e)
   step-after {es} {told} {m} g e r q =
       q ∙ fed-fit m e (fit-after g) ∙ ap (λ (x : AbstractMonitor). feed (chartOf c) x (logRecord e)) (g .monitor)
 
-  goes : {es : Snoc Record} {told : Snoc Told} {m : Monitor} → Run c es told m → Goes es told m
+  pub goes : {es : Snoc Record} {told : Snoc Told} {m : Monitor} → Run c es told m → Goes es told m
   unfolding after answers
   goes none-yet = record { monitor = zero-fresh; answered = refl }
   goes (one-more {es} {told} {m} e r q h) =

@@ -1,5 +1,5 @@
 -- What is printed of an answer: no refusal has the number 0, so each is told as a refusal. Assumes nothing.
-use mathlib.Core.Path.{_≡_, refl, sym, ap, _∙_}
+use mathlib.Core.Path.{_≡_, refl, ap}
 use mathlib.Core.List.{List}
 use borrow.Author.Tests.{lt-ltb, le-ltb}
 use lib.ListN.{length}
@@ -19,10 +19,9 @@ use Rattle.judge.specs.declared.JudgeAnswer.the-variants as judge
 use Rattle.judge.specs.declared.Verdict.{Verdict}
 use Rattle.judge.specs.Check.{logRefusalNumber}
 use Rattle.judge.specs.Judge as judge-specs
-use Rattle.judge.specs.Judge.{judgeOf}
 use Rattle.listing.specs.declared.Part.the-variants as part
 use Rattle.listing.specs.declared.Report.{Report}
-use Rattle.listing.specs.declared.Report.the-variants.{Judged, Refused}
+use Rattle.listing.specs.declared.Report.the-variants.{Refused}
 use Rattle.listing.specs.Listing.{listed, room}
 use Rattle.respond.specs.declared.Response.the-variants.{Written, TooShort}
 use Rattle.respond.specs.Respond.{logReport, chartReport, responseOf, bufferAfter}

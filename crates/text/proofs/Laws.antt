@@ -7,8 +7,8 @@ use native.Mathlib.Nat.{add-zero, add-suc, suc-add, pow-suc}
 use native.Mathlib.Numerals.{add-one}
 use native.Mathlib.Omega.{arith}
 use borrow.Author.Tests.{ltb-false, lt-ltb, le-ltb}
-use lib.ListN.{length, getD, set, take, drop, length-append, length-set}
-use lib.Seq.{sets, length-take-le, take-suc, sets-eq}
+use lib.ListN.{length, getD, set, take, length-append, length-set}
+use lib.Seq.{sets, take-suc}
 use lib.Dec.{ltb}
 use Rattle.text.specs.Text.{Wrote, Spells, digitsOf, spelt}
 
