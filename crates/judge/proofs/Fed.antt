@@ -3,9 +3,11 @@ use mathlib.Core.Path.{_≡_, refl, sym, ap, ap₂, subst, _∙_}
 use mathlib.Core.Bool.{Bool, true, false, cond, not, So}
 use mathlib.Core.Logic.{inl, inr}
 use mathlib.Core.List.{List}
-use Prim.Native.Nat.{ℕ, _-_, _<_}
-use lib.Dec.{eqb}
-use lib.ListN.{length}
+use Prim.Native.Nat.{ℕ, _+_, _*_, _-_, _<_}
+use native.Mathlib.Omega.{arith}
+use lib.Dec.{eqb, leb, ltb}
+use lib.ListN.{length, getD}
+use Rattle.wire.specs.Bytes.{word16}
 use borrow.Author.Tests.{eqb-true, eqb-false}
 use Rattle.bitset.specs.Set.{contains}
 use Rattle.bitset.proofs.Laws.{contains-empty, some-member}
@@ -20,8 +22,9 @@ use Rattle.rounds.specs.Machine.{Monitor as AbstractMonitor, Step as AbstractSt
 use Rattle.rounds.proofs.Facts.{split, clash, all-of, all-at}
 use Rattle.rounds.proofs.Fitness.{after-fit}
 use Rattle.log_reader.specs.declared.RecordRefusal.{RecordRefusal}
+use Rattle.log_reader.specs.declared.RecordRefusal.the-variants.{CutShort, UnknownByte}
 use Rattle.log_reader.specs.declared.Next.the-variants.{End, Refused, Taken}
-use Rattle.log_reader.specs.Record.{nextAt}
+use Rattle.log_reader.specs.Record.{messageByte, timeByte, messageSize, timeSize, messageAt, timeAt, nextAt}
 use Rattle.log_reader.specs.Records.{recordsFrom, recordsIn}
 use Rattle.log_reader.proofs.Records.{one-record}
 use Rattle.stepping.specs.declared.Step.{Step}
@@ -32,11 +35,34 @@ use Rattle.monitor.specs.Runs.{logged}
 use Rattle.monitor.proofs.Runs.{zero-fresh}
 use Rattle.judge.specs.Check.{timeOf}
 use Rattle.judge.specs.Judge.{standingOf, verdictOf}
-use Rattle.judge.specs.Parts.{standingBy, verdictBy}
+use Rattle.judge.specs.Parts.{codeAt, standingBy, verdictBy}
+
+taken-record : {r e : Record} {p q : ℕ} → Taken r p ≡ Taken e q → r ≡ e
+taken-record x = cc
 
 same-record : (e : Record) (code t : ℕ) → code ≡ recordCode e → t ≡ timeOf e .0 → recordOf code t ≡ logRecord e
 same-record (Message m u) code t p q = λ i. record { time = q i; code = p i }
 same-record (Time u) code t p q = λ i. record { time = q i; code = p i }
+
+-- the code in the bytes is that of the record
+pub code-of : (s : List ℕ) (at : ℕ) (e : Record) (place : ℕ) → nextAt s at ≡ Taken e place → codeAt s at ≡ recordCode e
+code-of s at e place q = by (leb (length s) at) (eqb (getD s at 0) messageByte) (ltb (length s - at) messageSize) (eqb (getD s at 0) timeByte) (ltb (length s - at) timeSize) q
+  where
+    same : word16 s (at + 3) * 65536 + word16 s (at + 1) + 1 ≡ recordCode (messageAt s at)
+    same = let z : at + 1 + 1 ≡ at + 2 = omega arith in rw z (omega arith)
+
+    code : {r : Record} {p : ℕ} → Taken r p ≡ Taken e place → recordCode r ≡ recordCode e
+    code {r} x = ap recordCode (taken-record x)
+
+    by : (a b c d f : Bool)
+        → cond a End (cond b (cond c (Refused CutShort) (Taken (messageAt s at) (at + messageSize))) (cond d (cond f (Refused CutShort) (Taken (timeAt s at) (at + timeSize))) (Refused UnknownByte))) ≡ Taken e place
+        → cond b (word16 s (at + 3) * 65536 + word16 s (at + 1) + 1) 0 ≡ recordCode e
+    by true b c d f x = let z : _≡_ {A = ℕ} 0 1 = cc in absurd (omega arith)
+    by false true true d f x = let z : _≡_ {A = ℕ} 0 1 = cc in absurd (omega arith)
+    by false true false d f x = same ∙ code x
+    by false false c true true x = let z : _≡_ {A = ℕ} 0 1 = cc in absurd (omega arith)
+    by false false c true false x = code x
+    by false false c false f x = let z : _≡_ {A = ℕ} 0 1 = cc in absurd (omega arith)
 
 -- the records fed before a place, and what is left gives the whole
 pub record SoFar (C : Abstract) (s : List ℕ) (m : Monitor) (at left : ℕ) : Type 0 where

@@ -8,7 +8,8 @@ use model::Monitor;
 use model::Record;
 ghost use mathlib.Core.Path.{_≡_};
 ghost use mathlib.Core.Bool.{true};
-ghost use Prim.Native.Nat.{_≤_};
+ghost use Prim.Native.Nat.{_≤_, _<_};
+ghost use lib.ListN.{length};
 ghost use Rattle.model.specs.Chart.{mostRegions};
 ghost use Rattle.rounds.specs.Machine.{after};
 ghost use Rattle.chart_value.specs.WellFormed.{wellFormed};
@@ -18,7 +19,7 @@ ghost use Rattle.monitor.specs.Runs.{logged};
 ghost use Rattle.log_reader.specs.Records.{recordsIn};
 ghost use Rattle.judge.specs.Check.{logRefusalNumber, timeOf, takeRecord, stepAt, checkLog};
 ghost use Rattle.judge.specs.Judge.{zeroVerdict, said, judgeOf};
-ghost use Rattle.judge.specs.Parts.{standingBy, verdictBy};
+ghost use Rattle.judge.specs.Parts.{codeAt, standingBy, verdictBy};
 
 // Why a log is refused.
 pub enum LogRefusal {
@@ -129,6 +130,11 @@ pub struct Judgement {
     pub verdict: Verdict,
 }
 
+const MESSAGE: u8 = 0x01;
+
+// The label's place in a message's code.
+const LABEL_PLACE: u64 = 65_536;
+
 const BROKEN: u8 = 3;
 
 const NOTHING_FIRED: u8 = 0;
@@ -136,6 +142,26 @@ const NOTHING_FIRED: u8 = 0;
 const IN_PRECHART: u8 = 1;
 
 const OWED: u8 = 2;
+
+fn wide(x: u16) -> u64
+    ensures { λ r. ⌜ (r ≡ x) × (r < 65536) ⌝ }
+{
+    x as u64
+}
+
+// The code of the record at a place, from its bytes: the label, then source and destination. A record taken apart again would be
+// stored and loaded in pieces, which costs more than all else that is done for it.
+fn code_at(log: &[u8], at: usize) -> u64
+    requires { ⌜ at < length (now log) ⌝ }
+    ensures { λ r. ⌜ r ≡ codeAt (now (log .entry)) at ⌝ }
+{
+    if wire::byte_at(log, at) == MESSAGE {
+        let label = wide(wire::word16_at(log, at + 3));
+        let lines = wide(wire::word16_at(log, at + 1));
+        return label * LABEL_PLACE + lines + 1;
+    }
+    0
+}
 
 // The chart compiled once; each record of the log where it lies, fed to a fresh monitor.
 fn feed_log(c: Chart, log: &[u8]) -> Monitor
@@ -157,7 +183,7 @@ fn feed_log(c: Chart, log: &[u8]) -> Monitor
                 return m;
             }
             Next::Taken(e, place) => {
-                let code = plan::record_code(e);
+                let code = code_at(log, at);
                 let s = stepping::feed_fit(
                     h,
                     &p.keys,

@@ -4,7 +4,8 @@ use native.Mathlib.Omega.{arith}
 use borrow.Author.Needs.{needs}
 use Rattle.model.specs.declared.Moment.{Moment}
 use Rattle.stepping.specs.View.{planChart}
-use Rattle.judge.proofs.Fed.{SoFar, at-start, fit-here, fed-one, fed-none, fed-bad, fed-end}
+use Rattle.log_reader.proofs.Places.{taken-past}
+use Rattle.judge.proofs.Fed.{code-of, SoFar, at-start, fit-here, fed-one, fed-none, fed-bad, fed-end}
 use Rattle.judge.proofs.feed_log.Statement.{statement}
 use Rattle.judge.proofs.feed_log.Tie as tie
 
@@ -47,8 +48,10 @@ returns-2 c =
 enum-known-next : tie.Need-enum-known-next Inv-loop μ-loop
 enum-known-next c = search needs
 
-record-code-requires : tie.Need-record-code-requires Inv-loop μ-loop
-record-code-requires c κs = search needs
+code-at-requires : tie.Need-code-at-requires Inv-loop μ-loop
+code-at-requires c κs =
+    let r = c .before .before .before in
+    omega (arith, taken-past (r .before .before .before .before .before .before .before .args .log .now) (r .before .before .loop .at) _ _ (sym (r .read-record .ensures .0) ∙ c .before .next .given .1))
 
 time-of-requires : tie.Need-time-of-requires Inv-loop μ-loop
 time-of-requires c κs = search needs
@@ -65,8 +68,9 @@ loop-less c = search needs
 loop-again : tie.Need-loop-again Inv-loop μ-loop
 loop-again c =
     let r = c .before .before .before .before .before .before .before .before .before .before .before .before in
-    fed-one (r .before .before .loop .inv) (r .before .loop-test .taken) _ _ (sym (r .read-record .ensures .0) ∙ c .before .before .before .before .before .before .before .before .before .before .next .given .1) (c .before .feed-fit .result)
-    _ _ (c .before .before .before .before .before .before .before .before .record-code .ensures) (ap (λ (x : Moment). x .0) (c .before .before .time-of .ensures)) (c .before .feed-fit .ensures .0)
+    let e = sym (r .read-record .ensures .0) ∙ c .before .before .before .before .before .before .before .before .before .before .next .given .1 in
+    fed-one (r .before .before .loop .inv) (r .before .loop-test .taken) _ _ e (c .before .feed-fit .result)
+    _ _ (c .before .before .before .before .before .before .before .before .code-at .ensures ∙ code-of (r .before .before .before .before .before .before .before .args .log .now) (r .before .before .loop .at) _ _ e) (ap (λ (x : Moment). x .0) (c .before .before .time-of .ensures)) (c .before .feed-fit .ensures .0)
 
 returns-3 : tie.Need-returns-3 Inv-loop μ-loop
 returns-3 c = fed-end (c .before .loop .inv) _ (c .before .before .before .before .compile .ensures .shows) (omega arith)
@@ -86,7 +90,7 @@ feed-log-spec =
     enum-told-2
     returns-2
     enum-known-next
-    record-code-requires
+    code-at-requires
     time-of-requires
     feed-fit-requires
     sub-left
