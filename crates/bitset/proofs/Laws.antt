@@ -11,6 +11,7 @@ use borrow.Author.Tests.{lt-ltb, ltb-true, le-ltb, eqb-true, eq-eqb}
 use lib.Dec.{eqb, ltb, leb·suc-suc, eqb·zero-suc, eqb·suc-zero, eqb·suc-suc}
 use lib.Pow.{pow-lt, pow-mono, pow-pos, shr-shr, low}
 use lib.Arith.{lt-one, bin-ind}
+use lib.Count.{trailingZeros, under}
 use lib.Bits.{or-lt, and-le-l, bitAnd, bitOr, and-shr, or-shr, and-step, or-step, shifted-even}
 use Rattle.bitset.specs.Set.{contains, single, inserted, union, isSubset, within}
 
@@ -168,3 +169,29 @@ within-true n s e = ltb-true s (2 ^ n) e
 pub lt-within : (n s : ℕ) → s < 2 ^ n → within n s ≡ true
 unfolding within
 lt-within n s h = lt-ltb s (2 ^ n) h
+
+odd : (s : ℕ) → (s + 1) % 2 ≡ 0 → contains s 0 ≡ true
+unfolding contains
+odd s e = let q : s / 1 % 2 ≡ 1 = rw (div-one s) (omega arith) in eq-eqb (s / 1 % 2) 1 q
+
+-- the numbers below the zeros at the end of the set's successor are members
+pub trailing-members : (k s i : ℕ) → i < trailingZeros k (s + 1) → contains s i ≡ true
+unfolding trailingZeros
+trailing-members zero s i h = absurd (omega arith)
+trailing-members (suc k) s i h = by ((s + 1) % 2) refl i h (λ j l. trailing-members k (s / 2) j l)
+  where
+    by : (r : ℕ) → (s + 1) % 2 ≡ r → (i : ℕ) → i < under r (trailingZeros k ((s + 1) / 2))
+        → ((j : ℕ) → j < trailingZeros k (s / 2 + 1) → contains (s / 2) j ≡ true) → contains s i ≡ true
+    by zero e zero l ih = odd s e
+    by zero e (suc j) l ih =
+        let q : (s + 1) / 2 ≡ s / 2 + 1 = omega arith in
+        let m : j < trailingZeros k ((s + 1) / 2) = omega arith in
+        sym (contains-half s j) ∙ ih j (rw (sym q) m)
+    by (suc r) e i l ih = absurd (omega arith)
+
+-- of a set of numbers below n, at most n
+pub trailing-few : (n k s : ℕ) → s < 2 ^ n → trailingZeros k (s + 1) ≤ n
+trailing-few n k s h = elim (decLt n (trailingZeros k (s + 1))) [
+  | yes l ↦ absurd (omega (arith, member-lt n s n h (trailing-members k s n l)))
+  | no l ↦ omega arith
+]

@@ -1,6 +1,7 @@
 // Sets of numbers below 32, as the bits of a u32.
 ghost use mathlib.Core.Path.{_≡_};
-ghost use Prim.Native.Nat.{_<_};
+ghost use mathlib.Core.Bool.{So};
+ghost use Prim.Native.Nat.{ℕ, _<_, _≤_};
 ghost use Rattle.bitset.specs.Set.{contains, inserted, isSubset, union, within};
 
 pub fn member(set: u32, i: u32) -> bool
@@ -27,6 +28,20 @@ pub fn subset(a: u32, b: u32) -> bool
     ensures { λ r. ⌜ r ≡ isSubset a b ⌝ }
 {
     a & b == a
+}
+
+fn wide(set: u32) -> u64
+    ensures { λ r. ⌜ (r ≡ set) × (r < 0x1_0000_0000) ⌝ }
+{
+    set as u64
+}
+
+// How many numbers from 0 on are members, up to the first that is none.
+pub fn run(set: u32) -> u32
+    ensures members { λ r. ⌜ ((i : ℕ) → i < r → So (contains set i)) ⌝ }
+    ensures few { λ r. ⌜ r ≤ 32 ⌝ }
+{
+    u64::trailing_zeros(wide(set) + 1)
 }
 
 // Every member is below n.

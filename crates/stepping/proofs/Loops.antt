@@ -1,9 +1,9 @@
 -- What a loop over the numbers below a bound keeps. Assumes nothing.
-use mathlib.Core.Path.{_≡_, refl, _∙_}
+use mathlib.Core.Path.{_≡_, refl, ap}
 use mathlib.Core.Logic.{inl, inr}
-use mathlib.Core.Bool.{Bool, true, false, or-true, or-false}
+use mathlib.Core.Bool.{Bool, true, false, _||_, or-true}
 use mathlib.Core.Option.{none, some}
-use Prim.Native.Nat.{ℕ, zero, suc, _+_, _<_}
+use Prim.Native.Nat.{ℕ, zero, suc, _+_, _≤_, _<_}
 use native.Mathlib.Decide.{decLt, ℕ-discrete}
 use native.Mathlib.Nat.{not-suc-le-zero}
 use native.Mathlib.Numerals.{add-one}
@@ -21,7 +21,7 @@ at-start = record { is = λ j l. absurd (not-suc-le-zero l) }
 pub one-more : {t : ℕ → Bool} {b : Bool} {k : ℕ} → SoFar t b k → t k ≡ b → SoFar t b (k + 1)
 one-more {k = k} S h = record { is = λ j l. elim (ℕ-discrete j k) [ yes q ↦ rw q h | no q ↦ S .is j (omega arith) ] }
 
-pub none-passes : {t : ℕ → Bool} {k : ℕ} (n : ℕ) → SoFar t false k → k ≡ n → first n t ≡ none
+pub none-passes : {t : ℕ → Bool} {k : ℕ} (n : ℕ) → SoFar t false k → n ≤ k → first n t ≡ none
 none-passes {t} n S q = first-is-none n t (λ j l e. clash e (S .is j (omega arith)))
 
 pub first-passes : {t : ℕ → Bool} {k : ℕ} (n : ℕ) → SoFar t false k → t k ≡ true → k < n → first n t ≡ some k
@@ -51,11 +51,8 @@ pub record SomeSoFar (t : ℕ → Bool) (k : ℕ) (b : Bool) : Type 0 where
 pub some-start : {t : ℕ → Bool} → SomeSoFar t 0 false
 some-start = record { is = refl }
 
-pub some-hit : {t : ℕ → Bool} {k : ℕ} {b : Bool} → SomeSoFar t k b → t k ≡ true → SomeSoFar t (k + 1) true
-some-hit {t} {k} S h = record { is = rw (add-one, h) (or-true (someBelow k t)) }
-
-pub some-miss : {t : ℕ → Bool} {k : ℕ} {b : Bool} → SomeSoFar t k b → t k ≡ false → SomeSoFar t (k + 1) b
-some-miss {t} {k} S h = record { is = rw (add-one, h) (or-false (someBelow k t) ∙ S .is) }
+pub some-more : {t : ℕ → Bool} {k : ℕ} {b : Bool} → SomeSoFar t k b → SomeSoFar t (k + 1) (b || t k)
+some-more {t} {k} S = record { is = rw add-one (ap (λ (b : Bool). b || t k) (S .is)) }
 
 pub some-passes : {t : ℕ → Bool} {k : ℕ} {b : Bool} (n : ℕ) → SomeSoFar t k b → k ≡ n → someBelow n t ≡ b
 some-passes n S q = rw (← q) (S .is)

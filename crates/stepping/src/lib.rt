@@ -12,10 +12,11 @@ ghost use mathlib.Core.Path.{_≡_};
 ghost use mathlib.Core.Bool.{So, _&&_, not, cond};
 ghost use mathlib.Core.List.{List};
 ghost use Prim.Native.Nat.{ℕ, _<_, _≤_, _+_, _-_, _^_};
+ghost use lib.Dec.{eqb};
 ghost use lib.ListN.{getD};
 ghost use Rattle.bitset.specs.Set.{contains};
 ghost use Rattle.model.specs.Chart.{mostRegions, mostClocks};
-ghost use Rattle.rounds.specs.Base.{first, allBelow};
+ghost use Rattle.rounds.specs.Base.{first, allBelow, someBelow};
 ghost use Rattle.rounds.specs.Chart.{Chart};
 ghost use Rattle.rounds.specs.Rows.{Ready};
 ghost use Rattle.rounds.specs.Feeds.{mostRecords, entered, moved};
@@ -141,7 +142,42 @@ enum Sought {
     Foreign,
 }
 
-// The ready region that has the message, in one scan that also tells whether any region has it.
+// The ready region that has the message. Those that are fired from the first on need not be looked at.
+fn ready_for(
+    keys: &[u64; MOST_REGIONS],
+    above: &[u32; MOST_REGIONS],
+    count: usize,
+    fired: u32,
+    code: u64,
+) -> Found
+    requires { ⌜ count ≤ mostRegions ⌝ }
+    ensures { λ r. ⌜ foundOf r ≡ first count (λ i. eqb (getD (now (keys .entry)) i 0) code && readyBy (now (above .entry)) fired i) ⌝ }
+{
+    let mut i = bitset::run(fired) as usize;
+    while i < count {
+        if keys[i] == code && is_ready(above, fired, i) {
+            return Found::At(i);
+        }
+        i += 1;
+    }
+    Found::Nothing
+}
+
+// Some region has the message.
+fn is_known(keys: &[u64; MOST_REGIONS], count: usize, code: u64) -> bool
+    requires { ⌜ count ≤ mostRegions ⌝ }
+    ensures { λ r. ⌜ r ≡ someBelow count (λ i. eqb (getD (now (keys .entry)) i 0) code) ⌝ }
+{
+    let mut known = false;
+    let mut i: usize = 0;
+    while i < count {
+        known = known | (keys[i] == code);
+        i += 1;
+    }
+    known
+}
+
+// What the regions have for the message.
 fn seek(
     keys: &[u64; MOST_REGIONS],
     above: &[u32; MOST_REGIONS],
@@ -152,22 +188,14 @@ fn seek(
     requires { ⌜ count ≤ mostRegions ⌝ }
     ensures { λ r. ⌜ r ≡ soughtBy (now (keys .entry)) (now (above .entry)) count fired code ⌝ }
 {
-    let mut known = false;
-    let mut i: usize = 0;
-    while i < count {
-        if keys[i] == code {
-            if is_ready(above, fired, i) {
-                return Sought::Ready(i);
-            }
-            known = true;
+    let f = ready_for(keys, above, count, fired, code);
+    let Found::At(i) = f else {
+        if is_known(keys, count, code) {
+            return Sought::Unready;
         }
-        i += 1;
-    }
-    if known {
-        Sought::Unready
-    } else {
-        Sought::Foreign
-    }
+        return Sought::Foreign;
+    };
+    Sought::Ready(i)
 }
 
 // A clock's value at moment t; beyond the chart's clocks it is 0.

@@ -1,85 +1,48 @@
--- The loop's invariant: no region so far is ready and has the message, and `known` says whether one has it. Assumes nothing.
-use mathlib.Core.Path.{_∙_, sym}
-use mathlib.Core.Bool.{false, _&&_}
-use mathlib.Core.Logic.{⊎-elim}
-use Prim.Native.Nat.{_≤_, _-_}
-use native.Mathlib.Omega.{arith}
-use lib.Dec.{eqb}
-use lib.ListN.{getD}
+-- `stepping::seek` meets its contract: a ready region, or whether some region has the message. Assumes nothing.
+use mathlib.Core.Path.{sym, ap, _∙_}
 use borrow.Author.Needs.{needs}
-use borrow.Author.Tests.{eq-eqb, ne-eqb}
-use Rattle.rounds.proofs.Facts.{and-of}
-use Rattle.stepping.specs.Parts.{readyBy, soughtBy}
-use Rattle.stepping.proofs.Loops.{SoFar, at-start, one-more, none-passes, first-passes, SomeSoFar, some-start, some-hit, some-miss, some-passes}
+use Rattle.stepping.specs.Parts.{foundOf, soughtBy}
 use Rattle.stepping.proofs.seek.Statement.{statement}
 use Rattle.stepping.proofs.seek.Tie as tie
 
-abbrev Inv-loop : tie.InvT-loop
-Inv-loop keys above count fired code known₀ i₀ known i =
-    (i ≤ count) × SoFar (λ k. eqb (getD keys k 0) code && readyBy above fired k) false i × SomeSoFar (λ k. eqb (getD keys k 0) code) i known
+ready-for-requires : tie.Need-ready-for-requires
+ready-for-requires c κs = search needs
 
-abbrev μ-loop : tie.MeasureT-loop
-μ-loop keys above count fired code known₀ i₀ known i = count - i
+enum-known-f : tie.Need-enum-known-f
+enum-known-f c = search needs
 
-loop-holds : tie.Need-loop-holds Inv-loop μ-loop
-loop-holds c = (omega arith, at-start, some-start)
+enum-told : tie.Need-enum-told
+enum-told c = search needs
 
-mul-if1 : tie.Need-mul-if1 Inv-loop μ-loop
-mul-if1 c = search needs
+is-known-requires : tie.Need-is-known-requires
+is-known-requires c κs = search needs
 
-element-copy-out-if1 : tie.Need-element-copy-out-if1 Inv-loop μ-loop
-element-copy-out-if1 c = search needs
-
-is-ready-requires : tie.Need-is-ready-requires Inv-loop μ-loop
-is-ready-requires c κs = search needs
-
-returns : tie.Need-returns Inv-loop μ-loop
+returns : tie.Need-returns
 unfolding soughtBy
 returns c =
-    let e = and-of (eq-eqb _ _ (c .before .before .if1 .taken)) (sym (c .before .is-ready .ensures) ∙ c .if2 .taken) in
-    rw (first-passes (c .before .before .before .before .before .before .args .count) (c .before .before .before .before .before .loop .inv .1) e (omega arith))
+    let r = c .before .before .before .before in
+    rw (sym (r .ready-for .ensures) ∙ ap foundOf (c .before .before .enum-told .given .1), sym (c .before .is-known .ensures) ∙ c .if1 .taken)
 
-add-i : tie.Need-add-i Inv-loop μ-loop
-add-i c = omega arith
-
-loop-less : tie.Need-loop-less Inv-loop μ-loop
-loop-less c = omega arith
-
-loop-again : tie.Need-loop-again Inv-loop μ-loop
-loop-again c =
-    let I = c .before .before .before .loop .inv in
-    ⊎-elim
-    (λ w. let e = eq-eqb _ _ (w .0 .taken) in (omega arith, one-more (I .1) (rw e (sym (w .1 .ensures) ∙ w .2 .left)), rw (w .3) (some-hit (I .2) e)))
-    (λ w. let e = ne-eqb _ _ (w .0 .left) in (omega arith, one-more (I .1) (rw e), rw (w .1) (some-miss (I .2) e)))
-    (c .if1 .came)
-
-returns-2 : tie.Need-returns-2 Inv-loop μ-loop
+returns-2 : tie.Need-returns-2
 unfolding soughtBy
 returns-2 c =
-    let n = c .before .before .before .args .count in
-    let I = c .before .before .loop .inv in
-    rw (none-passes n (I .1) (omega arith), some-passes n (I .2) (omega arith), c .if3 .taken)
+    let r = c .before .before .before .before in
+    rw (sym (r .ready-for .ensures) ∙ ap foundOf (c .before .before .enum-told .given .1), sym (c .before .is-known .ensures) ∙ c .if1 .left)
 
-returns-3 : tie.Need-returns-3 Inv-loop μ-loop
+returns-3 : tie.Need-returns-3
 unfolding soughtBy
 returns-3 c =
-    let n = c .before .before .before .args .count in
-    let I = c .before .before .loop .inv in
-    rw (none-passes n (I .1) (omega arith), some-passes n (I .2) (omega arith), c .if3 .left)
+    let r = c .before .before .before in
+    rw (sym (r .ready-for .ensures) ∙ ap foundOf (c .before .f .given .1))
 
 pub seek-spec : {M : Type 1} → statement M
 seek-spec =
     tie.close
     (tie.spec
-    Inv-loop
-    μ-loop
-    loop-holds
-    mul-if1
-    element-copy-out-if1
-    is-ready-requires
+    ready-for-requires
+    enum-known-f
+    enum-told
+    is-known-requires
     returns
-    add-i
-    loop-less
-    loop-again
     returns-2
     returns-3)
