@@ -1,14 +1,14 @@
 -- A log's records fed through the compiled chart go as the machine does. Assumes nothing.
 use mathlib.Core.Path.{_≡_, refl, sym, ap, ap₂, subst, _∙_}
 use mathlib.Core.Bool.{Bool, true, false, cond, not, So}
-use mathlib.Core.Logic.{inl, inr}
+use mathlib.Core.Logic.{_≢_, inl, inr}
 use mathlib.Core.List.{List}
-use Prim.Native.Nat.{ℕ, _+_, _*_, _-_, _<_}
+use Prim.Native.Nat.{ℕ, zero, suc, _+_, _*_, _-_, _<_}
 use native.Mathlib.Omega.{arith}
 use lib.Dec.{eqb, leb, ltb}
 use lib.ListN.{length, getD}
 use Rattle.wire.specs.Bytes.{word16}
-use borrow.Author.Tests.{eqb-true, eqb-false}
+use borrow.Author.Tests.{eqb-true, eqb-false, ne-eqb}
 use Rattle.bitset.specs.Set.{contains}
 use Rattle.bitset.proofs.Laws.{contains-empty, some-member}
 use Rattle.model.specs.declared.Monitor.{Monitor}
@@ -23,9 +23,10 @@ use Rattle.rounds.proofs.Facts.{split, clash, all-of, all-at}
 use Rattle.rounds.proofs.Fitness.{after-fit}
 use Rattle.log_reader.specs.declared.RecordRefusal.{RecordRefusal}
 use Rattle.log_reader.specs.declared.RecordRefusal.the-variants.{CutShort, UnknownByte}
+use Rattle.log_reader.specs.declared.Next.{Next}
 use Rattle.log_reader.specs.declared.Next.the-variants.{End, Refused, Taken}
 use Rattle.log_reader.specs.Record.{messageByte, timeByte, messageSize, timeSize, messageAt, timeAt, nextAt}
-use Rattle.log_reader.specs.Records.{recordsFrom, recordsIn}
+use Rattle.log_reader.specs.Records.{onRecord, recordsFrom, recordsIn}
 use Rattle.log_reader.proofs.Records.{one-record}
 use Rattle.stepping.specs.declared.Step.{Step}
 use Rattle.stepping.specs.View.{monitorAt, stepOf, recordOf}
@@ -64,6 +65,25 @@ code-of s at e place q = by (leb (length s) at) (eqb (getD s at 0) messageByte) 
     by false false c true false x = code x
     by false false c false f x = let z : _≡_ {A = ℕ} 0 1 = cc in absurd (omega arith)
 
+-- a broken monitor stays as it is
+unmoved : (C : Abstract) (m : AbstractMonitor) (e : LogRecord) → m .break ≢ 0 → feed C m e .next ≡ m
+unfolding feed
+unmoved C m e b = rw (ne-eqb (m .break) 0 b)
+
+still : (C : Abstract) (n : ℕ) (s : List ℕ) (at : ℕ) (es : Snoc Record) → after C (logged es) .break ≢ 0
+    → after C (logged (recordsFrom n s at es)) ≡ after C (logged es)
+unfolding recordsFrom after
+still C zero s at es b = refl
+still C (suc n) s at es b = by (nextAt s at) (λ p e c. still C n s p (es ▸ e) c)
+  where
+    by : (x : Next) → ((p : ℕ) (e : Record) → after C (logged (es ▸ e)) .break ≢ 0 → after C (logged (recordsFrom n s p (es ▸ e))) ≡ after C (logged (es ▸ e)))
+        → after C (logged (onRecord (λ e place. recordsFrom n s place (es ▸ e)) x es)) ≡ after C (logged es)
+    by End i = refl
+    by (Refused f) i = refl
+    by (Taken e p) i =
+        let u = unmoved C (after C (logged es)) (logRecord e) b in
+        i p e (λ z. b (sym (ap (λ (x : AbstractMonitor). x .break) u) ∙ z)) ∙ u
+
 -- the records fed before a place, and what is left gives the whole
 pub record SoFar (C : Abstract) (s : List ℕ) (m : Monitor) (at left : ℕ) : Type 0 where
   pub before : Snoc Record
@@ -99,6 +119,13 @@ module _ {C : Abstract} {s : List ℕ} {m : Monitor} {at left : ℕ} (S : SoFar 
 
     pub fed-bad : 0 < left → (f : RecordRefusal) → nextAt s at ≡ Refused f → monitorAt m ≡ after D (logged (recordsIn s))
     fed-bad h f q = done (sym (one-record s at left h (S .before) (Refused f) q) ∙ S .rest)
+
+    -- behind a break the rest changes nothing
+    pub fed-broken : m .«break_record» ≢ 0 → monitorAt m ≡ after D (logged (recordsIn s))
+    fed-broken b =
+        S .monitor
+        ∙ sym (still C left s at (S .before) (λ e. b (ap (λ (x : AbstractMonitor). x .break) (S .monitor) ∙ e)))
+        ∙ ap₂ (λ (C : Abstract) (es : Snoc Record). after C (logged es)) shows (S .rest)
 
     pub fed-end : left ≡ 0 → monitorAt m ≡ after D (logged (recordsIn s))
     unfolding recordsFrom

@@ -163,7 +163,7 @@ fn code_at(log: &[u8], at: usize) -> u64
     0
 }
 
-// The chart compiled once; each record of the log where it lies, fed to a fresh monitor.
+// The chart compiled once; each record of the log where it lies, fed to a fresh monitor. Behind a break nothing changes any more.
 fn feed_log(c: Chart, log: &[u8]) -> Monitor
     requires { ⌜ wellFormed c ≡ true ⌝ }
     ensures end { λ r. ⌜ monitorAt r ≡ after (chartOf c) (logged (recordsIn (now (log .entry)))) ⌝ }
@@ -195,6 +195,9 @@ fn feed_log(c: Chart, log: &[u8]) -> Monitor
                     time_of(e),
                 );
                 m = s.next;
+                if m.break_record != 0 {
+                    return m;
+                }
                 at = place;
                 left -= 1;
             }

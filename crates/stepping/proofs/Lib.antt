@@ -1,4 +1,5 @@
 pub mod Loops
+pub mod Terms
 pub mod Ready
 pub mod Scan
 pub mod Fires

@@ -12,10 +12,12 @@ ghost use mathlib.Core.Path.{_≡_};
 ghost use mathlib.Core.Bool.{So, _&&_, not, cond};
 ghost use mathlib.Core.List.{List};
 ghost use Prim.Native.Nat.{ℕ, _<_, _≤_, _+_, _-_, _^_};
-ghost use lib.Dec.{eqb};
+ghost use lib.Dec.{eqb, ltb};
+ghost use lib.IntN.{pos, _-ℤ_};
 ghost use lib.ListN.{getD};
 ghost use Rattle.bitset.specs.Set.{contains};
 ghost use Rattle.model.specs.Chart.{mostRegions, mostClocks};
+ghost use Rattle.condition.specs.Condition.{related, signed};
 ghost use Rattle.rounds.specs.Base.{first, allBelow, someBelow};
 ghost use Rattle.rounds.specs.Chart.{Chart};
 ghost use Rattle.rounds.specs.Rows.{Ready};
@@ -23,7 +25,7 @@ ghost use Rattle.rounds.specs.Feeds.{mostRecords, entered, moved};
 ghost use Rattle.rounds.specs.Machine.{stuck, opening as opened, goOn, keepRound, dropRound, breakRound, conclude as concluded, accept as accepted, feed as fed, Fit};
 ghost use Rattle.stepping.specs.declared.Rest.the-variants.{Fails as FailsAt};
 ghost use Rattle.stepping.specs.Answers.{feedRefusalNumber, answerNumber, answerOf, HandsBack};
-ghost use Rattle.stepping.specs.View.{momentsOf, relationIn, holdsBy, conditionBy, planChart, placeAt, recordOf, monitorAt, stepOf, Compiled};
+ghost use Rattle.stepping.specs.View.{momentsOf, numberOf, relationIn, conditionBy, planChart, placeAt, recordOf, monitorAt, stepOf, Compiled};
 ghost use Rattle.stepping.specs.Parts.{readyBy, foundOf, soughtBy, valueAt, fireBy, takenAt, moveOf};
 
 pub const TERM_PLACES: usize = MOST_REGIONS * MOST_TERMS;
@@ -198,13 +200,11 @@ fn seek(
     Sought::Ready(i)
 }
 
-// A clock's value at moment t; beyond the chart's clocks it is 0.
-fn clock_value(clocks: usize, resets: [Moment; CLOCK_PLACES], t: Moment, c: usize) -> Length
-    requires { ⌜ clocks ≤ mostClocks ⌝ }
-    ensures { λ r. ⌜ r .0 ≡ valueAt clocks (t .0) resets c ⌝ }
+// The value at moment t of the clock with this code, reset at m; beyond the chart's clocks it is 0.
+fn clock_value(clocks: usize, m: Moment, t: Moment, c: usize) -> Length
+    ensures { λ r. ⌜ r .0 ≡ cond (ltb c clocks) (t .0 - m .0) 0 ⌝ }
 {
     if c < clocks {
-        let m = resets[c];
         return t.since(m);
     }
     Length(0)
@@ -223,31 +223,16 @@ fn relation_in(word: u64) -> Relation
     }
 }
 
-// The term of a word holds; relation code 0 is no term.
-fn term_holds(word: u64, clocks: usize, resets: [Moment; CLOCK_PLACES], t: Moment) -> bool
-    requires { ⌜ clocks ≤ mostClocks ⌝ }
-    ensures { λ r. ⌜ r ≡ holdsBy word (valueAt clocks (t .0) resets) ⌝ }
+// The term of a word holds, given the values of its clocks.
+fn word_holds(word: u64, first: Length, second: Length) -> bool
+    ensures { λ r. ⌜ r ≡ related (relationIn word) (pos (first .0) -ℤ pos (second .0)) (signed (numberOf word)) ⌝ }
 {
-    if word / RELATION_PLACE == 0 {
-        return true;
-    }
-    let first = clock_value(
-        clocks,
-        resets,
-        t,
-        (word / FIRST_PLACE % CLOCK_CODES) as usize,
-    );
-    let second = clock_value(
-        clocks,
-        resets,
-        t,
-        (word / SECOND_PLACE % CLOCK_CODES) as usize,
-    );
     let n = (word % FIRST_PLACE) as u32;
     condition::compares(relation_in(word), first, second, n)
 }
 
-// All terms of region i hold.
+// All terms of region i hold; relation code 0 is no term. The array of moments is looked into here and lent no further: a call that takes
+// it by value would copy it for each clock.
 fn holds(
     terms: &[u64; TERM_PLACES],
     clocks: usize,
@@ -261,8 +246,15 @@ fn holds(
 {
     let mut j: usize = 0;
     while j < MOST_TERMS {
-        if !term_holds(terms[i * MOST_TERMS + j], clocks, resets, t) {
-            return false;
+        let word = terms[i * MOST_TERMS + j];
+        if RELATION_PLACE <= word {
+            let a = (word / FIRST_PLACE % CLOCK_CODES) as usize;
+            let b = (word / SECOND_PLACE % CLOCK_CODES) as usize;
+            let first = clock_value(clocks, resets[a % CLOCK_PLACES], t, a);
+            let second = clock_value(clocks, resets[b % CLOCK_PLACES], t, b);
+            if !word_holds(word, first, second) {
+                return false;
+            }
         }
         j += 1;
     }

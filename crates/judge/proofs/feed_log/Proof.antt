@@ -5,7 +5,7 @@ use borrow.Author.Needs.{needs}
 use Rattle.model.specs.declared.Moment.{Moment}
 use Rattle.stepping.specs.View.{planChart}
 use Rattle.log_reader.proofs.Places.{taken-past}
-use Rattle.judge.proofs.Fed.{code-of, SoFar, at-start, fit-here, fed-one, fed-none, fed-bad, fed-end}
+use Rattle.judge.proofs.Fed.{code-of, SoFar, at-start, fit-here, fed-one, fed-none, fed-bad, fed-broken, fed-end}
 use Rattle.judge.proofs.feed_log.Statement.{statement}
 use Rattle.judge.proofs.feed_log.Tie as tie
 
@@ -59,21 +59,30 @@ time-of-requires c κs = search needs
 feed-fit-requires : tie.Need-feed-fit-requires Inv-loop μ-loop
 feed-fit-requires c κs = let K = c .before .before .before .before .before .before .before .before .before .before .before .before .before .before .before .compile .ensures .compiled in (K, fit-here (c .before .before .before .before .before .before .before .before .before .before .before .before .loop .inv) (K .accepted))
 
+returns-3 : tie.Need-returns-3 Inv-loop μ-loop
+returns-3 c =
+    let r = c .before .before .before .before .before .before .before .before .before .before .before .before .before .before in
+    let e = sym (r .read-record .ensures .0) ∙ c .before .before .before .before .before .before .before .before .before .before .before .before .next .given .1 in
+    let S = fed-one (r .before .before .loop .inv) (r .before .loop-test .taken) _ _ e (c .before .before .before .feed-fit .result)
+    _ _ (c .before .before .before .before .before .before .before .before .before .before .code-at .ensures ∙ code-of (r .before .before .before .before .before .before .before .args .log .now) (r .before .before .loop .at) _ _ e)
+    (ap (λ (x : Moment). x .0) (c .before .before .before .before .time-of .ensures)) (c .before .before .before .feed-fit .ensures .0) in
+    fed-broken S _ (r .before .before .before .before .before .compile .ensures .shows) (c .if1 .taken)
+
 sub-left : tie.Need-sub-left Inv-loop μ-loop
-sub-left c = search needs
+sub-left c = omega (arith, c .before .before .before .before .before .before .before .before .before .before .before .before .before .before .before .loop-test .taken)
 
 loop-less : tie.Need-loop-less Inv-loop μ-loop
-loop-less c = search needs
+loop-less c = omega (arith, c .before .before .before .before .before .before .before .before .before .before .before .before .before .before .before .loop-test .taken)
 
 loop-again : tie.Need-loop-again Inv-loop μ-loop
 loop-again c =
-    let r = c .before .before .before .before .before .before .before .before .before .before .before .before in
-    let e = sym (r .read-record .ensures .0) ∙ c .before .before .before .before .before .before .before .before .before .before .next .given .1 in
-    fed-one (r .before .before .loop .inv) (r .before .loop-test .taken) _ _ e (c .before .feed-fit .result)
-    _ _ (c .before .before .before .before .before .before .before .before .code-at .ensures ∙ code-of (r .before .before .before .before .before .before .before .args .log .now) (r .before .before .loop .at) _ _ e) (ap (λ (x : Moment). x .0) (c .before .before .time-of .ensures)) (c .before .feed-fit .ensures .0)
+    let r = c .before .before .before .before .before .before .before .before .before .before .before .before .before .before in
+    let e = sym (r .read-record .ensures .0) ∙ c .before .before .before .before .before .before .before .before .before .before .before .before .next .given .1 in
+    fed-one (r .before .before .loop .inv) (r .before .loop-test .taken) _ _ e (c .before .before .before .feed-fit .result)
+    _ _ (c .before .before .before .before .before .before .before .before .before .before .code-at .ensures ∙ code-of (r .before .before .before .before .before .before .before .args .log .now) (r .before .before .loop .at) _ _ e) (ap (λ (x : Moment). x .0) (c .before .before .before .before .time-of .ensures)) (c .before .before .before .feed-fit .ensures .0)
 
-returns-3 : tie.Need-returns-3 Inv-loop μ-loop
-returns-3 c = fed-end (c .before .loop .inv) _ (c .before .before .before .before .compile .ensures .shows) (omega arith)
+returns-4 : tie.Need-returns-4 Inv-loop μ-loop
+returns-4 c = fed-end (c .before .loop .inv) _ (c .before .before .before .before .compile .ensures .shows) (omega arith)
 
 pub feed-log-spec : {M : Type 1} → statement M
 feed-log-spec =
@@ -93,7 +102,8 @@ feed-log-spec =
     code-at-requires
     time-of-requires
     feed-fit-requires
+    returns-3
     sub-left
     loop-less
     loop-again
-    returns-3)
+    returns-4)

@@ -4,20 +4,14 @@ use borrow.Author.Needs.{needs}
 use Rattle.stepping.proofs.clock_value.Statement.{statement}
 use Rattle.stepping.proofs.clock_value.Tie as tie
 
-mul-m : tie.Need-mul-m
-mul-m c = search needs
-
-array-copy-out-m : tie.Need-array-copy-out-m
-array-copy-out-m c = search needs
-
 since-requires : tie.Need-since-requires
 since-requires c κs = search needs
 
 returns : tie.Need-returns
-returns c = rw (lt-ltb _ _ (c .before .before .if1 .taken)) (c .since .ensures)
+returns c = rw (lt-ltb _ _ (c .before .if1 .taken)) (c .since .ensures)
 
 returns-2 : tie.Need-returns-2
 returns-2 c = rw (le-ltb _ _ (c .if1 .left))
 
 pub clock-value-spec : {M : Type 1} → statement M
-clock-value-spec = tie.close (tie.spec mul-m array-copy-out-m since-requires returns returns-2)
+clock-value-spec = tie.close (tie.spec since-requires returns returns-2)
