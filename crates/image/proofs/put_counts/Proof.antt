@@ -1,0 +1,24 @@
+use Rattle.text.proofs.Laws.{then}
+use borrow.Author.Needs.{needs}
+use Rattle.image.proofs.put_counts.Statement.{statement}
+use Rattle.image.proofs.put_counts.Tie as tie
+
+put-four-requires : tie.Need-put-four-requires
+put-four-requires c κs = search needs
+
+put-word32-requires : tie.Need-put-word32-requires
+put-word32-requires c κs = search needs
+
+put-byte-requires : tie.Need-put-byte-requires
+put-byte-requires c κs = search needs
+
+same-length : tie.Need-same-length
+same-length c = search needs
+
+returns : tie.Need-returns
+returns c = then (then (c .before .before .before .before .before .before .before .before .before .before .put-four .ensures) (c .before .before .before .before .before .before .put-word32 .ensures)) (c .before .before .put-byte .ensures)
+
+pub put-counts-spec : {M : Type 1} → statement M
+put-counts-spec =
+    tie.close
+    (tie.spec put-four-requires put-word32-requires put-byte-requires same-length returns)

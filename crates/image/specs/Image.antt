@@ -1,0 +1,61 @@
+-- A monitor as bytes: fired, eight reset moments, now, records, kept, dropped, break record in four bytes each, reason in one; the most
+-- significant byte first.
+use Prim.Native.Nat.{ℕ, _+_, _*_, _/_, _%_}
+use mathlib.Core.List.{List, [], _∷_, _++_}
+use lib.ListN.{getD}
+use Rattle.wire.specs.Bytes.{word32}
+use Rattle.model.specs.declared.Moment.{Moment}
+use Rattle.model.specs.declared.Place.{Place}
+use Rattle.model.specs.declared.Monitor.{Monitor}
+use Rattle.stepping.specs.View.{momentsOf}
+
+-- a number in four bytes
+abbrev pub wordBytes : ℕ → List ℕ
+wordBytes x = x / 0x100_0000 % 256 ∷ x / 0x1_0000 % 256 ∷ x / 0x100 % 256 ∷ x % 256 ∷ []
+
+-- numbers one behind the other
+abbrev pub wordsBytes : List ℕ → List ℕ
+wordsBytes [] = []
+wordsBytes (x ∷ xs) = wordBytes x ++ wordsBytes xs
+
+-- a number in eight bytes, and such a number in a list of bytes
+abbrev pub longBytes : ℕ → List ℕ
+longBytes x = wordsBytes (x / 0x1_0000_0000 ∷ x % 0x1_0000_0000 ∷ [])
+
+abbrev pub word64 : List ℕ → ℕ → ℕ
+word64 s i = word32 s i * 0x1_0000_0000 + word32 s (i + 4)
+
+abbrev pub monitorSize : ℕ
+monitorSize = 57
+
+-- the eight reset moments
+abbrev pub momentNumbers : List Moment → List ℕ
+momentNumbers r =
+    momentsOf r 0 ∷ momentsOf r 1 ∷ momentsOf r 2 ∷ momentsOf r 3 ∷ momentsOf r 4 ∷ momentsOf r 5 ∷ momentsOf r 6 ∷ momentsOf r 7 ∷ []
+
+-- what stands behind them
+abbrev pub countBytes : Monitor → List ℕ
+countBytes m = wordsBytes (m .now .0 ∷ m .records ∷ m .kept ∷ m .dropped ∷ m .«break_record» ∷ []) ++ (m .reason ∷ [])
+
+unfoldable pub monitorBytes : Monitor → List ℕ
+monitorBytes m = wordBytes (m .at .fired) ++ (wordsBytes (momentNumbers (m .at .resets)) ++ countBytes m)
+
+abbrev pub momentIn : List ℕ → ℕ → Moment
+momentIn s i = record { 0 = word32 s i }
+
+abbrev pub momentsIn : List ℕ → List Moment
+momentsIn s =
+    momentIn s 4 ∷ momentIn s 8 ∷ momentIn s 12 ∷ momentIn s 16 ∷ momentIn s 20 ∷ momentIn s 24 ∷ momentIn s 28 ∷ momentIn s 32 ∷ []
+
+-- the monitor whose image starts a list of bytes; a byte past the end reads as 0
+unfoldable pub monitorIn : List ℕ → Monitor
+monitorIn s =
+    record {
+      at = record { fired = word32 s 0; resets = momentsIn s };
+      now = momentIn s 36;
+      records = word32 s 40;
+      kept = word32 s 44;
+      dropped = word32 s 48;
+      «break_record» = word32 s 52;
+      reason = getD s 56 0;
+    }

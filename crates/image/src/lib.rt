@@ -1,0 +1,158 @@
+// A monitor as bytes at the start of a buffer, and read from there; numbers with the most significant byte first.
+use model::CLOCK_PLACES;
+use model::Moment;
+use model::Monitor;
+use model::Place;
+ghost use mathlib.Core.Path.{_≡_};
+ghost use mathlib.Core.List.{_∷_, [], _++_};
+ghost use Prim.Native.Nat.{_+_, _≤_, _%_};
+ghost use lib.ListN.{length};
+ghost use Rattle.text.specs.Text.{Wrote};
+ghost use Rattle.image.specs.Image.{wordBytes, wordsBytes, longBytes, word64, monitorSize, momentNumbers, countBytes, monitorBytes, momentIn, momentsIn, monitorIn};
+
+// The bytes of a monitor.
+pub const MONITOR_SIZE: usize = 57;
+
+// What the number of a word's upper half is worth in a long number.
+const LONG_HALF: u64 = 0x1_0000_0000;
+
+// The least significant byte.
+fn byte_of(x: u32) -> u8
+    ensures { λ r. ⌜ r ≡ x % 256 ⌝ }
+{
+    (x % 0x100) as u8
+}
+
+// A number in four bytes.
+fn put_word32(out: &mut [u8], at: usize, x: u32) -> usize
+    requires { ⌜ at + 4 ≤ length (now out) ⌝ }
+    ensures { λ r. ⌜ Wrote (now (out .entry)) at (wordBytes x) (now (out .exit)) r ⌝ }
+{
+    let second = text::put_byte(out, at, byte_of(x / 0x100_0000));
+    let third = text::put_byte(out, second, byte_of(x / 0x1_0000));
+    let fourth = text::put_byte(out, third, byte_of(x / 0x100));
+    text::put_byte(out, fourth, byte_of(x))
+}
+
+// Four numbers one behind the other.
+fn put_four(out: &mut [u8], at: usize, a: u32, b: u32, c: u32, d: u32) -> usize
+    requires { ⌜ at + 16 ≤ length (now out) ⌝ }
+    ensures { λ r. ⌜ Wrote (now (out .entry)) at (wordsBytes (a ∷ b ∷ c ∷ d ∷ [])) (now (out .exit)) r ⌝ }
+{
+    let second = put_word32(out, at, a);
+    let third = put_word32(out, second, b);
+    let fourth = put_word32(out, third, c);
+    put_word32(out, fourth, d)
+}
+
+// The eight reset moments.
+fn put_moments(out: &mut [u8], at: usize, resets: [Moment; CLOCK_PLACES]) -> usize
+    requires { ⌜ at + 32 ≤ length (now out) ⌝ }
+    ensures { λ r. ⌜ Wrote (now (out .entry)) at (wordsBytes (momentNumbers resets)) (now (out .exit)) r ⌝ }
+{
+    let r0 = resets[0];
+    let r1 = resets[1];
+    let r2 = resets[2];
+    let r3 = resets[3];
+    let r4 = resets[4];
+    let r5 = resets[5];
+    let r6 = resets[6];
+    let r7 = resets[7];
+    let next = put_four(out, at, r0.0, r1.0, r2.0, r3.0);
+    put_four(out, next, r4.0, r5.0, r6.0, r7.0)
+}
+
+// The moment, the counts and the break.
+fn put_counts(out: &mut [u8], at: usize, m: Monitor) -> usize
+    requires { ⌜ at + 21 ≤ length (now out) ⌝ }
+    ensures { λ r. ⌜ Wrote (now (out .entry)) at (countBytes m) (now (out .exit)) r ⌝ }
+{
+    let now = m.now;
+    let second = put_four(out, at, now.0, m.records, m.kept, m.dropped);
+    let third = put_word32(out, second, m.break_record);
+    text::put_byte(out, third, m.reason)
+}
+
+// The monitor at the start of the buffer: read from there it is the same.
+pub fn put_monitor(out: &mut [u8], m: Monitor) -> usize
+    requires { ⌜ monitorSize ≤ length (now out) ⌝ }
+    ensures image { λ r. ⌜ Wrote (now (out .entry)) 0 (monitorBytes m) (now (out .exit)) r ⌝ }
+    ensures back { λ r. ⌜ monitorIn (now (out .exit)) ≡ m ⌝ }
+{
+    let at = m.at;
+    let resets = at.resets;
+    let second = put_word32(out, 0, at.fired);
+    let third = put_moments(out, second, resets);
+    put_counts(out, third, m)
+}
+
+// A number in eight bytes.
+pub fn put_word64(out: &mut [u8], at: usize, x: u64) -> usize
+    requires { ⌜ at + 8 ≤ length (now out) ⌝ }
+    ensures { λ r. ⌜ Wrote (now (out .entry)) at (longBytes x) (now (out .exit)) r ⌝ }
+{
+    let second = put_word32(out, at, (x / LONG_HALF) as u32);
+    put_word32(out, second, (x % LONG_HALF) as u32)
+}
+
+fn wide(x: u32) -> u64
+    ensures { λ r. ⌜ (r ≡ x) × (r + 1 ≤ 0x1_0000_0000) ⌝ }
+{
+    x as u64
+}
+
+// A number read from eight bytes; a byte past the end reads as 0.
+pub fn word64_at(bytes: &[u8], at: usize) -> u64
+    ensures value { λ r. ⌜ r ≡ word64 (now (bytes .entry)) at ⌝ }
+    ensures unchanged { λ r. ⌜ now (bytes .exit) ≡ now (bytes .entry) ⌝ }
+{
+    if at < bytes.len() {
+        let high = wide(wire::word32_at(bytes, at));
+        let low = wide(wire::word32_at(bytes, at + 4));
+        return high * LONG_HALF + low;
+    }
+    0
+}
+
+fn moment_at(bytes: &[u8], at: usize) -> Moment
+    ensures { λ r. ⌜ r ≡ momentIn (now (bytes .entry)) at ⌝ }
+{
+    Moment(wire::word32_at(bytes, at))
+}
+
+fn moments_at(bytes: &[u8]) -> [Moment; CLOCK_PLACES]
+    ensures { λ r. ⌜ r ≡ momentsIn (now (bytes .entry)) ⌝ }
+{
+    [
+        moment_at(bytes, 4),
+        moment_at(bytes, 8),
+        moment_at(bytes, 12),
+        moment_at(bytes, 16),
+        moment_at(bytes, 20),
+        moment_at(bytes, 24),
+        moment_at(bytes, 28),
+        moment_at(bytes, 32),
+    ]
+}
+
+// The monitor whose image starts the bytes; a byte past the end reads as 0.
+pub fn monitor_at(bytes: &[u8]) -> Monitor
+    ensures value { λ r. ⌜ r ≡ monitorIn (now (bytes .entry)) ⌝ }
+    ensures unchanged { λ r. ⌜ now (bytes .exit) ≡ now (bytes .entry) ⌝ }
+{
+    let resets = moments_at(bytes);
+    let at = Place {
+        fired: wire::word32_at(bytes, 0),
+        resets,
+    };
+    let now = moment_at(bytes, 36);
+    Monitor {
+        at,
+        now,
+        records: wire::word32_at(bytes, 40),
+        kept: wire::word32_at(bytes, 44),
+        dropped: wire::word32_at(bytes, 48),
+        break_record: wire::word32_at(bytes, 52),
+        reason: wire::byte_at(bytes, 56),
+    }
+}
