@@ -223,7 +223,8 @@ fn standing(prechart: usize, m: Monitor) -> u8
     IN_PRECHART
 }
 
-fn verdict_of(prechart: usize, m: Monitor) -> Verdict
+// The verdict of a monitor, given the number of prechart regions.
+pub fn verdict_of(prechart: usize, m: Monitor) -> Verdict
     requires { ⌜ prechart ≤ mostRegions ⌝ }
     ensures { λ r. ⌜ r ≡ verdictBy prechart m ⌝ }
 {

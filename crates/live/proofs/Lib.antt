@@ -1,0 +1,4 @@
+pub mod Charts
+pub mod Feeding
+pub mod Opening
+pub mod Standings

@@ -1,0 +1,113 @@
+-- A live monitor as bytes: the monitor's image, the chart's length in eight bytes, the chart's bytes; and what is done with it.
+use Prim.Native.Nat.{ℕ, _+_, _-_}
+use mathlib.Core.Path.{_≡_}
+use mathlib.Core.Bool.{Bool, false, cond, not, _&&_, _||_}
+use mathlib.Core.List.{List, _++_}
+use lib.Dec.{eqb, leb, ltb}
+use lib.ListN.{length, take, drop}
+use Rattle.model.specs.declared.Chart.{Chart}
+use Rattle.model.specs.declared.Monitor.{Monitor}
+use Rattle.model.specs.declared.Record.{Record}
+use Rattle.model.specs.Chart.{zeroChart}
+use Rattle.model.specs.Monitor.{zeroMonitor}
+use Rattle.chart_reader.specs.Read.{Said, readChart}
+use Rattle.chart_value.specs.WellFormed.{wellFormed}
+use Rattle.chart_value.specs.View.{chartOf}
+use Rattle.stepping.specs.declared.Step.{Step}
+use Rattle.stepping.specs.declared.FeedRefusal.the-variants.{NotAChart, Unfit}
+use Rattle.stepping.specs.Answers.{feedRefusalNumber, answerNumber, isRefused}
+use Rattle.stepping.specs.View.{monitorAt, stepOf}
+use Rattle.monitor.specs.Fit.{fits}
+use Rattle.monitor.specs.Feed.{feedOf}
+use Rattle.judge.specs.Judge.{verdictOf, zeroVerdict}
+use Rattle.image.specs.Image.{monitorSize, monitorBytes, monitorIn, longBytes, word64}
+use Rattle.live.specs.declared.Opened.{Opened}
+use Rattle.live.specs.declared.LiveVerdict.{LiveVerdict}
+
+-- the monitor's image and the chart's length
+abbrev pub headSize : ℕ
+headSize = 65
+
+abbrev pub lengthIn : List ℕ → ℕ
+lengthIn l = word64 l monitorSize
+
+-- the bytes are not too few, and the length is not beyond the rest
+abbrev pub isFramed : List ℕ → Bool
+isFramed l = leb headSize (length l) && leb (lengthIn l) (length l - headSize)
+
+-- the bytes of the chart
+abbrev pub chartPart : List ℕ → List ℕ
+chartPart l = take (lengthIn l) (drop headSize l)
+
+-- the chart in the bytes; a chart of zeros where there is none, as the reader gives for bytes that it refuses
+unfoldable pub chartIn : List ℕ → Chart
+chartIn l = cond (isFramed l) (readChart (chartPart l) .chart) zeroChart
+
+-- the bytes hold a live monitor: framed, with a chart that the reader accepts
+unfoldable pub isLive : List ℕ → Bool
+isLive l = isFramed l && eqb (readChart (chartPart l) .number) 0
+
+-- "the bytes that a live monitor of a chart of so many bytes takes"; the largest number of 64 bits where the sum is above it
+abbrev pub largest : ℕ
+largest = 0xffff_ffff_ffff_ffff
+
+unfoldable pub liveSize : ℕ → ℕ
+liveSize n = cond (ltb (largest - headSize) n) largest (headSize + n)
+
+-- a fresh live monitor
+unfoldable pub freshBytes : List ℕ → List ℕ
+freshBytes chart = monitorBytes zeroMonitor ++ (longBytes (length chart) ++ chart)
+
+-- a buffer with too few places
+abbrev pub tooShort : ℕ
+tooShort = 12
+
+-- Opening: the chart's refusal with its offset, 12 with the size that is wanted, or 0 with the size taken.
+abbrev pub openedBy : Said → ℕ → ℕ → Opened
+openedBy said size room =
+    cond (eqb (said .number) 0)
+    (record { number = cond (ltb room size) tooShort 0; at = size })
+    (record { number = said .number; at = said .offset })
+
+unfoldable pub openedOf : List ℕ → ℕ → Opened
+openedOf chart room = openedBy (readChart chart) (liveSize (length chart)) room
+
+-- only an opened buffer is written, and only where the live monitor stands
+unfoldable pub bytesOpened : List ℕ → List ℕ → List ℕ
+bytesOpened chart l = cond (eqb (openedOf chart (length l) .number) 0) (freshBytes chart ++ drop (liveSize (length chart)) l) l
+
+-- what an opened buffer holds: the chart that was read, and a fresh monitor
+pub record Holds (chart l : List ℕ) : Type 0 where
+  pub chart-read : chartIn l ≡ readChart chart .chart
+  pub fresh : monitorIn l ≡ zeroMonitor
+
+-- The bytes after a feed: as they were where it was refused or the monitor is broken already, else the monitor handed back, and all
+-- other bytes as they were.
+abbrev pub isBroken : Monitor → Bool
+isBroken m = not (eqb (m .«break_record») 0)
+
+unfoldable pub bytesFed : List ℕ → Step → List ℕ
+bytesFed l s = cond (isRefused (s .answer) || isBroken (monitorIn l)) l (monitorBytes (s .next) ++ drop monitorSize l)
+
+-- One record fed to the bytes l, which are n afterwards.
+pub record Fed (l : List ℕ) (e : Record) (number : ℕ) (n : List ℕ) : Type 0 where
+  -- the step that feeding the chart and the monitor in the bytes gives, and its number
+  pub taken : Step
+  pub fed : stepOf taken ≡ feedOf (chartIn l) (monitorIn l) e
+  pub told : number ≡ answerNumber (taken .answer)
+  pub bytes : n ≡ bytesFed l taken
+  -- the bytes then hold the monitor that was handed back, with the same chart
+  pub next : monitorIn n ≡ taken .next
+  pub chart : chartIn n ≡ chartIn l
+  -- 20: the bytes hold no live monitor
+  pub none : isLive l ≡ false → number ≡ feedRefusalNumber NotAChart
+
+-- The standing of a monitor for a chart: 20, 21, or 0 and the verdict.
+abbrev pub standingBy : Chart → Monitor → LiveVerdict
+standingBy c m =
+    cond (not (wellFormed c)) (record { number = feedRefusalNumber NotAChart; verdict = zeroVerdict })
+    (cond (not (fits (chartOf c) m)) (record { number = feedRefusalNumber Unfit; verdict = zeroVerdict })
+    (record { number = 0; verdict = verdictOf (chartOf c) (monitorAt m) }))
+
+unfoldable pub standingIn : List ℕ → LiveVerdict
+standingIn l = standingBy (chartIn l) (monitorIn l)

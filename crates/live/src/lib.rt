@@ -1,0 +1,172 @@
+// A live monitor in bytes that the caller keeps: opened for a chart, fed records, asked for its standing.
+use chart_reader::ChartAnswer;
+use judge::Verdict;
+use model::Chart;
+use model::Monitor;
+use model::Record;
+use stepping::Answer;
+use stepping::FeedRefusal;
+ghost use mathlib.Core.Path.{_≡_};
+ghost use Prim.Native.Nat.{_+_, _≤_};
+ghost use lib.ListN.{length};
+ghost use Rattle.text.specs.Text.{Wrote};
+ghost use Rattle.stepping.specs.Answers.{feedRefusalNumber, isRefused};
+ghost use Rattle.judge.specs.Judge.{zeroVerdict};
+ghost use Rattle.image.specs.Image.{monitorIn};
+ghost use Rattle.live.specs.Live.{headSize, chartIn, isLive, liveSize, freshBytes, openedOf, bytesOpened, Holds, Fed, standingBy, standingIn};
+
+// The monitor's image and the chart's length.
+const HEAD_SIZE: usize = 65;
+
+const LARGEST: usize = 0xffff_ffff_ffff_ffff;
+
+// The number of the answer that a buffer has too few places.
+pub const TOO_SHORT: u8 = 12;
+
+// How opening went, and an offset in the chart or the size of the live monitor.
+pub struct Opened {
+    pub number: u8,
+    pub at: u64,
+}
+
+// 0 and the verdict, or a refusal with zeros.
+pub struct LiveVerdict {
+    pub number: u8,
+    pub verdict: Verdict,
+}
+
+// The bytes that a live monitor of a chart of so many bytes takes.
+pub fn size(bytes: usize) -> usize
+    ensures { λ r. ⌜ r ≡ liveSize bytes ⌝ }
+{
+    if LARGEST - HEAD_SIZE < bytes {
+        return LARGEST;
+    }
+    HEAD_SIZE + bytes
+}
+
+// A fresh live monitor at the start of the buffer.
+fn put_fresh(live: &mut [u8], chart: &[u8]) -> usize
+    requires { ⌜ headSize + length (now chart) ≤ length (now live) ⌝ }
+    ensures { λ r. ⌜ Wrote (now (live .entry)) 0 (freshBytes (now (chart .entry))) (now (live .exit)) r ⌝ }
+{
+    let second = image::put_monitor(live, model::zero_monitor());
+    let third = image::put_word64(live, second, chart.len() as u64);
+    text::put_bytes(live, third, chart)
+}
+
+// A live monitor for the chart, where the buffer has room for it.
+pub fn open(chart: &[u8], live: &mut [u8]) -> Opened
+    ensures answer { λ r. ⌜ r ≡ openedOf (now (chart .entry)) (length (now (live .entry))) ⌝ }
+    ensures bytes { λ r. ⌜ now (live .exit) ≡ bytesOpened (now (chart .entry)) (now (live .entry)) ⌝ }
+    ensures holds { λ r. ⌜ (r .number ≡ 0 → Holds (now (chart .entry)) (now (live .exit))) ⌝ }
+    ensures unchanged { λ r. ⌜ now (chart .exit) ≡ now (chart .entry) ⌝ }
+{
+    let read = chart_reader::read(chart);
+    let answer = read.answer;
+    if let ChartAnswer::Refused(refusal, offset) = answer {
+        return Opened {
+            number: chart_step::number(refusal),
+            at: offset as u64,
+        };
+    }
+    let wanted = size(chart.len());
+    if live.len() < wanted {
+        return Opened {
+            number: TOO_SHORT,
+            at: wanted as u64,
+        };
+    }
+    put_fresh(live, chart);
+    Opened {
+        number: 0,
+        at: wanted as u64,
+    }
+}
+
+// The chart in the bytes; zeros where there is none.
+fn chart_in(live: &[u8]) -> Chart
+    ensures { λ r. ⌜ r ≡ chartIn (now (live .entry)) ⌝ }
+{
+    if live.len() < HEAD_SIZE {
+        return model::zero_chart();
+    }
+    let rest = live.len() - HEAD_SIZE;
+    let n = image::word64_at(live, image::MONITOR_SIZE);
+    if (rest as u64) < n {
+        return model::zero_chart();
+    }
+    let end = HEAD_SIZE + n as usize;
+    let read = chart_reader::read(&live[HEAD_SIZE..end]);
+    read.chart
+}
+
+fn is_refused(a: Answer) -> bool
+    ensures { λ r. ⌜ r ≡ isRefused a ⌝ }
+{
+    match a {
+        Answer::Refused(_) => true,
+        Answer::Broken(_, _) => false,
+        Answer::Kept => false,
+        Answer::Dropped => false,
+        Answer::Entered => false,
+        Answer::Moved => false,
+        Answer::Quiet => false,
+    }
+}
+
+// One record fed to the monitor in the bytes.
+pub fn feed(live: &mut [u8], e: Record) -> u8
+    ensures { λ r. ⌜ Fed (now (live .entry)) e r (now (live .exit)) ⌝ }
+{
+    let m = image::monitor_at(live);
+    let s = monitor::feed(chart_in(live), m, e);
+    let answer = s.answer;
+    let next = s.next;
+    if is_refused(answer) | (m.break_record != 0) {
+        return stepping::answer_number(answer);
+    }
+    image::put_monitor(live, next);
+    stepping::answer_number(answer)
+}
+
+fn refused(k: FeedRefusal) -> LiveVerdict
+    ensures { λ r. ⌜ r ≡ record { number = feedRefusalNumber k; verdict = zeroVerdict } ⌝ }
+{
+    let verdict = Verdict {
+        standing: 0,
+        kept: 0,
+        dropped: 0,
+        records: 0,
+        break_record: 0,
+        reason: 0,
+    };
+    LiveVerdict {
+        number: stepping::refusal_number(k),
+        verdict,
+    }
+}
+
+// The verdict up to here of a monitor for a chart.
+fn standing_of(chart: Chart, m: Monitor) -> LiveVerdict
+    ensures { λ r. ⌜ r ≡ standingBy chart m ⌝ }
+{
+    if !chart_value::well_formed(chart) {
+        return refused(FeedRefusal::NotAChart);
+    }
+    let p = plan::compile(chart);
+    let h = p.head;
+    if !monitor::is_fit(h, &p.keys, &p.above, &p.resets, &p.terms, m) {
+        return refused(FeedRefusal::Unfit);
+    }
+    let verdict = judge::verdict_of(chart.prechart as usize, m);
+    LiveVerdict { number: 0, verdict }
+}
+
+// The standing of the monitor in the bytes.
+pub fn standing(live: &[u8]) -> LiveVerdict
+    ensures value { λ r. ⌜ r ≡ standingIn (now (live .entry)) ⌝ }
+    ensures unchanged { λ r. ⌜ now (live .exit) ≡ now (live .entry) ⌝ }
+{
+    standing_of(chart_in(live), image::monitor_at(live))
+}
