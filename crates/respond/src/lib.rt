@@ -51,7 +51,7 @@ fn report_log(j: Judgement) -> Report
 }
 
 // The chart is read, then the log judged.
-fn report_parts(chart: &[u8], log: &[u8]) -> Report
+pub fn report_parts(chart: &[u8], log: &[u8]) -> Report
     ensures { λ r. ⌜ r ≡ partsReport (now (chart .entry)) (now (log .entry)) ⌝ }
 {
     let read = chart_reader::read(chart);

@@ -1,0 +1,46 @@
+-- What is returned and written, by the tests in their order. Assumes nothing.
+use mathlib.Core.Path.{_≡_, refl, sym, ap, _∙_}
+use mathlib.Core.List.{List, [], _∷_, _++_}
+use Prim.Native.Nat.{ℕ, _≤_, _<_}
+use borrow.Author.Tests.{lt-ltb, le-ltb, eq-eqb, ne-eqb}
+use lib.ListN.{length, drop}
+use Rattle.listing.specs.declared.Part.{Part}
+use Rattle.listing.specs.declared.Report.{Report}
+use Rattle.listing.specs.declared.Report.the-variants.{Refused}
+use Rattle.live.specs.declared.LiveVerdict.{LiveVerdict}
+use Rattle.live.specs.Live.{tooShort}
+use Rattle.lsc.specs.Lsc.{places, verdictNumbers, partNumber, reportNumbers, reportNumber, judgedNumber, judgedOut, standingNumber, standingOut}
+
+-- six numbers that are those of a refusal
+pub put-refusal : (r : Report) (out : List ℕ) {m : List ℕ} (part : Part) (number offset p : ℕ) → r ≡ Refused part number offset → p ≡ partNumber part
+    → m ≡ (p ∷ number ∷ offset ∷ 0 ∷ 0 ∷ 0 ∷ []) ++ drop places out → (number ≡ reportNumber r) × (m ≡ reportNumbers r ++ drop places out)
+put-refusal r out part number offset p e q b = (
+  ap reportNumber (sym e),
+  b
+      ∙ ap (λ (k : ℕ). (k ∷ number ∷ offset ∷ 0 ∷ 0 ∷ 0 ∷ []) ++ drop places out) q
+      ∙ ap (λ (x : Report). reportNumbers x ++ drop places out) (sym e),
+)
+
+pub judged-short : (r : Report) (out : List ℕ) → length out < places → (tooShort ≡ judgedNumber r out) × (out ≡ judgedOut r out)
+judged-short r out h = let e = lt-ltb (length out) places h in (rw e, rw e)
+
+pub judged-room : (q r : Report) (out m : List ℕ) (n : ℕ) → places ≤ length out → q ≡ r → n ≡ reportNumber q → m ≡ reportNumbers q ++ drop places out
+    → (n ≡ judgedNumber r out) × (m ≡ judgedOut r out)
+judged-room q r out m n h p a b =
+    let e = le-ltb (length out) places h in
+    (rw e (a ∙ ap reportNumber p), rw e (b ∙ ap (λ (x : Report). reportNumbers x ++ drop places out) p))
+
+module _ (s t : LiveVerdict) (out : List ℕ) (p : s ≡ t) where
+  along : (n : ℕ) (m : List ℕ) → n ≡ standingNumber s out → m ≡ standingOut s out → (n ≡ standingNumber t out) × (m ≡ standingOut t out)
+  along n m a b = (a ∙ ap (λ (x : LiveVerdict). standingNumber x out) p, b ∙ ap (λ (x : LiveVerdict). standingOut x out) p)
+
+  pub standing-refused : (s .number ≡ 0 → ⊥) → (s .number ≡ standingNumber t out) × (out ≡ standingOut t out)
+  standing-refused h = let e = ne-eqb (s .number) 0 h in along (s .number) out (rw e) (rw (e, e))
+
+  module _ (z : s .number ≡ 0) where
+    pub standing-short : length out < places → (tooShort ≡ standingNumber t out) × (out ≡ standingOut t out)
+    standing-short h = let e = eq-eqb (s .number) 0 z in let f = lt-ltb (length out) places h in along tooShort out (rw (e, f)) (rw (e, f))
+
+    pub standing-room : (m : List ℕ) → places ≤ length out → m ≡ verdictNumbers (s .verdict) ++ drop places out
+        → (0 ≡ standingNumber t out) × (m ≡ standingOut t out)
+    standing-room m h b = let e = eq-eqb (s .number) 0 z in let f = le-ltb (length out) places h in along 0 m (rw (e, f)) (rw (e, f) b)

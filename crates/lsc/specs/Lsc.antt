@@ -1,0 +1,58 @@
+-- What the library's functions return and write, in the numbers of document 01.
+use Prim.Native.Nat.{ℕ}
+use mathlib.Core.Bool.{cond}
+use mathlib.Core.List.{List, [], _∷_, _++_}
+use lib.Dec.{eqb, ltb}
+use lib.ListN.{length, drop}
+use Rattle.judge.specs.declared.Verdict.{Verdict}
+use Rattle.listing.specs.declared.Part.{Part}
+use Rattle.listing.specs.declared.Part.the-variants.{Input, Chart, Log}
+use Rattle.listing.specs.declared.Report.{Report}
+use Rattle.listing.specs.declared.Report.the-variants.{Judged, Refused}
+use Rattle.respond.specs.declared.Response.{Response}
+use Rattle.respond.specs.declared.Response.the-variants.{Written, TooShort}
+use Rattle.live.specs.declared.LiveVerdict.{LiveVerdict}
+use Rattle.live.specs.Live.{tooShort}
+
+-- the places that a verdict or a refusal takes
+abbrev pub places : ℕ
+places = 6
+
+-- "standing, kept, dropped, records, break, reason"
+abbrev pub verdictNumbers : Verdict → List ℕ
+verdictNumbers v = v .standing ∷ v .kept ∷ v .dropped ∷ v .records ∷ v .«break_record» ∷ v .reason ∷ []
+
+-- "part (1 chart, 2 log)"; no report of a chart and a log has the part 0
+abbrev pub partNumber : Part → ℕ
+partNumber Input = 0
+partNumber Chart = 1
+partNumber Log = 2
+
+-- the verdict, or "part, N, offset within the part, 0, 0, 0"
+abbrev pub reportNumbers : Report → List ℕ
+reportNumbers (Judged v) = verdictNumbers v
+reportNumbers (Refused part number offset) = partNumber part ∷ number ∷ offset ∷ 0 ∷ 0 ∷ 0 ∷ []
+
+-- 0 judged, or the refusal's number
+abbrev pub reportNumber : Report → ℕ
+reportNumber (Judged v) = 0
+reportNumber (Refused part number offset) = number
+
+-- 12 where out has fewer than 6 places, which then stay as they were; places beyond the sixth keep their contents
+abbrev pub judgedNumber : Report → List ℕ → ℕ
+judgedNumber report out = cond (ltb (length out) places) tooShort (reportNumber report)
+
+abbrev pub judgedOut : Report → List ℕ → List ℕ
+judgedOut report out = cond (ltb (length out) places) out (reportNumbers report ++ drop places out)
+
+-- 20 and 21 before 12; only on 0 is out written
+abbrev pub standingNumber : LiveVerdict → List ℕ → ℕ
+standingNumber s out = cond (eqb (s .number) 0) (cond (ltb (length out) places) tooShort 0) (s .number)
+
+abbrev pub standingOut : LiveVerdict → List ℕ → List ℕ
+standingOut s out = cond (eqb (standingNumber s out) 0) (verdictNumbers (s .verdict) ++ drop places out) out
+
+-- 0 printed, 12 where out may be too short
+abbrev pub printedNumber : Response → ℕ
+printedNumber (Written n) = 0
+printedNumber TooShort = tooShort
