@@ -1,0 +1,40 @@
+use borrow.Author.Needs.{needs}
+use Rattle.chart_image.proofs.head_fits.Statement.{statement}
+use Rattle.chart_image.proofs.head_fits.Tie as tie
+
+byte-at-requires : tie.Need-byte-at-requires
+byte-at-requires c κs = search needs
+
+add-word16-at : tie.Need-add-word16-at
+add-word16-at c = search needs
+
+word16-at-requires : tie.Need-word16-at-requires
+word16-at-requires c κs = search needs
+
+add-word16-at-2 : tie.Need-add-word16-at-2
+add-word16-at-2 c = search needs
+
+word16-at-requires-2 : tie.Need-word16-at-requires-2
+word16-at-requires-2 c κs = search needs
+
+add-byte-at : tie.Need-add-byte-at
+add-byte-at c = search needs
+
+byte-at-requires-2 : tie.Need-byte-at-requires-2
+byte-at-requires-2 c κs = search needs
+
+returns : tie.Need-returns
+returns c = rw (c .byte-at2 .ensures .0, c .before .word16-at2 .ensures .0, c .before .before .word16-at .ensures .0, c .before .before .before .byte-at .ensures .0)
+
+pub head-fits-spec : {M : Type 1} → statement M
+head-fits-spec =
+    tie.close
+    (tie.spec
+    byte-at-requires
+    add-word16-at
+    word16-at-requires
+    add-word16-at-2
+    word16-at-requires-2
+    add-byte-at
+    byte-at-requires-2
+    returns)

@@ -1,0 +1,83 @@
+-- A chart value as 1,348 bytes: "lines, clocks, prechart, count (1 byte each), then 32 regions of 42 bytes".
+use Prim.Native.Nat.{ℕ, zero, suc, _+_, _*_}
+use mathlib.Core.Bool.{Bool, cond, _&&_, _||_}
+use mathlib.Core.List.{List, [], _∷_, _++_}
+use lib.Dec.{eqb, leb}
+use lib.ListN.{length, getD}
+use Rattle.wire.specs.Bytes.{word16, word32}
+use Rattle.rounds.specs.Base.{allBelow}
+use Rattle.model.specs.declared.Event.{Event}
+use Rattle.model.specs.declared.Event.the-variants.{Plain, Message}
+use Rattle.model.specs.declared.Left.{Left}
+use Rattle.model.specs.declared.Left.the-variants.{Clock, Difference}
+use Rattle.model.specs.declared.Term.{Term}
+use Rattle.model.specs.declared.Region.{Region}
+use Rattle.model.specs.declared.Chart.{Chart}
+use Rattle.model.specs.Chart.{mostRegions, zeroChart}
+use Rattle.chart_step.specs.Reading.{relationOf}
+
+abbrev pub chartSize : ℕ
+chartSize = 1348
+
+-- where region i starts
+abbrev pub regionPlace : ℕ → ℕ
+regionPlace i = 4 + i * 42
+
+-- "kind (0 clock, 1 difference), first, second (0 for a one-clock term), relation, n(4)"
+abbrev pub leftOf : ℕ → ℕ → ℕ → Left
+leftOf kind first second = cond (eqb kind 0) (Clock first) (Difference first second)
+
+abbrev pub termIn : List ℕ → ℕ → Term
+termIn s at =
+    record {
+      left = leftOf (getD s at 0) (getD s (at + 1) 0) (getD s (at + 2) 0);
+      relation = relationOf (getD s (at + 3) 0);
+      n = word32 s (at + 4);
+    }
+
+-- no byte of the term is without a value
+abbrev pub termFits : List ℕ → ℕ → Bool
+termFits s at =
+    leb (getD s at 0) 1 && (leb (getD s (at + 3) 0) 4 && (eqb (getD s at 0) 1 || eqb (getD s (at + 2) 0) 0))
+
+-- "kind (0 plain, 1 message), four payload bytes (message: source, destination, label(2); plain: lines(2), 0, 0)"
+abbrev pub eventIn : List ℕ → ℕ → Event
+eventIn s at =
+    cond (eqb (getD s at 0) 0) (Plain (word16 s (at + 1)))
+    (Message (record { source = getD s (at + 1) 0; destination = getD s (at + 2) 0; label = word16 s (at + 3) }))
+
+-- then "hot (0 or 1), resets, term_count, two bytes 0 0, then 4 terms of 8 bytes"
+abbrev pub regionIn : List ℕ → ℕ → Region
+regionIn s at =
+    record {
+      event = eventIn s at;
+      terms = termIn s (at + 10) ∷ termIn s (at + 18) ∷ termIn s (at + 26) ∷ termIn s (at + 34) ∷ [];
+      «term_count» = getD s (at + 7) 0;
+      hot = eqb (getD s (at + 5) 0) 1;
+      resets = getD s (at + 6) 0;
+    }
+
+abbrev pub headFits : List ℕ → ℕ → Bool
+headFits s at =
+    leb (getD s at 0) 1
+    && (leb (getD s (at + 5) 0) 1 && (eqb (word16 s (at + 8)) 0 && (eqb (getD s at 0) 1 || eqb (word16 s (at + 3)) 0)))
+
+abbrev pub regionFits : List ℕ → ℕ → Bool
+regionFits s at =
+    headFits s at && (termFits s (at + 10) && (termFits s (at + 18) && (termFits s (at + 26) && termFits s (at + 34))))
+
+-- the first n regions
+unfoldable pub regionsIn : ℕ → List ℕ → List Region
+regionsIn zero s = []
+regionsIn (suc n) s = regionsIn n s ++ (regionIn s (regionPlace n) ∷ [])
+
+-- the bytes are an image: of this length, with no byte that has no value
+unfoldable pub isImage : List ℕ → Bool
+isImage s = eqb (length s) chartSize && allBelow mostRegions (λ i. regionFits s (regionPlace i))
+
+-- the chart value in an image; bytes that are none give a chart of zeros, which is no chart
+unfoldable pub chartValue : List ℕ → Chart
+chartValue s =
+    cond (isImage s)
+    (record { lines = getD s 0 0; clocks = getD s 1 0; prechart = getD s 2 0; count = getD s 3 0; regions = regionsIn mostRegions s })
+    zeroChart
