@@ -1,37 +1,39 @@
 -- Feeding the monitor in live bytes. Assumes nothing.
 use mathlib.Core.Path.{_≡_, refl, sym, ap, subst, _∙_}
-use mathlib.Core.Bool.{Bool, true, false, true≢false, _||_}
+use mathlib.Core.Bool.{Bool, true, false, cond, _||_}
 use mathlib.Core.Logic.{_⊎_, inl, inr}
 use mathlib.Core.List.{List, [], _∷_, _++_}
 use Prim.Native.Nat.{ℕ, _+_, _-_, _≤_, _<_}
 use native.Mathlib.Omega.{arith}
-use native.Mathlib.Decide.{decLe}
-use borrow.Author.Tests.{not-true, eqb-false}
-use lib.Dec.{eqb}
-use lib.ListN.{length, drop}
+use borrow.Author.Tests.{not-true, eqb-false, lt-ltb, le-ltb}
+use lib.ListN.{length, drop, length-append, length-drop}
 use lib.Seq.{drop-at}
-use Rattle.bitset.proofs.Bools.{either, neither}
+use Rattle.bitset.proofs.Bools.{either}
 use Rattle.model.specs.declared.Chart.{Chart}
 use Rattle.model.specs.declared.Monitor.{Monitor}
 use Rattle.model.specs.declared.Record.{Record}
 use Rattle.model.specs.Chart.{zeroChart}
-use Rattle.rounds.specs.Feeds.{Answer as Told, refused}
+use Rattle.rounds.specs.Feeds.{refused}
 use Rattle.stepping.specs.declared.Answer.{Answer}
 use Rattle.stepping.specs.declared.Answer.the-variants.{Refused, Broken, Kept, Dropped, Entered, Moved, Quiet}
 use Rattle.stepping.specs.declared.FeedRefusal.the-variants.{NotAChart}
 use Rattle.stepping.specs.declared.Step.{Step}
 use Rattle.stepping.specs.Answers.{feedRefusalNumber, answerNumber, answerOf, isRefused, HandsBack}
 use Rattle.stepping.specs.View.{stepOf}
-use Rattle.monitor.specs.Feed.{feedOf, refuse}
+use Rattle.monitor.specs.Feed.{madeNumber, MadeOf, feedOf, refuse}
+use Rattle.monitor.specs.declared.Made.{Made}
+use Rattle.chart_value.specs.WellFormed.{wellFormed}
+use Rattle.chart_image.specs.ChartImage.{chartValue}
 use Rattle.text.specs.Text.{Wrote}
 use Rattle.image.specs.Image.{monitorSize, monitorBytes, monitorIn}
 use Rattle.image.proofs.Laws.{at-start, monitor-length}
-use Rattle.live.specs.Live.{headSize, chartIn, isLive, isBroken, bytesFed, Fed}
-use Rattle.live.proofs.Charts.{too-few, same-chart, not-live, zero-refused}
+use Rattle.live.specs.Live.{chartIn, isBroken, bytesFed, tooShort, FedBy, Fed}
+use Rattle.live.specs.Images.{newNumber, newBytes, FedImage}
+use Rattle.live.proofs.Charts.{same-chart, not-live, zero-refused}
 
 -- an answer that is told as 20
-told-20 : (a : Answer) → answerOf a ≡ refused (feedRefusalNumber NotAChart) → (answerNumber a ≡ feedRefusalNumber NotAChart) × (isRefused a ≡ true)
-told-20 (Refused k) e = (cc, refl)
+told-20 : (a : Answer) → answerOf a ≡ refused (feedRefusalNumber NotAChart) → answerNumber a ≡ feedRefusalNumber NotAChart
+told-20 (Refused k) e = cc
 told-20 (Broken n k) e = let z : _≡_ {A = ℕ} 0 1 = cc in absurd (omega arith)
 told-20 Kept e = let z : _≡_ {A = ℕ} 0 1 = cc in absurd (omega arith)
 told-20 Dropped e = let z : _≡_ {A = ℕ} 0 1 = cc in absurd (omega arith)
@@ -40,35 +42,30 @@ told-20 Moved e = let z : _≡_ {A = ℕ} 0 1 = cc in absurd (omega arith)
 told-20 Quiet e = let z : _≡_ {A = ℕ} 0 1 = cc in absurd (omega arith)
 
 -- with a chart of zeros the answer is 20
-no-chart : (c : Chart) (m : Monitor) (e : Record) (s : Step) → c ≡ zeroChart → stepOf s ≡ feedOf c m e
-    → (answerNumber (s .answer) ≡ feedRefusalNumber NotAChart) × (isRefused (s .answer) ≡ true)
+zeros-fed : (m : Monitor) (e : Record) → feedOf zeroChart m e ≡ refuse NotAChart m
 unfolding feedOf
+zeros-fed m e = rw zero-refused
+
+no-chart : (c : Chart) (m : Monitor) (e : Record) (s : Step) → c ≡ zeroChart → stepOf s ≡ feedOf c m e → answerNumber (s .answer) ≡ feedRefusalNumber NotAChart
 no-chart c m e s z f =
-    let zeros : feedOf zeroChart m e ≡ refuse NotAChart m = rw zero-refused in
-    let r : stepOf s ≡ refuse NotAChart m = f ∙ ap (λ (c : Chart). feedOf c m e) z ∙ zeros in
+    let r : stepOf s ≡ refuse NotAChart m = f ∙ ap (λ (c : Chart). feedOf c m e) z ∙ zeros-fed m e in
     told-20 (s .answer) (λ i. r i .answer)
 
-module _ (l : List ℕ) (m : Monitor) (e : Record) (s : Step) (c : Chart) (p : c ≡ chartIn l) (q : m ≡ monitorIn l)
-    (f : stepOf s ≡ feedOf c m e) where
-  fed-in : stepOf s ≡ feedOf (chartIn l) (monitorIn l) e
-  fed-in = f ∙ (λ i. feedOf (p i) (q i) e)
+-- a monitor's image written at the start
+monitor-at-start : {l n : List ℕ} {j : ℕ} (m : Monitor) → Wrote l 0 (monitorBytes m) n j → monitorSize ≤ length l → n ≡ monitorBytes m ++ drop monitorSize l
+monitor-at-start {l} {n} m w h =
+    let size = monitor-length m in
+    at-start w (omega (arith, size)) ∙ ap (λ (x : ℕ). monitorBytes m ++ drop x l) size
 
-  none-told : isLive l ≡ false → answerNumber (s .answer) ≡ feedRefusalNumber NotAChart
-  none-told n = no-chart c m e s (p ∙ not-live l n) f .0
-
-  -- an answer that is no refusal comes from bytes with a monitor and a length
-  pub room : isRefused (s .answer) ≡ false → headSize ≤ length l
-  room r = elim (decLe headSize (length l)) [
-    | yes h ↦ h
-    | no h ↦
-        let few : length l < headSize = omega arith in
-        absurd (true≢false (sym (no-chart c m e s (p ∙ too-few l few) f .1) ∙ r))
-  ]
+module _ (c : Chart) (l : List ℕ) (m : Monitor) (e : Record) (s : Step) (q : m ≡ monitorIn l) (f : stepOf s ≡ feedOf c m e) (r : ℕ)
+    (t : r ≡ answerNumber (s .answer)) where
+  fed-in : stepOf s ≡ feedOf c (monitorIn l) e
+  fed-in = f ∙ ap (λ (m : Monitor). feedOf c m e) q
 
   -- the bytes stay as they were
-  pub stays : (r : ℕ) → HandsBack m s → r ≡ answerNumber (s .answer) → (isRefused (s .answer) || isBroken m) ≡ true → Fed l e r l
+  pub stays : HandsBack m s → (isRefused (s .answer) || isBroken m) ≡ true → FedBy c l e r l
   unfolding bytesFed
-  stays r b t g = record {
+  stays b g = record {
     taken = s;
     fed = fed-in;
     told = t;
@@ -77,24 +74,74 @@ module _ (l : List ℕ) (m : Monitor) (e : Record) (s : Step) (c : Chart) (p : c
       | inl x ↦ b .refused x
       | inr x ↦ b .broken (eqb-false (m .«break_record») 0 (not-true _ x))
     ]);
-    chart = refl;
-    none = λ n. t ∙ none-told n;
   }
 
   -- the monitor handed back is written
-  pub written : (r : ℕ) {n : List ℕ} {j : ℕ} → r ≡ answerNumber (s .answer) → (isRefused (s .answer) || isBroken m) ≡ false
-      → headSize ≤ length l → Wrote l 0 (monitorBytes (s .next)) n j → monitorIn n ≡ s .next → Fed l e r n
+  pub written : {n : List ℕ} {j : ℕ} → (isRefused (s .answer) || isBroken m) ≡ false → monitorSize ≤ length l
+      → Wrote l 0 (monitorBytes (s .next)) n j → monitorIn n ≡ s .next → FedBy c l e r n
   unfolding bytesFed
-  written r {n} {j} t g h w k =
-      let size = monitor-length (s .next) in
-      let b : n ≡ monitorBytes (s .next) ++ drop monitorSize l =
-      at-start w (omega (arith, size)) ∙ ap (λ (x : ℕ). monitorBytes (s .next) ++ drop x l) size in
-      record {
-        taken = s;
-        fed = fed-in;
-        told = t;
-        bytes = rw (← q, g) b;
-        next = k;
-        chart = same-chart l n (w .size) (ap (drop monitorSize) b ∙ drop-at (monitorBytes (s .next)) (drop monitorSize l) monitorSize size);
-        none = λ x. t ∙ none-told x;
-      }
+  written {n} {j} g h w k = record {
+    taken = s;
+    fed = fed-in;
+    told = t;
+    bytes = rw (← q, g) (monitor-at-start (s .next) w h);
+    next = k;
+  }
+
+-- bytes that hold no chart: 20, and they stay as they were
+pub fed-none : (l : List ℕ) (e : Record) → chartIn l ≡ zeroChart → Fed l e (feedRefusalNumber NotAChart) l
+unfolding bytesFed
+fed-none l e z = record {
+  by-chart = record {
+    taken = record { answer = Refused NotAChart; next = monitorIn l };
+    fed = sym (ap (λ (c : Chart). feedOf c (monitorIn l) e) z ∙ zeros-fed (monitorIn l) e);
+    told = refl;
+    bytes = refl;
+    next = refl;
+  };
+  chart = refl;
+  none = λ n. refl;
+}
+
+-- the chart behind the monitor's image is not written
+chart-stays : (l : List ℕ) (s : Step) (b : Bool) → monitorSize ≤ length l → chartIn (cond b l (monitorBytes (s .next) ++ drop monitorSize l)) ≡ chartIn l
+chart-stays l s true h = refl
+chart-stays l s false h =
+    let size = monitor-length (s .next) in
+    same-chart l (monitorBytes (s .next) ++ drop monitorSize l)
+    (length-append (monitorBytes (s .next)) (drop monitorSize l) ∙ omega (arith, size, length-drop monitorSize l))
+    (drop-at (monitorBytes (s .next)) (drop monitorSize l) monitorSize size)
+
+pub fed-live : {l n : List ℕ} {e : Record} {r : ℕ} (c : Chart) → c ≡ chartIn l → monitorSize ≤ length l → FedBy c l e r n → Fed l e r n
+unfolding bytesFed
+fed-live {l} {n} {e} {r} c p h F = record {
+  by-chart = subst (λ (c : Chart). FedBy c l e r n) p F;
+  chart = ap chartIn (F .bytes) ∙ chart-stays l (F .taken) (isRefused (F .taken .answer) || isBroken (monitorIn l)) h;
+  none = λ x. F .told ∙ no-chart c (monitorIn l) e (F .taken) (p ∙ not-live l x) (F .fed);
+}
+
+-- the same by images
+pub image-short : (image : List ℕ) {l : List ℕ} (e : Record) → length l < monitorSize → FedImage image l e tooShort l
+image-short image e h = record { short = λ g. (refl, refl); by-chart = λ g. absurd (omega arith); none = λ g x. absurd (omega arith) }
+
+pub image-fed : {image l n : List ℕ} {e : Record} {r : ℕ} (c : Chart) → c ≡ chartValue image → monitorSize ≤ length l → FedBy c l e r n
+    → FedImage image l e r n
+unfolding chartValue
+image-fed {image} {l} {n} {e} {r} c p h F = record {
+  short = λ g. absurd (omega arith);
+  by-chart = λ g. subst (λ (c : Chart). FedBy c l e r n) p F;
+  none = λ g x. F .told ∙ no-chart c (monitorIn l) e (F .taken) (p ∙ rw x) (F .fed);
+}
+
+pub new-short : (image l : List ℕ) → length l < monitorSize → (tooShort ≡ newNumber image l) × (l ≡ newBytes l)
+unfolding newNumber newBytes
+new-short image l h = let e = lt-ltb (length l) monitorSize h in (rw e, rw e)
+
+pub new-made : (image l : List ℕ) {n : List ℕ} {j : ℕ} (c : Chart) (made : Made) (r : ℕ) → monitorSize ≤ length l → c ≡ chartValue image → MadeOf c made
+    → r ≡ madeNumber (made .answer) → Wrote l 0 (monitorBytes (made .monitor)) n j → (r ≡ newNumber image l) × (n ≡ newBytes l)
+unfolding newNumber newBytes
+new-made image l {n} c made r h p M t w =
+    let e = le-ltb (length l) monitorSize h in (
+      rw e (t ∙ M .number ∙ ap (λ (c : Chart). cond (wellFormed c) 0 (feedRefusalNumber NotAChart)) p),
+      rw e (monitor-at-start (made .monitor) w h ∙ ap (λ (m : Monitor). monitorBytes m ++ drop monitorSize l) (M .monitor)),
+    )

@@ -89,17 +89,20 @@ isBroken m = not (eqb (m .«break_record») 0)
 unfoldable pub bytesFed : List ℕ → Step → List ℕ
 bytesFed l s = cond (isRefused (s .answer) || isBroken (monitorIn l)) l (monitorBytes (s .next) ++ drop monitorSize l)
 
--- One record fed to the bytes l, which are n afterwards.
-pub record Fed (l : List ℕ) (e : Record) (number : ℕ) (n : List ℕ) : Type 0 where
-  -- the step that feeding the chart and the monitor in the bytes gives, and its number
+-- One record fed for the chart c to the monitor whose image starts the bytes l, which are n afterwards.
+pub record FedBy (c : Chart) (l : List ℕ) (e : Record) (number : ℕ) (n : List ℕ) : Type 0 where
+  -- the step that feeding gives, and its number
   pub taken : Step
-  pub fed : stepOf taken ≡ feedOf (chartIn l) (monitorIn l) e
+  pub fed : stepOf taken ≡ feedOf c (monitorIn l) e
   pub told : number ≡ answerNumber (taken .answer)
   pub bytes : n ≡ bytesFed l taken
-  -- the bytes then hold the monitor that was handed back, with the same chart
+  -- the bytes then hold the monitor that was handed back
   pub next : monitorIn n ≡ taken .next
+
+-- One record fed to live bytes: for their chart, which they still hold; 20 where they hold no live monitor.
+pub record Fed (l : List ℕ) (e : Record) (number : ℕ) (n : List ℕ) : Type 0 where
+  pub by-chart : FedBy (chartIn l) l e number n
   pub chart : chartIn n ≡ chartIn l
-  -- 20: the bytes hold no live monitor
   pub none : isLive l ≡ false → number ≡ feedRefusalNumber NotAChart
 
 -- The standing of a monitor for a chart: 20, 21, or 0 and the verdict.

@@ -2,7 +2,6 @@ use Prim.Native.Nat.{_≤_, _-_}
 use mathlib.Core.Path.{_≡_, refl}
 use native.Mathlib.Omega.{arith}
 use borrow.Author.Needs.{needs}
-
 use Rattle.model.specs.Chart.{mostRegions}
 use Rattle.chart_image.proofs.Laws.{Filled, filled-none, filled-next, filled-whole}
 use Rattle.chart_image.proofs.regions_at.Statement.{statement}

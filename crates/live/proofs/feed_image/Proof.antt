@@ -1,0 +1,24 @@
+use Rattle.live.proofs.Feeding.{image-short, image-fed}
+use mathlib.Core.Path.{refl}
+use borrow.Author.Needs.{needs}
+use Rattle.live.proofs.feed_image.Statement.{statement}
+use Rattle.live.proofs.feed_image.Tie as tie
+
+returns : tie.Need-returns
+returns c = (image-short _ (c .before .before .before .args .e) (c .if1 .taken), refl)
+
+chart-at-requires : tie.Need-chart-at-requires
+chart-at-requires c κs = search needs
+
+feed-chart-requires : tie.Need-feed-chart-requires
+feed-chart-requires c κs = search needs
+
+same-length : tie.Need-same-length
+same-length c = search needs
+
+returns-2 : tie.Need-returns-2
+returns-2 c = (image-fed _ (c .before .before .before .before .chart-at .ensures .0) (c .before .before .before .before .before .if1 .left) (c .before .before .feed-chart .ensures), refl)
+
+pub feed-image-spec : {M : Type 1} → statement M
+feed-image-spec =
+    tie.close (tie.spec returns chart-at-requires feed-chart-requires same-length returns-2)
