@@ -8,9 +8,7 @@ use model::Region;
 use model::Relation;
 use model::Term;
 ghost use mathlib.Core.Path.{_≡_};
-ghost use mathlib.Core.Bool.{_&&_};
 ghost use Prim.Native.Nat.{_+_, _≤_};
-ghost use lib.ListN.{length};
 ghost use Rattle.model.specs.Chart.{mostRegions};
 ghost use Rattle.chart_step.specs.Reading.{relationOf};
 ghost use Rattle.chart_image.specs.ChartImage.{chartSize, leftOf, termIn, termFits, eventIn, regionIn, headFits, regionFits, regionsIn, isImage, chartValue};
@@ -27,6 +25,7 @@ const MOST_KIND: u8 = 1;
 
 const MOST_RELATION: u8 = 4;
 
+// A term's left side, by its kind.
 fn left_of(kind: u8, first: u8, second: u8) -> Left
     ensures { λ r. ⌜ r ≡ leftOf kind first second ⌝ }
 {
@@ -36,6 +35,7 @@ fn left_of(kind: u8, first: u8, second: u8) -> Left
     Left::Difference(first, second)
 }
 
+// A relation, by its code from 0 to 4.
 fn relation_of(code: u8) -> Relation
     ensures { λ r. ⌜ r ≡ relationOf code ⌝ }
 {
@@ -66,6 +66,7 @@ fn term_at(s: &[u8], at: usize) -> Term
     }
 }
 
+// No byte of the term is without a value.
 fn term_fits(s: &[u8], at: usize) -> bool
     requires { ⌜ at ≤ chartSize ⌝ }
     ensures { λ r. ⌜ r ≡ termFits (now (s .entry)) at ⌝ }
@@ -75,6 +76,7 @@ fn term_fits(s: &[u8], at: usize) -> bool
     (kind <= MOST_KIND) & ((wire::byte_at(s, at + 3) <= MOST_RELATION) & whole)
 }
 
+// What a region waits for, by its kind.
 fn event_at(s: &[u8], at: usize) -> Event
     requires { ⌜ at ≤ chartSize ⌝ }
     ensures { λ r. ⌜ r ≡ eventIn (now (s .entry)) at ⌝ }
@@ -111,6 +113,7 @@ fn region_at(s: &[u8], at: usize) -> Region
     }
 }
 
+// No byte before the region's terms is without a value.
 fn head_fits(s: &[u8], at: usize) -> bool
     requires { ⌜ at ≤ chartSize ⌝ }
     ensures { λ r. ⌜ r ≡ headFits (now (s .entry)) at ⌝ }
@@ -121,6 +124,7 @@ fn head_fits(s: &[u8], at: usize) -> bool
     (kind <= MOST_KIND) & ((wire::byte_at(s, at + 5) <= 1) & (empty & whole))
 }
 
+// No byte of the region is without a value.
 fn region_fits(s: &[u8], at: usize) -> bool
     requires { ⌜ at + 42 ≤ chartSize ⌝ }
     ensures { λ r. ⌜ r ≡ regionFits (now (s .entry)) at ⌝ }
@@ -145,6 +149,7 @@ fn is_image(s: &[u8]) -> bool
     (s.len() == CHART_SIZE) & ok
 }
 
+// The 32 regions.
 fn regions_at(s: &[u8]) -> [Region; MOST_REGIONS]
     ensures { λ r. ⌜ r ≡ regionsIn mostRegions (now (s .entry)) ⌝ }
 {

@@ -5,7 +5,6 @@ use mathlib.Core.List.{List, [], _∷_, _++_}
 use lib.ListN.{getD}
 use Rattle.wire.specs.Bytes.{word32}
 use Rattle.model.specs.declared.Moment.{Moment}
-use Rattle.model.specs.declared.Place.{Place}
 use Rattle.model.specs.declared.Monitor.{Monitor}
 use Rattle.stepping.specs.View.{momentsOf}
 

@@ -4,7 +4,7 @@ use model::Moment;
 use model::Monitor;
 use model::Place;
 ghost use mathlib.Core.Path.{_≡_};
-ghost use mathlib.Core.List.{_∷_, [], _++_};
+ghost use mathlib.Core.List.{_∷_, []};
 ghost use Prim.Native.Nat.{_+_, _≤_, _%_};
 ghost use lib.ListN.{length};
 ghost use Rattle.text.specs.Text.{Wrote};
@@ -13,7 +13,7 @@ ghost use Rattle.image.specs.Image.{wordBytes, wordsBytes, longBytes, wo
 // The bytes of a monitor.
 pub const MONITOR_SIZE: usize = 57;
 
-// What the number of a word's upper half is worth in a long number.
+// The weight of the upper four of eight bytes.
 const LONG_HALF: u64 = 0x1_0000_0000;
 
 // The least significant byte.
@@ -95,6 +95,7 @@ pub fn put_word64(out: &mut [u8], at: usize, x: u64) -> usize
     put_word32(out, second, (x % LONG_HALF) as u32)
 }
 
+// The same number in 64 bits.
 fn wide(x: u32) -> u64
     ensures { λ r. ⌜ (r ≡ x) × (r + 1 ≤ 0x1_0000_0000) ⌝ }
 {
@@ -114,12 +115,14 @@ pub fn word64_at(bytes: &[u8], at: usize) -> u64
     0
 }
 
+// The moment in four bytes.
 fn moment_at(bytes: &[u8], at: usize) -> Moment
     ensures { λ r. ⌜ r ≡ momentIn (now (bytes .entry)) at ⌝ }
 {
     Moment(wire::word32_at(bytes, at))
 }
 
+// The eight reset moments, behind the four bytes of the fired regions.
 fn moments_at(bytes: &[u8]) -> [Moment; CLOCK_PLACES]
     ensures { λ r. ⌜ r ≡ momentsIn (now (bytes .entry)) ⌝ }
 {

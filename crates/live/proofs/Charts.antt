@@ -1,21 +1,25 @@
 -- The chart in live bytes: what the reader gives for its part, zeros where there is none; zeros are no chart. Assumes nothing.
 use mathlib.Core.Path.{_≡_, refl, sym, ap, _∙_}
-use mathlib.Core.Bool.{Bool, true, false, true≢false, cond, _&&_}
-use mathlib.Core.Logic.{_⊎_, inl, inr}
-use mathlib.Core.List.{List, [], _∷_, _++_}
+use mathlib.Core.Bool.{true, false, cond, _&&_}
+use mathlib.Core.Logic.{inl, inr}
+use mathlib.Core.List.{List, _++_}
 use Prim.Native.Nat.{ℕ, zero, suc, _+_, _-_, _≤_, _<_, _^_}
 use native.Mathlib.Omega.{arith}
-use borrow.Author.Tests.{le-leb, lt-leb, eqb-false}
+use borrow.Author.Tests.{le-leb, lt-leb, eqb-true, eqb-false}
 use lib.Dec.{eqb, leb}
 use lib.ListN.{length, take, drop}
 use lib.Seq.{getD-drop, drop-drop, take-at}
-use Rattle.bitset.proofs.Bools.{split}
+use Rattle.bitset.proofs.Bools.{both, split}
 use Rattle.model.specs.declared.Chart.{Chart}
 use Rattle.model.specs.Chart.{zeroChart}
 use Rattle.chart_step.specs.declared.Reading.{Reading}
 use Rattle.chart_step.specs.declared.Outcome.{Outcome}
 use Rattle.chart_step.specs.declared.Outcome.the-variants.{Going, Ended, Refused}
-use Rattle.chart_reader.specs.Read.{Said, readChart, readFrom, continueBy, advanceOf, startReading}
+use Rattle.chart_step.specs.declared.Refusal.{Refusal}
+use Rattle.chart_step.specs.declared.Refusal.the-variants as refusal
+use Rattle.chart_step.specs.Refusal.{refusalNumber}
+use Rattle.chart_value.proofs.Sound.{sound}
+use Rattle.chart_reader.specs.Read.{Said, acceptedAs, refusedFor, readChart, readFrom, continueBy, advanceOf, startReading}
 use Rattle.chart_value.specs.WellFormed.{wellFormed}
 use Rattle.image.specs.Image.{monitorSize, longBytes, word64}
 use Rattle.image.proofs.Laws.{long-told}
@@ -71,31 +75,72 @@ chart-behind l chart rest e h k =
     sym (chart-from l) ∙ ap (chartFrom (length l)) e
     ∙ rw (long-told (length chart) (chart ++ rest) k, le-leb headSize (length l) (omega arith), le-leb (length chart) (length l - headSize) b, take-at chart rest (length chart) refl)
 
--- a refused reading gives a chart of zeros
-refused-from : (n : ℕ) (s : List ℕ) (at : ℕ) (r : Reading) → (readFrom n s at r .number ≡ 0 → ⊥) → readFrom n s at r .chart ≡ zeroChart
-unfolding readFrom
-refused-from zero s at r h = refl
-refused-from (suc n) s at r h = by (advanceOf s at r .outcome) (advanceOf s at r .reading) (λ k q g. refused-from n s k q g) h
-  where
-    by : (o : Outcome) (q : Reading) → ((k : ℕ) (q : Reading) → (readFrom n s k q .number ≡ 0 → ⊥) → readFrom n s k q .chart ≡ zeroChart)
-        → (continueBy (readFrom n s) o q .number ≡ 0 → ⊥) → continueBy (readFrom n s) o q .chart ≡ zeroChart
-    by (Going k) q i g = i k q g
-    by Ended q i g = absurd (g refl)
-    by (Refused f o) q i g = refl
+-- a reading is accepted, or refused with a chart of zeros
+pub data Reads : Said → Type 0 where
+  accepts : (c : Chart) → Reads (acceptedAs c)
+  refuses : (f : Refusal) (offset : ℕ) → Reads (refusedFor f offset)
 
-pub refused-zeros : (s : List ℕ) → (readChart s .number ≡ 0 → ⊥) → readChart s .chart ≡ zeroChart
+reads-from : (n : ℕ) (s : List ℕ) (at : ℕ) (r : Reading) → Reads (readFrom n s at r)
+unfolding readFrom
+reads-from zero s at r = refuses refusal.CutShort (length s)
+reads-from (suc n) s at r = by (advanceOf s at r .outcome) (advanceOf s at r .reading) (λ k q. reads-from n s k q)
+  where
+    by : (o : Outcome) (q : Reading) → ((k : ℕ) (q : Reading) → Reads (readFrom n s k q)) → Reads (continueBy (readFrom n s) o q)
+    by (Going k) q i = i k q
+    by Ended q i = accepts (q .chart)
+    by (Refused f offset) q i = refuses f offset
+
+pub reads : (s : List ℕ) → Reads (readChart s)
 unfolding readChart
-refused-zeros s h = refused-from (length s + 1) s 0 startReading h
+reads s = reads-from (length s + 1) s 0 startReading
+
+-- no refusal has the number 0
+pub not-zero : (f : Refusal) → refusalNumber f ≡ 0 → ⊥
+not-zero refusal.CutShort e = omega arith
+not-zero refusal.UnknownCommand e = omega arith
+not-zero refusal.OutOfPlace e = omega arith
+not-zero refusal.OutOfRange e = omega arith
+not-zero refusal.NoRoom e = omega arith
+not-zero refusal.BareRegion e = omega arith
+not-zero refusal.HotWithoutTerm e = omega arith
+not-zero refusal.HotInPrechart e = omega arith
+not-zero refusal.NoneAbove e = omega arith
+not-zero refusal.NoMainRegion e = omega arith
+not-zero refusal.BytesAfterEnd e = omega arith
+
+refused-zeros : {x : Said} → Reads x → (x .number ≡ 0 → ⊥) → x .chart ≡ zeroChart
+refused-zeros (accepts c) h = absurd (h refl)
+refused-zeros (refuses f offset) h = refl
+
+accepted-as : {x : Said} → Reads x → x .number ≡ 0 → x ≡ acceptedAs (x .chart)
+accepted-as (accepts c) h = refl
+accepted-as (refuses f offset) h = absurd (not-zero f h)
+
+pub accepted-whole : (s : List ℕ) → readChart s .number ≡ 0 → wellFormed (readChart s .chart) ≡ true
+accepted-whole s h = sound s (readChart s .chart) (accepted-as (reads s) h) .fine
 
 pub not-live : (l : List ℕ) → isLive l ≡ false → chartIn l ≡ zeroChart
 unfolding isLive chartIn
 not-live l e = elim (split (isFramed l)) [
   | inl f ↦
       let n : eqb (readChart (chartPart l) .number) 0 ≡ false = rw f at e in
-      rw f (refused-zeros (chartPart l) (eqb-false _ _ n))
+      rw f (refused-zeros (reads (chartPart l)) (eqb-false _ _ n))
   | inr f ↦ rw f
 ]
 
 pub zero-refused : wellFormed zeroChart ≡ false
 unfolding wellFormed
 zero-refused = refl
+
+live-whole : (l : List ℕ) → isLive l ≡ true → wellFormed (chartIn l) ≡ true
+unfolding isLive chartIn
+live-whole l e =
+    let b = both (isFramed l) (eqb (readChart (chartPart l) .number) 0) e in
+    rw (b .0) (accepted-whole (chartPart l) (eqb-true _ _ (b .1)))
+
+-- live bytes are those with a chart
+pub live-exact : (l : List ℕ) → isLive l ≡ wellFormed (chartIn l)
+live-exact l = elim (split (isLive l)) [
+  | inl e ↦ e ∙ sym (live-whole l e)
+  | inr e ↦ e ∙ sym (ap wellFormed (not-live l e) ∙ zero-refused)
+]

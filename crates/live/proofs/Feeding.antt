@@ -1,26 +1,33 @@
 -- Feeding the monitor in live bytes. Assumes nothing.
 use mathlib.Core.Path.{_≡_, refl, sym, ap, subst, _∙_}
 use mathlib.Core.Bool.{Bool, true, false, cond, _||_}
-use mathlib.Core.Logic.{_⊎_, inl, inr}
-use mathlib.Core.List.{List, [], _∷_, _++_}
-use Prim.Native.Nat.{ℕ, _+_, _-_, _≤_, _<_}
+use mathlib.Core.Logic.{_↔_, inl, inr}
+use mathlib.Core.List.{List, _++_}
+use Prim.Native.Nat.{ℕ, _+_, _≤_, _<_}
 use native.Mathlib.Omega.{arith}
 use borrow.Author.Tests.{not-true, eqb-false, lt-ltb, le-ltb}
+use lib.Dec.{eqb, ltb, leb}
 use lib.ListN.{length, drop, length-append, length-drop}
 use lib.Seq.{drop-at}
-use Rattle.bitset.proofs.Bools.{either}
+use Rattle.bitset.proofs.Bools.{either, split}
 use Rattle.model.specs.declared.Chart.{Chart}
 use Rattle.model.specs.declared.Monitor.{Monitor}
 use Rattle.model.specs.declared.Record.{Record}
 use Rattle.model.specs.Chart.{zeroChart}
-use Rattle.rounds.specs.Feeds.{refused}
+use Rattle.rounds.specs.Chart.{Chart as Abstract}
+use Rattle.rounds.specs.Rows.{LogRecord}
+use Rattle.rounds.specs.Feeds.{mostRecords, refused, toldBroken}
+use Rattle.rounds.specs.Machine.{Monitor as AbstractMonitor, Step as AbstractStep, feed}
+use Rattle.stepping.proofs.Back.{Taken, accept-taken}
+use Rattle.chart_value.specs.View.{chartOf}
+use Rattle.monitor.specs.Fit.{fits}
 use Rattle.stepping.specs.declared.Answer.{Answer}
 use Rattle.stepping.specs.declared.Answer.the-variants.{Refused, Broken, Kept, Dropped, Entered, Moved, Quiet}
 use Rattle.stepping.specs.declared.FeedRefusal.the-variants.{NotAChart}
 use Rattle.stepping.specs.declared.Step.{Step}
 use Rattle.stepping.specs.Answers.{feedRefusalNumber, answerNumber, answerOf, isRefused, HandsBack}
-use Rattle.stepping.specs.View.{stepOf}
-use Rattle.monitor.specs.Feed.{madeNumber, MadeOf, feedOf, refuse}
+use Rattle.stepping.specs.View.{monitorAt, stepOf}
+use Rattle.monitor.specs.Feed.{madeNumber, MadeOf, logRecord, feedOf, refuse}
 use Rattle.monitor.specs.declared.Made.{Made}
 use Rattle.chart_value.specs.WellFormed.{wellFormed}
 use Rattle.chart_image.specs.ChartImage.{chartValue}
@@ -29,7 +36,7 @@ use Rattle.image.specs.Image.{monitorSize, monitorBytes, monitorIn}
 use Rattle.image.proofs.Laws.{at-start, monitor-length}
 use Rattle.live.specs.Live.{chartIn, isBroken, bytesFed, tooShort, FedBy, Fed}
 use Rattle.live.specs.Images.{newNumber, newBytes, FedImage}
-use Rattle.live.proofs.Charts.{same-chart, not-live, zero-refused}
+use Rattle.live.proofs.Charts.{same-chart, live-exact, zero-refused}
 
 -- an answer that is told as 20
 told-20 : (a : Answer) → answerOf a ≡ refused (feedRefusalNumber NotAChart) → answerNumber a ≡ feedRefusalNumber NotAChart
@@ -46,10 +53,53 @@ zeros-fed : (m : Monitor) (e : Record) → feedOf zeroChart m e ≡ refuse NotAC
 unfolding feedOf
 zeros-fed m e = rw zero-refused
 
-no-chart : (c : Chart) (m : Monitor) (e : Record) (s : Step) → c ≡ zeroChart → stepOf s ≡ feedOf c m e → answerNumber (s .answer) ≡ feedRefusalNumber NotAChart
-no-chart c m e s z f =
-    let r : stepOf s ≡ refuse NotAChart m = f ∙ ap (λ (c : Chart). feedOf c m e) z ∙ zeros-fed m e in
-    told-20 (s .answer) (λ i. r i .answer)
+-- with a chart it is another: feeding refuses with 21, 22, 23 or not at all
+told-as : (a : Answer) → answerNumber a ≡ feedRefusalNumber NotAChart → answerOf a ≡ refused (feedRefusalNumber NotAChart)
+told-as (Refused k) e = ap refused e
+told-as (Broken n k) e = absurd (omega arith)
+told-as Kept e = absurd (omega arith)
+told-as Dropped e = absurd (omega arith)
+told-as Entered e = absurd (omega arith)
+told-as Moved e = absurd (omega arith)
+told-as Quiet e = absurd (omega arith)
+
+same-number : {a b : ℕ} → refused a ≡ refused b → a ≡ b
+same-number e = cc
+
+broken-clashes : {a b n : ℕ} → toldBroken a b ≡ refused n → ⊥
+broken-clashes e = let z : _≡_ {A = ℕ} 0 1 = cc in omega arith
+
+machine-never : (C : Abstract) (m : AbstractMonitor) (e : LogRecord) → feed C m e .answer ≡ refused (feedRefusalNumber NotAChart) → ⊥
+unfolding feed Taken
+machine-never C m e h = elim (split (eqb (m .break) 0)) [
+  | inl p ↦ elim (split (ltb (e .time) (m .now))) [
+    | inl q ↦ let z = same-number (rw (p, q) at h) in omega arith
+    | inr q ↦ elim (split (leb mostRecords (m .records))) [
+      | inl r ↦ let z = same-number (rw (p, q, r) at h) in omega arith
+      | inr r ↦ subst Taken (rw (p, q, r) at h) (accept-taken C m e)
+    ]
+  ]
+  | inr p ↦ broken-clashes (rw p at h)
+]
+
+whole-never : (c : Chart) (m : Monitor) (e : Record) → wellFormed c ≡ true → feedOf c m e .answer ≡ refused (feedRefusalNumber NotAChart) → ⊥
+unfolding feedOf
+whole-never c m e w h = elim (split (fits (chartOf c) m)) [
+  | inl f ↦ machine-never (chartOf c) (monitorAt m) (logRecord e) (rw (w, f) at h)
+  | inr f ↦ let z = same-number (rw (w, f) at h) in omega arith
+]
+
+-- 20 exactly for a value that is no chart
+pub exactly-20 : (c : Chart) (m : Monitor) (e : Record) (s : Step) → stepOf s ≡ feedOf c m e
+    → (wellFormed c ≡ false) ↔ (answerNumber (s .answer) ≡ feedRefusalNumber NotAChart)
+unfolding feedOf
+exactly-20 c m e s f = (
+  λ w. let r : feedOf c m e ≡ refuse NotAChart m = rw w in told-20 (s .answer) (λ i. (f ∙ r) i .answer),
+  λ n. elim (split (wellFormed c)) [
+    | inl w ↦ absurd (whole-never c m e w (sym (ap (λ (x : AbstractStep). x .answer) f) ∙ told-as (s .answer) n))
+    | inr w ↦ w
+  ],
+)
 
 -- a monitor's image written at the start
 monitor-at-start : {l n : List ℕ} {j : ℕ} (m : Monitor) → Wrote l 0 (monitorBytes m) n j → monitorSize ≤ length l → n ≡ monitorBytes m ++ drop monitorSize l
@@ -100,7 +150,7 @@ fed-none l e z = record {
     next = refl;
   };
   chart = refl;
-  none = λ n. refl;
+  none = ((λ n. refl), (λ n. live-exact l ∙ ap wellFormed z ∙ zero-refused));
 }
 
 -- the chart behind the monitor's image is not written
@@ -117,8 +167,14 @@ unfolding bytesFed
 fed-live {l} {n} {e} {r} c p h F = record {
   by-chart = subst (λ (c : Chart). FedBy c l e r n) p F;
   chart = ap chartIn (F .bytes) ∙ chart-stays l (F .taken) (isRefused (F .taken .answer) || isBroken (monitorIn l)) h;
-  none = λ x. F .told ∙ no-chart c (monitorIn l) e (F .taken) (p ∙ not-live l x) (F .fed);
+  none = (
+    λ x. F .told ∙ exact .0 (ap wellFormed p ∙ sym (live-exact l) ∙ x),
+    λ n. live-exact l ∙ ap wellFormed (sym p) ∙ exact .1 (sym (F .told) ∙ n),
+  );
 }
+  where
+    exact : (wellFormed c ≡ false) ↔ (answerNumber (F .taken .answer) ≡ feedRefusalNumber NotAChart)
+    exact = exactly-20 c (monitorIn l) e (F .taken) (F .fed)
 
 -- the same by images
 pub image-short : (image : List ℕ) {l : List ℕ} (e : Record) → length l < monitorSize → FedImage image l e tooShort l
@@ -130,7 +186,7 @@ unfolding chartValue
 image-fed {image} {l} {n} {e} {r} c p h F = record {
   short = λ g. absurd (omega arith);
   by-chart = λ g. subst (λ (c : Chart). FedBy c l e r n) p F;
-  none = λ g x. F .told ∙ no-chart c (monitorIn l) e (F .taken) (p ∙ rw x) (F .fed);
+  none = λ g x. F .told ∙ exactly-20 c (monitorIn l) e (F .taken) (F .fed) .0 (ap wellFormed (p ∙ rw x) ∙ zero-refused);
 }
 
 pub new-short : (image l : List ℕ) → length l < monitorSize → (tooShort ≡ newNumber image l) × (l ≡ newBytes l)

@@ -1,4 +1,5 @@
 pub mod Charts
 pub mod Feeding
 pub mod Opening
+pub mod Runs
 pub mod Standings

@@ -1,18 +1,15 @@
 -- Opening a live monitor: the chart's refusal, too few places, or the bytes of a fresh one. Assumes nothing.
-use mathlib.Core.Path.{_≡_, refl, sym, ap, subst, _∙_}
+use mathlib.Core.Path.{_≡_, refl, sym, ap, _∙_}
 use mathlib.Core.Bool.{Bool, true, false, cond}
-use mathlib.Core.List.{List, [], _∷_, _++_, append-assoc}
+use mathlib.Core.List.{List, _++_, append-assoc}
 use Prim.Native.Nat.{ℕ, _+_, _-_, _≤_, _<_, _^_}
 use native.Mathlib.Omega.{arith}
-use borrow.Author.Tests.{lt-ltb, le-ltb, eqb-false}
+use borrow.Author.Tests.{lt-ltb, le-ltb, ne-eqb, eqb-false}
 use lib.Dec.{eqb}
 use lib.ListN.{length, drop, length-append}
-use lib.Seq.{drop-at}
-use Rattle.model.specs.declared.Chart.{Chart}
 use Rattle.model.specs.declared.Monitor.{Monitor}
 use Rattle.model.specs.Monitor.{zeroMonitor}
 use Rattle.chart_step.specs.declared.Refusal.{Refusal}
-use Rattle.chart_step.specs.declared.Refusal.the-variants as refusal
 use Rattle.chart_step.specs.Refusal.{refusalNumber}
 use Rattle.chart_reader.specs.declared.ChartAnswer.{ChartAnswer}
 use Rattle.chart_reader.specs.declared.ChartAnswer.the-variants.{Accepted, Refused}
@@ -23,8 +20,8 @@ use Rattle.text.proofs.Laws.{then, spelled}
 use Rattle.image.specs.Image.{monitorSize, monitorBytes, monitorIn, longBytes}
 use Rattle.image.proofs.Laws.{at-start, monitor-length}
 use Rattle.live.specs.declared.Opened.{Opened}
-use Rattle.live.specs.Live.{headSize, largest, chartIn, liveSize, freshBytes, tooShort, openedBy, openedOf, bytesOpened, Holds}
-use Rattle.live.proofs.Charts.{chart-behind}
+use Rattle.live.specs.Live.{headSize, largest, liveSize, freshBytes, tooShort, openedBy, openedOf, bytesOpened, Holds}
+use Rattle.live.proofs.Charts.{chart-behind, not-zero}
 
 pub size-sum : (n : ℕ) → n ≤ largest - headSize → liveSize n ≡ headSize + n
 unfolding liveSize
@@ -44,19 +41,6 @@ unfolding freshBytes
 fresh-length chart =
     length-append (monitorBytes zeroMonitor) (longBytes (length chart) ++ chart)
     ∙ omega (arith, monitor-length zeroMonitor, length-append (longBytes (length chart)) chart)
-
-not-zero : (f : Refusal) → eqb (refusalNumber f) 0 ≡ false
-not-zero refusal.CutShort = refl
-not-zero refusal.UnknownCommand = refl
-not-zero refusal.OutOfPlace = refl
-not-zero refusal.OutOfRange = refl
-not-zero refusal.NoRoom = refl
-not-zero refusal.BareRegion = refl
-not-zero refusal.HotWithoutTerm = refl
-not-zero refusal.HotInPrechart = refl
-not-zero refusal.NoneAbove = refl
-not-zero refusal.NoMainRegion = refl
-not-zero refusal.BytesAfterEnd = refl
 
 -- what the reader says, by its answer
 as-answered : (chart : List ℕ) (r : ChartRead) (a : ChartAnswer) → said r ≡ readChart chart → r .answer ≡ a
@@ -83,9 +67,9 @@ module _ (chart l : List ℕ) (r : ChartRead) (e : said r ≡ readChart chart) w
       → (record { number = n; at = o } ≡ openedOf chart (length l)) × ((l ≡ bytesOpened chart l) × ((n ≡ 0 → Holds chart l) × (chart ≡ chart)))
   unfolding openedOf
   opened-refused f o n a p =
-      let z : eqb n 0 ≡ false = ap (λ (k : ℕ). eqb k 0) p ∙ not-zero f in
+      let z : eqb n 0 ≡ false = ap (λ (k : ℕ). eqb k 0) p ∙ ne-eqb _ _ (not-zero f) in
       let s : record { number = refusalNumber f; at = o } ≡ openedOf chart (length l) =
-      rw (ap (λ (x : Said). openedBy x (liveSize (length chart)) (length l)) (as-answered chart r (Refused f o) e a)) (rw (not-zero f)) in
+      rw (ap (λ (x : Said). openedBy x (liveSize (length chart)) (length l)) (as-answered chart r (Refused f o) e a)) (rw (ne-eqb _ _ (not-zero f))) in
       let t : record { number = n; at = o } ≡ openedOf chart (length l) = (λ i. record { number = p i; at = o }) ∙ s in
       (t, (bytes-by chart l (record { number = n; at = o }) false (sym t) z, ((λ g. absurd (eqb-false n 0 z g)), refl)))
 

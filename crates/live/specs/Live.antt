@@ -1,6 +1,7 @@
 -- A live monitor as bytes: the monitor's image, the chart's length in eight bytes, the chart's bytes; and what is done with it.
 use Prim.Native.Nat.{ℕ, _+_, _-_}
 use mathlib.Core.Path.{_≡_}
+use mathlib.Core.Logic.{_↔_}
 use mathlib.Core.Bool.{Bool, false, cond, not, _&&_, _||_}
 use mathlib.Core.List.{List, _++_}
 use lib.Dec.{eqb, leb, ltb}
@@ -99,11 +100,11 @@ pub record FedBy (c : Chart) (l : List ℕ) (e : Record) (number : ℕ) (n : Lis
   -- the bytes then hold the monitor that was handed back
   pub next : monitorIn n ≡ taken .next
 
--- One record fed to live bytes: for their chart, which they still hold; 20 where they hold no live monitor.
+-- One record fed to live bytes: for their chart, which they still hold; 20 exactly where they hold no live monitor.
 pub record Fed (l : List ℕ) (e : Record) (number : ℕ) (n : List ℕ) : Type 0 where
   pub by-chart : FedBy (chartIn l) l e number n
   pub chart : chartIn n ≡ chartIn l
-  pub none : isLive l ≡ false → number ≡ feedRefusalNumber NotAChart
+  pub none : (isLive l ≡ false) ↔ (number ≡ feedRefusalNumber NotAChart)
 
 -- The standing of a monitor for a chart: 20, 21, or 0 and the verdict.
 abbrev pub standingBy : Chart → Monitor → LiveVerdict

@@ -15,12 +15,14 @@ ghost use Rattle.stepping.specs.Answers.{feedRefusalNumber, isRefused};
 ghost use Rattle.judge.specs.Judge.{zeroVerdict};
 ghost use Rattle.monitor.specs.Feed.{madeNumber};
 ghost use Rattle.image.specs.Image.{monitorSize};
-ghost use Rattle.live.specs.Live.{headSize, chartIn, isLive, liveSize, freshBytes, openedOf, bytesOpened, Holds, FedBy, Fed, standingBy, standingIn};
+ghost use Rattle.live.specs.Live.{headSize, chartIn, liveSize, freshBytes, openedOf, bytesOpened, Holds, FedBy, Fed, standingBy, standingIn};
 ghost use Rattle.live.specs.Images.{FedImage, newNumber, newBytes};
+ghost use Rattle.live.specs.Runs.{LiveClaims};
 
 // The monitor's image and the chart's length.
 const HEAD_SIZE: usize = 65;
 
+// The largest usize.
 const LARGEST: usize = 0xffff_ffff_ffff_ffff;
 
 // The number of the answer that a buffer has too few places.
@@ -104,6 +106,7 @@ fn chart_in(live: &[u8]) -> Chart
     read.chart
 }
 
+// Whether the answer is a refusal.
 fn is_refused(a: Answer) -> bool
     ensures { λ r. ⌜ r ≡ isRefused a ⌝ }
 {
@@ -155,6 +158,7 @@ pub fn feed_image(chart: &[u8], bytes: &mut [u8], e: Record) -> u8
     feed_chart(chart_image::chart_at(chart), bytes, e)
 }
 
+// The number of the answer to making a monitor.
 fn made_number(a: MadeAnswer) -> u8
     ensures { λ r. ⌜ r ≡ madeNumber a ⌝ }
 {
@@ -180,6 +184,7 @@ pub fn new_image(chart: &[u8], bytes: &mut [u8]) -> u8
     made_number(answer)
 }
 
+// A refusal with zeros for the verdict.
 fn refused(k: FeedRefusal) -> LiveVerdict
     ensures { λ r. ⌜ r ≡ record { number = feedRefusalNumber k; verdict = zeroVerdict } ⌝ }
 {
@@ -220,3 +225,8 @@ pub fn standing(live: &[u8]) -> LiveVerdict
 {
     standing_of(chart_in(live), image::monitor_at(live))
 }
+
+// What feeding live bytes comes to.
+pub fn live_runs()
+    ensures { λ r. ⌜ LiveClaims ⌝ }
+{}

@@ -1,15 +1,28 @@
 -- What is returned and written, by the tests in their order. Assumes nothing.
 use mathlib.Core.Path.{_≡_, refl, sym, ap, _∙_}
+use mathlib.Core.Bool.{true}
 use mathlib.Core.List.{List, [], _∷_, _++_}
 use Prim.Native.Nat.{ℕ, _≤_, _<_}
 use borrow.Author.Tests.{lt-ltb, le-ltb, eq-eqb, ne-eqb}
 use lib.ListN.{length, drop}
+use Rattle.model.specs.declared.Chart.{Chart}
+use Rattle.chart_step.specs.declared.Refusal.the-variants as refusal
+use Rattle.chart_reader.specs.Read.{Said}
+use Rattle.chart_value.specs.WellFormed.{wellFormed}
+use Rattle.log_reader.specs.declared.RecordRefusal.the-variants.{CutShort, UnknownByte}
+use Rattle.judge.specs.declared.LogRefusal.the-variants.{NoRecord, TimeFalls, TooManyRecords}
+use Rattle.judge.specs.declared.Checked.{Checked}
+use Rattle.judge.specs.declared.Checked.the-variants as checked
+use Rattle.judge.specs.Check.{checkLog}
+use Rattle.judge.specs.Judge.{byCheck, judgeOf}
+use Rattle.respond.specs.Respond.{logReport, chartReport, partsReport}
+use Rattle.live.proofs.Charts.{Reads, accepts, refuses, reads, accepted-whole}
 use Rattle.listing.specs.declared.Part.{Part}
 use Rattle.listing.specs.declared.Report.{Report}
 use Rattle.listing.specs.declared.Report.the-variants.{Refused}
 use Rattle.live.specs.declared.LiveVerdict.{LiveVerdict}
 use Rattle.live.specs.Live.{tooShort}
-use Rattle.lsc.specs.Lsc.{places, verdictNumbers, partNumber, reportNumbers, reportNumber, judgedNumber, judgedOut, standingNumber, standingOut}
+use Rattle.lsc.specs.Lsc.{places, verdictNumbers, partNumber, reportNumbers, reportNumber, judgedNumber, judgedOut, isJudgedNumber, standingNumber, standingOut}
 
 -- six numbers that are those of a refusal
 pub put-refusal : (r : Report) (out : List ℕ) {m : List ℕ} (part : Part) (number offset p : ℕ) → r ≡ Refused part number offset → p ≡ partNumber part
@@ -29,6 +42,33 @@ pub judged-room : (q r : Report) (out m : List ℕ) (n : ℕ) → places ≤ len
 judged-room q r out m n h p a b =
     let e = le-ltb (length out) places h in
     (rw e (a ∙ ap reportNumber p), rw e (b ∙ ap (λ (x : Report). reportNumbers x ++ drop places out) p))
+
+-- a chart that was read is never refused with 20
+log-listed : (c : Chart) (log : List ℕ) (k : Checked) → isJudgedNumber (reportNumber (logReport (byCheck c log k))) ≡ true
+log-listed c log (checked.Fine n) = refl
+log-listed c log (checked.Refused (NoRecord CutShort) offset) = refl
+log-listed c log (checked.Refused (NoRecord UnknownByte) offset) = refl
+log-listed c log (checked.Refused TimeFalls offset) = refl
+log-listed c log (checked.Refused TooManyRecords offset) = refl
+
+chart-listed : (log : List ℕ) {x : Said} → Reads x → (x .number ≡ 0 → wellFormed (x .chart) ≡ true) → isJudgedNumber (reportNumber (chartReport x log)) ≡ true
+unfolding judgeOf
+chart-listed log (accepts c) w = rw (w refl) (log-listed c log (checkLog log))
+chart-listed log (refuses refusal.CutShort offset) w = refl
+chart-listed log (refuses refusal.UnknownCommand offset) w = refl
+chart-listed log (refuses refusal.OutOfPlace offset) w = refl
+chart-listed log (refuses refusal.OutOfRange offset) w = refl
+chart-listed log (refuses refusal.NoRoom offset) w = refl
+chart-listed log (refuses refusal.BareRegion offset) w = refl
+chart-listed log (refuses refusal.HotWithoutTerm offset) w = refl
+chart-listed log (refuses refusal.HotInPrechart offset) w = refl
+chart-listed log (refuses refusal.NoneAbove offset) w = refl
+chart-listed log (refuses refusal.NoMainRegion offset) w = refl
+chart-listed log (refuses refusal.BytesAfterEnd offset) w = refl
+
+pub parts-listed : (chart log : List ℕ) → isJudgedNumber (reportNumber (partsReport chart log)) ≡ true
+unfolding partsReport
+parts-listed chart log = chart-listed log (reads chart) (accepted-whole chart)
 
 module _ (s t : LiveVerdict) (out : List ℕ) (p : s ≡ t) where
   along : (n : ℕ) (m : List ℕ) → n ≡ standingNumber s out → m ≡ standingOut s out → (n ≡ standingNumber t out) × (m ≡ standingOut t out)

@@ -1,8 +1,8 @@
 -- What the library's functions return and write, in the numbers of document 01.
 use Prim.Native.Nat.{ℕ}
-use mathlib.Core.Bool.{cond}
+use mathlib.Core.Bool.{Bool, cond, _||_}
 use mathlib.Core.List.{List, [], _∷_, _++_}
-use lib.Dec.{eqb, ltb}
+use lib.Dec.{eqb, leb, ltb}
 use lib.ListN.{length, drop}
 use Rattle.judge.specs.declared.Verdict.{Verdict}
 use Rattle.listing.specs.declared.Part.{Part}
@@ -44,6 +44,10 @@ judgedNumber report out = cond (ltb (length out) places) tooShort (reportNumber 
 
 abbrev pub judgedOut : Report → List ℕ → List ℕ
 judgedOut report out = cond (ltb (length out) places) out (reportNumbers report ++ drop places out)
+
+-- the numbers that judging returns: 0, a chart's refusal from 1 to 11, 12, or a log's, 22, 23, 30 or 31
+abbrev pub isJudgedNumber : ℕ → Bool
+isJudgedNumber n = leb n tooShort || (eqb n 22 || (eqb n 23 || (eqb n 30 || eqb n 31)))
 
 -- 20 and 21 before 12; only on 0 is out written
 abbrev pub standingNumber : LiveVerdict → List ℕ → ℕ

@@ -8,6 +8,7 @@ use model::Moment;
 use model::Record;
 use respond::Response;
 ghost use mathlib.Core.Path.{_≡_};
+ghost use mathlib.Core.Bool.{true};
 ghost use mathlib.Core.List.{[], _∷_, _++_};
 ghost use Prim.Native.Nat.{_≤_};
 ghost use lib.ListN.{length, drop};
@@ -15,7 +16,7 @@ ghost use Rattle.model.specs.declared.Record.the-variants.{Message as MessageAt
 ghost use Rattle.respond.specs.Respond.{partsReport, textOf, responseOf, bufferAfter, countOf};
 ghost use Rattle.live.specs.Live.{liveSize, openedOf, bytesOpened, Holds, Fed, standingIn};
 ghost use Rattle.live.specs.Images.{newNumber, newBytes, FedImage};
-ghost use Rattle.lsc.specs.Lsc.{places, verdictNumbers, partNumber, reportNumbers, reportNumber, judgedNumber, judgedOut, standingNumber, standingOut, printedNumber};
+ghost use Rattle.lsc.specs.Lsc.{places, verdictNumbers, partNumber, reportNumbers, reportNumber, judgedNumber, judgedOut, isJudgedNumber, standingNumber, standingOut, printedNumber};
 
 // The places that a verdict or a refusal takes.
 const PLACES: usize = 6;
@@ -49,6 +50,7 @@ fn put_verdict(out: &mut [u64], v: Verdict)
     );
 }
 
+// The number of the part that a refusal speaks of.
 fn part_number(part: Part) -> u64
     ensures { λ r. ⌜ r ≡ partNumber part ⌝ }
 {
@@ -89,6 +91,7 @@ fn put_report(out: &mut [u64], report: Report) -> u8
 #[no_mangle]
 pub extern "C" fn lsc_judge(chart: &[u8], log: &[u8], out: &mut [u64]) -> u8
     ensures number { λ r. ⌜ r ≡ judgedNumber (partsReport (now (chart .entry)) (now (log .entry))) (now (out .entry)) ⌝ }
+    ensures listed { λ r. ⌜ isJudgedNumber r ≡ true ⌝ }
     ensures numbers { λ r. ⌜ now (out .exit) ≡ judgedOut (partsReport (now (chart .entry)) (now (log .entry))) (now (out .entry)) ⌝ }
     ensures unchanged { λ r. ⌜ (now (chart .exit) ≡ now (chart .entry)) × (now (log .exit) ≡ now (log .entry)) ⌝ }
 {

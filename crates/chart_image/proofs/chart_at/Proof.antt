@@ -1,3 +1,4 @@
+-- `chart_image::chart_at` meets its contract: zeros, or each field as it is read. Assumes nothing.
 use Rattle.chart_image.specs.ChartImage.{chartValue}
 use borrow.Author.Tests.{not-true, not-false}
 use mathlib.Core.Path.{refl, sym, _∙_}

@@ -1,3 +1,4 @@
+-- `chart_image::event_at` meets its contract: the test on the kind, then each field as it is read. Assumes nothing.
 use borrow.Author.Tests.{ne-eqb}
 use borrow.Author.Needs.{needs}
 use Rattle.chart_image.proofs.event_at.Statement.{statement}

@@ -1,3 +1,4 @@
+-- `chart_image::head_fits` meets its contract: each test on the bytes that were read. Assumes nothing.
 use borrow.Author.Needs.{needs}
 use Rattle.chart_image.proofs.head_fits.Statement.{statement}
 use Rattle.chart_image.proofs.head_fits.Tie as tie

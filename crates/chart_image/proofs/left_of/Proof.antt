@@ -1,3 +1,4 @@
+-- `chart_image::left_of` meets its contract: the test on the kind. Assumes nothing.
 use borrow.Author.Tests.{ne-eqb}
 use Rattle.chart_image.proofs.left_of.Statement.{statement}
 use Rattle.chart_image.proofs.left_of.Tie as tie

@@ -1,3 +1,4 @@
+-- `chart_image::region_at` meets its contract: each field as it is read. Assumes nothing.
 use borrow.Author.Needs.{needs}
 use Rattle.chart_image.proofs.region_at.Statement.{statement}
 use Rattle.chart_image.proofs.region_at.Tie as tie

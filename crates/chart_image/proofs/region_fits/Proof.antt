@@ -1,3 +1,4 @@
+-- `chart_image::region_fits` meets its contract: the tests of the head and of the four terms. Assumes nothing.
 use borrow.Author.Needs.{needs}
 use Rattle.chart_image.proofs.region_fits.Statement.{statement}
 use Rattle.chart_image.proofs.region_fits.Tie as tie

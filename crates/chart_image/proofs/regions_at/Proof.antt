@@ -1,3 +1,4 @@
+-- `chart_image::regions_at` meets its contract: the array is filled from the front. Assumes nothing.
 use Prim.Native.Nat.{_≤_, _-_}
 use mathlib.Core.Path.{_≡_, refl}
 use native.Mathlib.Omega.{arith}

@@ -1,3 +1,4 @@
+-- `chart_image::relation_of` meets its contract: one code after the other. Assumes nothing.
 use borrow.Author.Tests.{ne-eqb}
 use Rattle.chart_image.proofs.relation_of.Statement.{statement}
 use Rattle.chart_image.proofs.relation_of.Tie as tie

@@ -1,3 +1,4 @@
+-- `chart_image::term_at` meets its contract: each field as it is read. Assumes nothing.
 use borrow.Author.Needs.{needs}
 use Rattle.chart_image.proofs.term_at.Statement.{statement}
 use Rattle.chart_image.proofs.term_at.Tie as tie

@@ -1,3 +1,4 @@
+-- `chart_image::term_fits` meets its contract: each test on the byte that was read. Assumes nothing.
 use borrow.Author.Needs.{needs}
 use Rattle.chart_image.proofs.term_fits.Statement.{statement}
 use Rattle.chart_image.proofs.term_fits.Tie as tie

@@ -1,3 +1,4 @@
+-- `image::moment_at` meets its contract: one word. Assumes nothing.
 use borrow.Author.Needs.{needs}
 use Rattle.image.proofs.moment_at.Statement.{statement}
 use Rattle.image.proofs.moment_at.Tie as tie

@@ -1,3 +1,4 @@
+-- `image::moments_at` meets its contract: each moment as it is read. Assumes nothing.
 use borrow.Author.Needs.{needs}
 use Rattle.image.proofs.moments_at.Statement.{statement}
 use Rattle.image.proofs.moments_at.Tie as tie

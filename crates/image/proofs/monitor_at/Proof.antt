@@ -1,3 +1,4 @@
+-- `image::monitor_at` meets its contract: each field as it is read. Assumes nothing.
 use Rattle.image.specs.Image.{monitorIn}
 use mathlib.Core.Path.{refl}
 use borrow.Author.Needs.{needs}

@@ -1,3 +1,4 @@
+-- `image::put_counts` meets its contract: five words and a byte. Assumes nothing.
 use Rattle.text.proofs.Laws.{then}
 use borrow.Author.Needs.{needs}
 use Rattle.image.proofs.put_counts.Statement.{statement}

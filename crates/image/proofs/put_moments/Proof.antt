@@ -1,3 +1,4 @@
+-- `image::put_moments` meets its contract: twice four words. Assumes nothing.
 use Rattle.text.proofs.Laws.{then}
 use borrow.Author.Needs.{needs}
 use Rattle.image.proofs.put_moments.Statement.{statement}

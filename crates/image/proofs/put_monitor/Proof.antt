@@ -1,3 +1,4 @@
+-- `image::put_monitor` meets its contract: its three parts one behind the other, and the image is read as the monitor. Assumes nothing.
 use Rattle.image.proofs.Owned.{owned}
 use Rattle.image.proofs.Laws.{monitor-back}
 use Rattle.text.specs.Text.{Wrote}

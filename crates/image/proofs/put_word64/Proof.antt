@@ -1,3 +1,4 @@
+-- `image::put_word64` meets its contract: two words. Assumes nothing.
 use Rattle.text.proofs.Laws.{then}
 use borrow.Author.Needs.{needs}
 use Rattle.image.proofs.put_word64.Statement.{statement}

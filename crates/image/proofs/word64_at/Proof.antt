@@ -1,3 +1,4 @@
+-- `image::word64_at` meets its contract: two words, or 0 past the end. Assumes nothing.
 use mathlib.Core.Path.{refl, sym}
 use Rattle.image.proofs.Laws.{past64}
 use borrow.Author.Needs.{needs}

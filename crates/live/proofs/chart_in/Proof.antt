@@ -1,3 +1,4 @@
+-- `live::chart_in` meets its contract: the tests in their order, then what the reader gives. Assumes nothing.
 use Rattle.chart_reader.specs.Read.{Said}
 use native.Mathlib.Omega.{arith}
 use Rattle.live.proofs.Charts.{too-few, beyond, framed}

@@ -1,3 +1,4 @@
+-- `live::feed` meets its contract: no room for a chart, or one record fed for the chart in the bytes. Assumes nothing.
 use native.Mathlib.Omega.{arith}
 use Rattle.live.proofs.Feeding.{fed-none, fed-live}
 use Rattle.live.proofs.Charts.{too-few}

@@ -1,3 +1,4 @@
+-- `live::feed_chart` meets its contract: the bytes stay, or the monitor handed back is written. Assumes nothing.
 use mathlib.Core.Bool.{Bool, _||_}
 use mathlib.Core.Path.{sym, ap, _∙_}
 use Rattle.live.specs.Live.{isBroken}

@@ -1,3 +1,4 @@
+-- `live::feed_image` meets its contract: too few bytes, or one record fed for the chart in the image. Assumes nothing.
 use Rattle.live.proofs.Feeding.{image-short, image-fed}
 use mathlib.Core.Path.{refl}
 use borrow.Author.Needs.{needs}

@@ -1,3 +1,4 @@
+-- `live::new_image` meets its contract: too few bytes, or a monitor of zeros. Assumes nothing.
 use Rattle.live.proofs.Feeding.{new-short, new-made}
 use mathlib.Core.Path.{refl}
 use borrow.Author.Needs.{needs}

@@ -1,8 +1,9 @@
+-- `live::open` meets its contract: the tests in their order, then the bytes of a fresh live monitor. Assumes nothing.
 use Rattle.live.specs.Live.{headSize, largest}
 use lib.ListN.{length}
 use native.Mathlib.Omega.{arith}
-use Prim.Native.Nat.{ℕ, _-_, _≤_}
-use mathlib.Core.Path.{_≡_, refl}
+use Prim.Native.Nat.{_-_, _≤_}
+use mathlib.Core.Path.{refl}
 use Rattle.live.proofs.Opening.{size-sum, opened-refused, opened-short, opened-fresh}
 use borrow.Author.Needs.{needs}
 use Rattle.live.proofs.open.Statement.{statement}

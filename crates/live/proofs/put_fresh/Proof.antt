@@ -1,3 +1,4 @@
+-- `live::put_fresh` meets its contract: the three parts one behind the other. Assumes nothing.
 use Rattle.live.proofs.Opening.{fresh-parts}
 use Rattle.image.proofs.Laws.{monitor-length}
 use native.Mathlib.Omega.{arith}

@@ -1,3 +1,4 @@
+-- `live::refused` meets its contract: the number of the refusal. Assumes nothing.
 use borrow.Author.Needs.{needs}
 use Rattle.live.proofs.refused.Statement.{statement}
 use Rattle.live.proofs.refused.Tie as tie

@@ -1,3 +1,4 @@
+-- `live::size` meets its contract: the test on the sum. Assumes nothing.
 use Rattle.live.proofs.Opening.{size-sum}
 use mathlib.Core.Path.{sym}
 use Rattle.live.specs.Live.{liveSize}

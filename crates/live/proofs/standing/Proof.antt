@@ -1,3 +1,4 @@
+-- `live::standing` meets its contract: the chart and the monitor in the bytes. Assumes nothing.
 use Rattle.live.specs.Live.{standingBy, standingIn}
 use mathlib.Core.Path.{refl, _∙_}
 use borrow.Author.Needs.{needs}

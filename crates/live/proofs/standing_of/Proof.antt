@@ -1,3 +1,4 @@
+-- `live::standing_of` meets its contract: the tests in their order, then the verdict. Assumes nothing.
 use Rattle.live.proofs.Standings.{stands-no-chart, stands-unfit, stands-fit}
 use Rattle.judge.proofs.Judging.{half-fits}
 use borrow.Author.Tests.{not-true, not-false}

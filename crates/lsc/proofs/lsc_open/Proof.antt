@@ -1,3 +1,4 @@
+-- `lsc::lsc_open` meets its contract: what opening gives, part by part. Assumes nothing.
 use Rattle.live.specs.declared.Opened.{Opened}
 use mathlib.Core.Path.{refl, ap}
 use borrow.Author.Needs.{needs}

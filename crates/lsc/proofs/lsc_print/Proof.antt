@@ -1,3 +1,4 @@
+-- `lsc::lsc_print` meets its contract: by the response's two cases. Assumes nothing.
 use Rattle.lsc.specs.Lsc.{printedNumber}
 use Rattle.respond.specs.Respond.{countOf}
 use mathlib.Core.Path.{refl, sym, ap, _∙_}

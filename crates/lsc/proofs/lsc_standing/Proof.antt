@@ -1,3 +1,4 @@
+-- `lsc::lsc_standing` meets its contract: the tests in their order, then the verdict's numbers. Assumes nothing.
 use Rattle.lsc.proofs.Laws.{standing-refused, standing-short, standing-room}
 use mathlib.Core.Path.{refl}
 use borrow.Author.Needs.{needs}

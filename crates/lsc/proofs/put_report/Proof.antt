@@ -1,3 +1,4 @@
+-- `lsc::put_report` meets its contract: by the report's two cases. Assumes nothing.
 use Rattle.lsc.proofs.Laws.{put-refusal}
 use Rattle.lsc.specs.Lsc.{places, reportNumber, reportNumbers}
 use Rattle.listing.specs.declared.Report.{Report}

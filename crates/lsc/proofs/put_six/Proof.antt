@@ -1,3 +1,4 @@
+-- `lsc::put_six` meets its contract: six stores from the start. Assumes nothing.
 use mathlib.Core.List.{[], _∷_}
 use native.Mathlib.Omega.{arith}
 use lib.ListN.{length-set}
