@@ -1,4 +1,5 @@
 // The library's exported functions. Numbers returned are document 01's; 0 is success, 12 a buffer with too few places.
+use judge::Checked;
 use judge::Verdict;
 use listing::Part;
 use listing::Report;
@@ -14,12 +15,16 @@ ghost use Prim.Native.Nat.{_≤_};
 ghost use lib.ListN.{length, drop};
 ghost use Rattle.model.specs.declared.Record.the-variants.{Message as MessageAt, Time as TimeAt};
 ghost use Rattle.respond.specs.Respond.{partsReport, textOf, responseOf, bufferAfter, countOf};
+ghost use Rattle.judge.specs.Check.{checkLog};
 ghost use Rattle.live.specs.Live.{liveSize, openedOf, bytesOpened, Holds, Fed, standingIn};
 ghost use Rattle.live.specs.Images.{newNumber, newBytes, FedImage};
-ghost use Rattle.lsc.specs.Lsc.{places, verdictNumbers, partNumber, reportNumbers, reportNumber, judgedNumber, judgedOut, isJudgedNumber, standingNumber, standingOut, printedNumber};
+ghost use Rattle.lsc.specs.Lsc.{places, verdictNumbers, partNumber, reportNumbers, reportNumber, judgedNumber, judgedOut, isJudgedNumber, checkedCount, standingNumber, standingOut, printedNumber};
 
 // The places that a verdict or a refusal takes.
 const PLACES: usize = 6;
+
+// The count of no log that is checked without a fault.
+const REFUSED: u32 = 1_000_001;
 
 // Six numbers at the start of a buffer.
 fn put_six(out: &mut [u64], a: u64, b: u64, c: u64, d: u64, e: u64, f: u64)
@@ -228,4 +233,17 @@ pub extern "C" fn lsc_test_feed_time(chart: &[u8], monitor: &mut [u8], time: u32
     ensures unchanged { λ r. ⌜ now (chart .exit) ≡ now (chart .entry) ⌝ }
 {
     live::feed_image(chart, monitor, Record::Time(Moment(time)))
+}
+
+// For tests: checks a whole log, and answers how many records it has; one more than the most where it is refused.
+#[no_mangle]
+pub extern "C" fn lsc_test_check(log: &[u8]) -> u32
+    ensures count { λ r. ⌜ r ≡ checkedCount (checkLog (now (log .entry))) ⌝ }
+    ensures unchanged { λ r. ⌜ now (log .exit) ≡ now (log .entry) ⌝ }
+{
+    let checked = judge::check_log(log);
+    match checked {
+        Checked::Fine(n) => n,
+        Checked::Refused(_, _) => REFUSED,
+    }
 }

@@ -1,0 +1,119 @@
+//! The table's rows.
+
+use crate::subject::{check, proved, reference, scan, Subject, FED, LONG, ROUNDS};
+use lsc::call;
+use lsc_compare::kinds::{feed_images, feed_live};
+use lsc_compare::measure::{interleaved, median, ratios};
+use lsc_reference::fast;
+use lsc_reference::reader::read_chart;
+use lsc_reference::value::*;
+use std::hint::black_box;
+
+pub fn heading() {
+    println!("| what | proved, ns a record | beside it, ns a record | ratio | from, to |");
+    println!("|---|---:|---:|---:|---:|");
+}
+
+/// What was done, nanoseconds for each record on both sides, and the ratio.
+fn row(what: &str, subject: &Subject, records: usize, times: &[Vec<f64>]) {
+    let each = |place: usize| median(&times[place]) * 1e9 / records as f64;
+    let (proved, beside) = (each(0), each(1));
+    let mut ratios = ratios(&times[0], &times[1]);
+    ratios.sort_by(f64::total_cmp);
+    let (low, high) = (ratios[0], ratios[ratios.len() - 1]);
+    let (name, ratio) = (subject.name, median(&ratios));
+    println!("| {what}: {name} | {proved:.1} | {beside:.1} | {ratio:.2} | {low:.2}, {high:.2} |");
+}
+
+/// Whole logs of bytes.
+pub fn judging(subject: &Subject) {
+    let chart = &subject.chart;
+    for (what, log) in [
+        ("judging", &subject.log),
+        ("judging, broken early", &subject.broken),
+    ] {
+        let times = interleaved(
+            ROUNDS,
+            &mut [&mut || proved(chart, log), &mut || reference(chart, log)],
+        );
+        row(what, subject, LONG, &times);
+    }
+    let log = &subject.log;
+    let times = interleaved(ROUNDS, &mut [&mut || proved(chart, log), &mut || scan(log)]);
+    row("judging, beside the scan", subject, LONG, &times);
+}
+
+/// The log checked, and no record taken.
+pub fn checking(subject: &Subject) {
+    let log = &subject.log;
+    let times = interleaved(ROUNDS, &mut [&mut || check(log), &mut || scan(log)]);
+    row("checking, beside the scan", subject, LONG, &times);
+}
+
+/// One record at a time over images, from a fresh monitor.
+pub fn feeding_values(subject: &Subject) {
+    let records = &subject.records[..FED];
+    let image = subject.value.to_image();
+    let times = interleaved(
+        ROUNDS,
+        &mut [
+            &mut || {
+                let mut monitor = [0; MONITOR_IMAGE];
+                for record in records {
+                    black_box(feed_images(black_box(&image), &mut monitor, record));
+                }
+                black_box(monitor);
+            },
+            &mut || {
+                let mut monitor = MonitorValue::ZERO.to_image();
+                for record in records {
+                    black_box(feed_values(black_box(&image), &mut monitor, record));
+                }
+                black_box(monitor);
+            },
+        ],
+    );
+    row("feeding values", subject, FED, &times);
+}
+
+/// The reference doing what the functions over images do: read both, feed, write the monitor's.
+fn feed_values(image: &[u8], monitor: &mut [u8], record: &RecordValue) -> Option<Answer> {
+    let chart = ChartValue::from_image(image)?;
+    let (answer, after) = fast::feed(&chart, MonitorValue::from_image(monitor)?, *record);
+    monitor.copy_from_slice(&after.to_image());
+    Some(answer)
+}
+
+/// One record at a time over live bytes, from a fresh monitor.
+pub fn feeding_live(subject: &Subject) {
+    let records = &subject.records[..FED];
+    let mut fresh = vec![0; call::live_size(subject.chart.len())];
+    call::open(&subject.chart, &mut fresh, &mut 0);
+    let times = interleaved(
+        ROUNDS,
+        &mut [
+            &mut || {
+                let mut live = fresh.clone();
+                for record in records {
+                    black_box(feed_live(black_box(&mut live), record));
+                }
+            },
+            &mut || {
+                let mut live = fresh.clone();
+                for record in records {
+                    black_box(feed_reference(black_box(&mut live), record));
+                }
+            },
+        ],
+    );
+    row("feeding live", subject, FED, &times);
+}
+
+/// The reference doing what the live functions do: read the chart, feed, write the image.
+fn feed_reference(live: &mut [u8], record: &RecordValue) -> Option<Answer> {
+    let chart = read_chart(&live[65..]).ok()?;
+    let monitor = MonitorValue::from_image(&live[..MONITOR_IMAGE])?;
+    let (answer, after) = fast::feed(&chart, monitor, *record);
+    live[..MONITOR_IMAGE].copy_from_slice(&after.to_image());
+    Some(answer)
+}

@@ -1,0 +1,85 @@
+//! A chart with its logs, and what is timed on them.
+
+use lsc::call;
+use lsc_compare::charts;
+use lsc_reference::fast;
+use lsc_reference::log::read_log;
+use lsc_reference::reader::read_chart;
+use lsc_reference::value::{ChartValue, RecordValue};
+use std::hint::black_box;
+
+/// Counted rounds of every measurement.
+pub const ROUNDS: usize = 11;
+/// Records of the long logs.
+pub const LONG: usize = 1_000_000;
+/// Records of the lists fed one by one.
+pub const FED: usize = 20_000;
+
+/// A chart with a long log that keeps its rounds, and one that breaks early.
+pub struct Subject {
+    pub name: &'static str,
+    pub chart: Vec<u8>,
+    pub value: ChartValue,
+    pub log: Vec<u8>,
+    pub broken: Vec<u8>,
+    pub records: Vec<RecordValue>,
+}
+
+impl Subject {
+    pub fn of(name: &'static str, chart: Vec<u8>) -> Subject {
+        let value = read_chart(&chart).expect("the chart is read");
+        let log = charts::keeping_log(&value, LONG, 1);
+        let broken = charts::breaking_log(&value, &log);
+        let records = read_log(&log).expect("the log has no fault");
+        Subject {
+            name,
+            chart,
+            value,
+            log,
+            broken,
+            records,
+        }
+    }
+
+    /// The rounds that the log keeps and drops.
+    pub fn rounds(&self) -> (u64, u64) {
+        let mut out = [0; 6];
+        call::judge(&self.chart, &self.log, &mut out);
+        (out[1], out[2])
+    }
+
+    /// The log's first records, as bytes.
+    pub fn first_records(&self, count: usize) -> &[u8] {
+        let length = self.records[..count]
+            .iter()
+            .map(|record| match record {
+                RecordValue::Message { .. } => 9,
+                RecordValue::Time(_) => 5,
+            })
+            .sum();
+        &self.log[..length]
+    }
+}
+
+/// The proved judge.
+pub fn proved(chart: &[u8], log: &[u8]) {
+    let mut out = [0; 6];
+    black_box(call::judge(black_box(chart), black_box(log), &mut out));
+    black_box(out);
+}
+
+/// The reference's fast judge from the chart's bytes: reading them is included.
+pub fn reference(chart: &[u8], log: &[u8]) {
+    let value = read_chart(black_box(chart)).expect("the chart is read");
+    let _ = black_box(fast::judge(&value, black_box(log)));
+}
+
+/// The proved check of a log, without judging it.
+pub fn check(log: &[u8]) {
+    black_box(call::test_check(black_box(log)));
+}
+
+/// The bare walk over a log.
+pub fn scan(log: &[u8]) {
+    black_box(fast::scan(black_box(log)));
+}

@@ -1,0 +1,195 @@
+//! Fixed charts, and long logs that mostly keep their rounds.
+
+use lsc_reference::fast::{Plan, State};
+use lsc_reference::random::{log_pieces, Rng};
+use lsc_reference::value::*;
+
+/// Document 01's chart U: after undo, headings and references within 40 ticks.
+pub const U: [u8; 38] = [
+    0x10, 4, 1, 0x20, 0, 1, 0, 1, 0x40, 1, 0x50, 0x20, 1, 0, 0, 2, 0x30, 0, 1, 0, 0, 0, 40, 0x32,
+    0x20, 2, 3, 0, 3, 0x30, 0, 1, 0, 0, 0, 40, 0x32, 0x7F,
+];
+
+/// After m1 with x at least 3: m2 with x at least 2, and m3, in any order.
+const EITHER_ORDER: [u8; 35] = [
+    0x10, 4, 1, 0x20, 1, 2, 0, 1, 0x30, 0, 3, 0, 0, 0, 3, 0x50, 0x20, 1, 0, 0, 2, 0x30, 0, 3, 0, 0,
+    0, 2, 0x32, 0x20, 2, 3, 0, 3, 0x7F,
+];
+
+/// Prechart a then b, both 0 to 1; main c, 1 to 0.
+const TWO_THEN_ONE: [u8; 20] = [
+    0x10, 2, 0, 0x20, 0, 1, 0, 1, 0x20, 0, 1, 0, 2, 0x50, 0x20, 1, 0, 0, 3, 0x7F,
+];
+
+/// The same message twice in the prechart, a plain region as the main chart's first.
+const SENT_AGAIN: [u8; 51] = [
+    0x10, 2, 2, 0x20, 0, 1, 0, 1, 0x40, 3, 0x20, 0, 1, 0, 1, 0x30, 1, 3, 0, 0, 0, 2, 0x40, 2, 0x50,
+    0x21, 0, 1, 0x31, 0, 1, 1, 0, 0, 0, 9, 0x32, 0x20, 1, 0, 0, 2, 0x30, 1, 1, 0, 0, 0, 5, 0x32,
+    0x7F,
+];
+
+/// No prechart; two regions on no common line, ordered through a third between them.
+const THROUGH_A_THIRD: [u8; 20] = [
+    0x10, 4, 0, 0x50, 0x20, 0, 1, 0, 1, 0x20, 1, 2, 0, 2, 0x20, 2, 3, 0, 3, 0x7F,
+];
+
+/// Small charts for trying every row.
+pub const SMALL: [&[u8]; 5] = [
+    &U,
+    &EITHER_ORDER,
+    &TWO_THEN_ONE,
+    &SENT_AGAIN,
+    &THROUGH_A_THIRD,
+];
+
+/// What [`large`] makes, in words.
+pub const LARGE: &str = "32 regions (8 in the prechart, 24 in the main chart; every fourth is \
+plain), 16 lines, 8 clocks, four terms in every region, one reset each, main conditions hot";
+
+/// A chart with every region used and four terms in each, all of which hold unless a round
+/// takes more than 600 ticks.
+pub fn large() -> Vec<u8> {
+    let mut bytes = vec![0x10, 16, 8];
+    for place in 0..32u8 {
+        if place == 8 {
+            bytes.push(0x50);
+        }
+        if place % 4 == 3 {
+            // Below the two message regions before it.
+            let lines: u16 = 0b1111 << (2 * (place - 2) % 16);
+            bytes.push(0x21);
+            bytes.extend(lines.to_be_bytes());
+        } else {
+            bytes.extend([0x20, 2 * place % 16, (2 * place + 1) % 16, 0, place]);
+        }
+        let (c, d) = (place % 8, (place + 3) % 8);
+        bytes.extend([0x30, c, 1, 0, 0, 2, 88]);
+        bytes.extend([0x30, d, 3, 0, 0, 0, 0]);
+        bytes.extend([0x31, c, d, 1, 0, 0, 2, 88]);
+        bytes.extend([0x31, d, c, 3, 0xFF, 0xFF, 0xFD, 0xA8]);
+        if place >= 8 {
+            bytes.push(0x32);
+        }
+        bytes.extend([0x40, 1 << c]);
+    }
+    bytes.push(0x7F);
+    bytes
+}
+
+/// What [`keeping_log`] makes, in words.
+pub const LOG: &str = "4 % records of time, 4 % foreign messages, the rest messages that some \
+ready region awaits, in any order, 0 to 3 ticks apart; 5 % of the rounds dropped at their opening";
+
+/// A log of `count` records that keeps most rounds and breaks none.
+pub fn keeping_log(chart: &ChartValue, count: usize, seed: u64) -> Vec<u8> {
+    let plan = Plan::of(chart).expect("an accepted chart");
+    let mut rng = Rng::new(seed);
+    let mut state = State::FRESH;
+    let mut log = Vec::with_capacity(9 * count);
+    for _ in 0..count {
+        let record = next_record(&mut rng, chart, &plan, &state);
+        plan.take_record(&mut state, &record);
+        log.extend(record.to_image());
+    }
+    assert_eq!(state.reason, 0, "the log breaks its chart");
+    log
+}
+
+/// The given log with one record changed so that it breaks its chart, one with a prechart, as
+/// soon as the main chart is owed: the message of region 1 comes once more.
+pub fn breaking_log(chart: &ChartValue, log: &[u8]) -> Vec<u8> {
+    let plan = Plan::of(chart).expect("an accepted chart");
+    let mut state = State::FRESH;
+    let mut broken = Vec::with_capacity(log.len());
+    for piece in log_pieces(log) {
+        let Some(record) = RecordValue::from_image(&piece) else {
+            continue;
+        };
+        if state.reason != 0 {
+            broken.extend(piece);
+            continue;
+        }
+        let mut next = record;
+        let again = message(&chart.regions[0], record.time());
+        if let Answer::Broken { .. } = plan.take_record(&mut state.clone(), &again) {
+            next = again;
+        }
+        plan.take_record(&mut state, &next);
+        broken.extend(next.to_image());
+    }
+    broken
+}
+
+fn next_record(rng: &mut Rng, chart: &ChartValue, plan: &Plan, state: &State) -> RecordValue {
+    let time = state.now() + rng.below(4) as u32;
+    let ready = plan.ready_messages(state);
+    match rng.below(100) {
+        0..=3 => return RecordValue::Time(time),
+        4..=7 => return message(&RegionValue::ZERO, time),
+        8..=12 if state.fired == 0 => {
+            // A message of the chart that nothing awaits: the round is dropped.
+            let last = usize::from(chart.count) - 1;
+            let unready = (0..=last).rev().find(|&place| {
+                (ready >> place) & 1 == 0
+                    && matches!(chart.regions[place].event, EventValue::Message { .. })
+            });
+            if let (Some(place), true) = (unready, chart.prechart > 0) {
+                return message(&chart.regions[place], time);
+            }
+        }
+        _ => {}
+    }
+    let places: Vec<usize> = (0..MAX_REGIONS)
+        .filter(|place| (ready >> place) & 1 == 1)
+        .collect();
+    message(&chart.regions[rng.pick(&places)], time)
+}
+
+/// The region's message at a time; a foreign one for a plain region.
+fn message(region: &RegionValue, time: u32) -> RecordValue {
+    let (source, destination, label) = match region.event {
+        EventValue::Message {
+            source,
+            destination,
+            label,
+        } => (source, destination, label),
+        EventValue::Plain(_) => (1, 1, 0xFFFF),
+    };
+    RecordValue::Message {
+        source,
+        destination,
+        label,
+        time,
+    }
+}
+
+#[cfg(test)]
+mod tests {
+    use super::*;
+    use lsc_reference::fast::judge;
+    use lsc_reference::reader::read_chart;
+
+    #[test]
+    fn small_charts_are_read() {
+        for chart in SMALL {
+            assert!(read_chart(chart).is_ok(), "{chart:02X?}");
+        }
+    }
+
+    #[test]
+    fn the_large_chart_is_full_and_its_logs_keep_rounds() {
+        let chart = read_chart(&large()).unwrap();
+        assert_eq!((chart.count, chart.prechart), (32, 8));
+        assert!(chart.regions.iter().all(|region| region.term_count == 4));
+        let log = keeping_log(&chart, 10_000, 1);
+        let verdict = judge(&chart, &breaking_log(&chart, &log)).unwrap();
+        assert!((7..40).contains(&verdict.break_record), "{verdict:?}");
+        let verdict = judge(&chart, &log).unwrap();
+        assert!(verdict.kept > 350, "{verdict:?}");
+        assert!((1..60).contains(&verdict.dropped), "{verdict:?}");
+        let chart = read_chart(&U).unwrap();
+        let verdict = judge(&chart, &keeping_log(&chart, 10_000, 1)).unwrap();
+        assert!(verdict.kept > 2_500, "{verdict:?}");
+        assert!((1..600).contains(&verdict.dropped), "{verdict:?}");
+    }
+}

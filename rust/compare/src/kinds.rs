@@ -1,0 +1,145 @@
+//! The kinds of comparison. Each makes inputs of two parts and compares both sides on one.
+
+mod bytes;
+mod live;
+mod printing;
+mod rows;
+mod values;
+mod whole;
+
+use crate::difference::{Both, Difference};
+use crate::seen::Seen;
+use lsc_reference::random::{shrink, Rng};
+use lsc_reference::value::Answer;
+
+pub use bytes::compare as compare_bytes;
+pub use live::feed_live;
+pub use printing::compare as compare_print;
+pub use values::{compare as compare_values, feed_images};
+pub use whole::compare as compare_judge;
+
+/// Gives an input's two parts to both sides; the first point on which they differ.
+pub type Compare = fn(&[u8], &[u8], &mut Seen) -> Result<(), Both>;
+
+/// A kind of comparison.
+pub struct Kind {
+    pub name: &'static str,
+    /// How often it is taken, beside the others.
+    pub share: usize,
+    /// What the two parts of an input are.
+    pub parts: [&'static str; 2],
+    pub make: fn(&mut Rng) -> (Vec<u8>, Vec<u8>),
+    pub compare: Compare,
+}
+
+/// All kinds.
+pub static KINDS: [Kind; 6] = [
+    whole::KIND,
+    printing::KIND,
+    values::KIND,
+    live::KIND,
+    bytes::KIND,
+    rows::KIND,
+];
+
+/// Longer inputs are not shrunk piece by piece: it would take too long.
+const SHRINKABLE: usize = 4_000;
+
+impl Kind {
+    /// Makes an input and compares; a differing input is shrunk first.
+    pub fn try_one(&self, rng: &mut Rng, seen: &mut Seen) -> Result<(), Box<Difference>> {
+        let (first, second) = (self.make)(rng);
+        let Err(both) = (self.compare)(&first, &second, seen) else {
+            return Ok(());
+        };
+        let small = self.smaller(&first, &second);
+        // An input that does not differ a second time is shown as it came.
+        let ((first, second), both) = match (self.compare)(&small.0, &small.1, &mut Seen::default())
+        {
+            Err(both) => (small, both),
+            Ok(()) => ((first, second), both),
+        };
+        Err(Box::new(Difference {
+            kind: self.name,
+            origin: None,
+            parts: [(self.parts[0], first), (self.parts[1], second)],
+            both,
+        }))
+    }
+
+    /// A smaller input that still differs.
+    fn smaller(&self, first: &[u8], second: &[u8]) -> (Vec<u8>, Vec<u8>) {
+        let mut aside = Seen::default();
+        let mut fails =
+            |first: &[u8], second: &[u8]| (self.compare)(first, second, &mut aside).is_err();
+        let mut second = second;
+        while second.len() > SHRINKABLE && fails(first, &second[..second.len() / 2]) {
+            second = &second[..second.len() / 2];
+        }
+        if first.len() + second.len() > SHRINKABLE {
+            return (first.to_vec(), second.to_vec());
+        }
+        shrink(first, second, &mut fails)
+    }
+}
+
+/// Bytes behind the part of a buffer that a function may write.
+const BEYOND: usize = 5;
+
+/// A buffer with contents that are easy to miss if changed.
+fn filled(length: usize) -> Vec<u8> {
+    (0..length).map(|place| (place * 37 + 11) as u8).collect()
+}
+
+/// Places for numbers, filled likewise.
+fn filled_places(length: usize) -> Vec<u64> {
+    (0..length)
+        .map(|place| 0xA5A5_0000_5A5A_0000 + place as u64)
+        .collect()
+}
+
+/// The number of an answer: 1 to 6, or the refusal's.
+pub fn number(answer: &Answer) -> u8 {
+    match answer {
+        Answer::Refused(number) => *number,
+        Answer::Broken { .. } => 1,
+        Answer::Kept => 2,
+        Answer::Dropped => 3,
+        Answer::Entered => 4,
+        Answer::Moved => 5,
+        Answer::Quiet => 6,
+    }
+}
+
+#[cfg(test)]
+mod tests {
+    use super::*;
+    use crate::difference::same;
+    use lsc_reference::log::judge;
+    use lsc_reference::reader::read_chart;
+
+    /// A "library" that never sees a break: the harness must find that and shrink it.
+    fn forgets_breaks(chart: &[u8], log: &[u8], _: &mut Seen) -> Result<(), Both> {
+        let reason = read_chart(chart)
+            .ok()
+            .and_then(|chart| judge(&chart, log).ok())
+            .map_or(0, |verdict| verdict.reason);
+        same("reason", 0, reason)
+    }
+
+    #[test]
+    fn a_difference_is_found_and_shrunk() {
+        let kind = Kind {
+            compare: forgets_breaks,
+            ..whole::KIND
+        };
+        let mut rng = Rng::new(5);
+        let found = (0..10_000)
+            .find_map(|_| kind.try_one(&mut rng, &mut Seen::default()).err())
+            .expect("some log breaks its chart");
+        assert!(found.parts[0].1.len() <= 40, "{found}");
+        assert!(found.parts[1].1.len() <= 27, "{found}");
+        let text = found.numbered(5, 7).to_string();
+        assert!(text.starts_with("difference in judge, reason (seed 5, input 7, shrunk)"));
+    }
+}

@@ -1,0 +1,91 @@
+//! Live bytes of any kind, damaged ones too: 20 and 21, and nothing changed by a refusal.
+
+use super::live::{check_standing, feed_live, live_bytes, standing_numbers};
+use super::{number, Kind};
+use crate::difference::{same, Both, Hex};
+use crate::seen::Seen;
+use lsc::LiveMonitor;
+use lsc_reference::monitor::{feed, is_fit};
+use lsc_reference::random::{self, Rng};
+use lsc_reference::reader::read_chart;
+use lsc_reference::value::*;
+
+pub const KIND: Kind = Kind {
+    name: "live bytes",
+    share: 10,
+    parts: ["live bytes", "record"],
+    make,
+    compare,
+};
+
+fn make(rng: &mut Rng) -> (Vec<u8>, Vec<u8>) {
+    let size = random::some_size(rng);
+    let (bytes, chart) = random::chart(rng, size);
+    let monitor = random::monitor_value(rng, &chart);
+    let record = random::record_value(rng, &chart, &monitor);
+    let mut live = match rng.below(10) {
+        0 => live_bytes(&random::hostile_chart_bytes(rng), &monitor),
+        _ => live_bytes(&bytes, &monitor),
+    };
+    match rng.below(12) {
+        0 | 1 => random::damage(rng, &mut live),
+        2 => {
+            // The length's own bytes.
+            let place = 57 + rng.below(8);
+            live[place] = rng.pick(&[0, 1, 2, 64, 128, 255]);
+        }
+        3 => {
+            let shift = rng.pick(&[-2i64, -1, 1, 2]);
+            let length = (bytes.len() as u64).wrapping_add_signed(shift);
+            live[57..65].copy_from_slice(&length.to_be_bytes());
+            live.extend((0..rng.below(3)).map(|_| rng.byte()));
+        }
+        4 => live.truncate(rng.below(live.len() + 1)),
+        5 | 6 => {
+            let more = rng.below(20);
+            live.extend((0..more).map(|_| rng.byte()));
+        }
+        7 => live[57..65].fill(255),
+        _ => {}
+    }
+    (live, record.to_image())
+}
+
+/// The chart and the monitor that live bytes hold; none for refusal 20.
+fn parts(live: &[u8]) -> Option<(&[u8], ChartValue, MonitorValue)> {
+    let monitor = MonitorValue::from_image(live.get(..MONITOR_IMAGE)?)?;
+    let length: [u8; 8] = live.get(MONITOR_IMAGE..65)?.try_into().ok()?;
+    let length = usize::try_from(u64::from_be_bytes(length)).ok()?;
+    let chart = live[65..].get(..length)?;
+    Some((chart, read_chart(chart).ok()?, monitor))
+}
+
+pub fn compare(before: &[u8], record: &[u8], seen: &mut Seen) -> Result<(), Both> {
+    let record = RecordValue::from_image(record).unwrap_or(RecordValue::Time(0));
+    let held = parts(before);
+    let standing = match &held {
+        None => Err(20),
+        Some((_, chart, monitor)) if is_fit(chart, monitor) => Ok(standing_numbers(chart, monitor)),
+        Some(_) => Err(21),
+    };
+    check_standing(before, standing, seen)?;
+    let taken = LiveMonitor::from_bytes(before.to_vec());
+    let refused = taken.err().map(|refusal| refusal.number());
+    same("taking up bytes", refused, standing.err())?;
+
+    let mut wanted = before.to_vec();
+    let answer = match held {
+        None => Answer::Refused(20),
+        Some((_, chart, monitor)) => {
+            let (answer, after) = feed(&chart, monitor, record);
+            wanted[..MONITOR_IMAGE].copy_from_slice(&after.to_image());
+            answer
+        }
+    };
+    let mut live = before.to_vec();
+    let said = feed_live(&mut live, &record);
+    let wanted = (number(&answer), Hex(&wanted));
+    same("feeding", (said, Hex(&live)), wanted)?;
+    seen.answer(&answer);
+    Ok(())
+}

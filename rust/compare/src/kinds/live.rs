@@ -1,0 +1,193 @@
+//! The live functions: a chart opened, records fed one by one, the standing asked after
+//! each; against the reference's monitor, field by field as an image.
+
+use super::{filled, filled_places, number, Kind, BEYOND};
+use crate::difference::{same, Both, Hex};
+use crate::seen::Seen;
+use lsc::{call, FeedRefusal, LiveMonitor};
+use lsc_reference::log::standing;
+use lsc_reference::monitor::feed;
+use lsc_reference::random::{self, Rng};
+use lsc_reference::reader::read_chart;
+use lsc_reference::value::*;
+
+pub const KIND: Kind = Kind {
+    name: "live",
+    share: 9,
+    parts: ["chart", "records"],
+    make,
+    compare,
+};
+
+fn make(rng: &mut Rng) -> (Vec<u8>, Vec<u8>) {
+    if rng.chance(25) {
+        return (random::hostile_chart_bytes(rng), Vec::new());
+    }
+    let size = random::some_size(rng);
+    let (bytes, chart) = random::chart(rng, size);
+    let count = rng.below(24);
+    let feeds = random::feeds(rng, &chart, count);
+    (bytes, random::log_bytes(&feeds))
+}
+
+/// The whole records of some bytes; other bytes are passed over.
+pub fn records(bytes: &[u8]) -> Vec<RecordValue> {
+    random::log_pieces(bytes)
+        .iter()
+        .filter_map(|piece| RecordValue::from_image(piece))
+        .collect()
+}
+
+/// The live bytes of a chart and a monitor.
+pub fn live_bytes(chart: &[u8], monitor: &MonitorValue) -> Vec<u8> {
+    let mut live = monitor.to_image().to_vec();
+    live.extend((chart.len() as u64).to_be_bytes());
+    live.extend(chart);
+    live
+}
+
+/// Feeds a record to live bytes, whichever of the two it is.
+pub fn feed_live(live: &mut [u8], record: &RecordValue) -> u8 {
+    match *record {
+        RecordValue::Time(time) => call::feed_time(live, time),
+        RecordValue::Message {
+            source,
+            destination,
+            label,
+            time,
+        } => call::feed_message(live, source, destination, label, time),
+    }
+}
+
+/// Feeds a record through the safe wrapper; the answer's number.
+fn feed_safe(monitor: &mut LiveMonitor, record: &RecordValue) -> (u8, Option<(u32, u8)>) {
+    let answer = match *record {
+        RecordValue::Time(time) => monitor.feed_time(time),
+        RecordValue::Message {
+            source,
+            destination,
+            label,
+            time,
+        } => monitor.feed_message(source, destination, label, time),
+    };
+    match answer {
+        Err(refusal) => (refusal.number(), None),
+        Ok(lsc::Answer::Broken { record, reason }) => (1, Some((record, reason))),
+        Ok(lsc::Answer::Kept) => (2, None),
+        Ok(lsc::Answer::Dropped) => (3, None),
+        Ok(lsc::Answer::Entered) => (4, None),
+        Ok(lsc::Answer::Moved) => (5, None),
+        Ok(lsc::Answer::Quiet) => (6, None),
+    }
+}
+
+/// The six numbers of a fit monitor.
+pub fn standing_numbers(chart: &ChartValue, monitor: &MonitorValue) -> [u64; 6] {
+    [
+        standing(chart, monitor).into(),
+        monitor.kept.into(),
+        monitor.dropped.into(),
+        monitor.records.into(),
+        monitor.break_record.into(),
+        monitor.reason.into(),
+    ]
+}
+
+/// `lsc_standing` on live bytes: the six numbers or the refusal, and the places beyond.
+pub fn check_standing(
+    live: &[u8],
+    expected: Result<[u64; 6], u8>,
+    seen: &mut Seen,
+) -> Result<(), Both> {
+    let mut out = filled_places(8);
+    let answer = call::standing(live, &mut out);
+    let mut wanted = filled_places(8);
+    if let Ok(numbers) = expected {
+        wanted[..6].copy_from_slice(&numbers);
+    }
+    let number = expected.err().unwrap_or(0);
+    same("standing", (answer, out), (number, wanted))?;
+    match expected {
+        Ok(numbers) => seen.standing(numbers[0]),
+        Err(number) => seen.refusal(number),
+    }
+    // The bytes are looked at first: 20 and 21 go before 12.
+    let number = expected.err().unwrap_or(12);
+    for places in [0, 5] {
+        let mut out = filled_places(places);
+        let answer = call::standing(live, &mut out);
+        let wanted = filled_places(places);
+        same("standing in a short out", (answer, out), (number, wanted))?;
+        seen.refusal(number);
+    }
+    Ok(())
+}
+
+/// `lsc_open` with room for all, too little room, and room to spare.
+fn check_open(
+    chart: &[u8],
+    read: &Result<ChartValue, (u8, usize)>,
+    seen: &mut Seen,
+) -> Result<Vec<u8>, Both> {
+    let size = 65 + chart.len();
+    same("live size", call::live_size(chart.len()), size)?;
+    for room in [0, size / 2, size - 1] {
+        let (mut live, mut at) = (filled(room), 77);
+        let answer = call::open(chart, &mut live, &mut at);
+        let (number, place) = read.err().unwrap_or((12, size));
+        let wanted = (number, place as u64, Hex(&filled(room)));
+        same("opening in a short live", (answer, at, Hex(&live)), wanted)?;
+        seen.refusal(number);
+    }
+    let (mut live, mut at) = (filled(size + BEYOND), 77);
+    let answer = call::open(chart, &mut live, &mut at);
+    let mut wanted = filled(size + BEYOND);
+    let (number, place) = match read {
+        Err((number, offset)) => (*number, *offset),
+        Ok(_) => {
+            wanted[..size].copy_from_slice(&live_bytes(chart, &MonitorValue::ZERO));
+            (0, size)
+        }
+    };
+    let wanted = (number, place as u64, Hex(&wanted));
+    same("opening", (answer, at, Hex(&live)), wanted)?;
+    Ok(live)
+}
+
+pub fn compare(chart: &[u8], log: &[u8], seen: &mut Seen) -> Result<(), Both> {
+    let read = read_chart(chart);
+    let mut live = check_open(chart, &read, seen)?;
+    let safe = LiveMonitor::open(chart);
+    let fault = safe.as_ref().err().map(|r| (r.number, r.offset));
+    same("the safe open", fault, read.err())?;
+    let (Ok(value), Ok(mut safe)) = (read, safe) else {
+        return Ok(());
+    };
+    let mut monitor = MonitorValue::ZERO;
+    check_standing(&live, Ok(standing_numbers(&value, &monitor)), seen)?;
+    for record in records(log) {
+        let (answer, after) = feed(&value, monitor, record);
+        let mut wanted = live_bytes(chart, &after);
+        wanted.extend(&live[wanted.len()..]);
+        let said = feed_live(&mut live, &record);
+        let fields = MonitorValue::from_image(&live[..MONITOR_IMAGE]);
+        same("feeding", (said, fields), (number(&answer), Some(after)))?;
+        same("bytes behind feeding", Hex(&live), Hex(&wanted))?;
+        seen.answer(&answer);
+        let numbers = standing_numbers(&value, &after);
+        check_standing(&live, Ok(numbers), seen)?;
+
+        let (said, broken) = feed_safe(&mut safe, &record);
+        let wanted = (number(&answer), Hex(&live[..65 + chart.len()]));
+        same("the safe feed", (said, Hex(safe.as_bytes())), wanted)?;
+        if let Answer::Broken { record, reason } = answer {
+            same("the safe break", broken, Some((record, reason)))?;
+        }
+        let words: Vec<String> = numbers.iter().map(u64::to_string).collect();
+        let text = safe.standing().to_string();
+        same("the safe standing", text, words.join(" "))?;
+        monitor = after;
+    }
+    let again = LiveMonitor::from_bytes(safe.clone().into_bytes());
+    same("taken up again", again, Ok::<_, FeedRefusal>(safe))
+}

@@ -1,0 +1,104 @@
+//! Chart and monitor values of any kind, through their images: `lsc_test_new` and
+//! `lsc_test_feed_*` against the reference's `new` and `feed`.
+
+use super::{filled, number, Kind, BEYOND};
+use crate::difference::{same, Both, Hex};
+use crate::seen::Seen;
+use lsc::call;
+use lsc_reference::monitor::{feed, new};
+use lsc_reference::random::{self, Rng};
+use lsc_reference::value::*;
+
+pub const KIND: Kind = Kind {
+    name: "values",
+    share: 30,
+    parts: ["chart image", "monitor image and record"],
+    make,
+    compare,
+};
+
+fn make(rng: &mut Rng) -> (Vec<u8>, Vec<u8>) {
+    let chart = if rng.chance(60) {
+        let size = random::some_size(rng);
+        random::chart(rng, size).1
+    } else {
+        random::chart_value(rng)
+    };
+    let mut image = chart.to_image().to_vec();
+    match rng.below(50) {
+        0..=2 => {
+            let place = rng.below(image.len());
+            image[place] = rng.pick(&[1, 2, 3, 5, 255]);
+        }
+        3 => {
+            image.pop();
+        }
+        4 => image.push(0),
+        5 => image.truncate(rng.below(image.len())),
+        _ => {}
+    }
+    let monitor = random::monitor_value(rng, &chart);
+    let record = random::record_value(rng, &chart, &monitor);
+    let mut second = monitor.to_image().to_vec();
+    second.extend(record.to_image());
+    (image, second)
+}
+
+/// Feeds a record to the images, whichever of the two it is.
+pub fn feed_images(chart: &[u8], monitor: &mut [u8], record: &RecordValue) -> u8 {
+    match *record {
+        RecordValue::Time(time) => call::test_feed_time(chart, monitor, time),
+        RecordValue::Message {
+            source,
+            destination,
+            label,
+            time,
+        } => call::test_feed_message(chart, monitor, source, destination, label, time),
+    }
+}
+
+pub fn compare(image: &[u8], second: &[u8], seen: &mut Seen) -> Result<(), Both> {
+    let (before, record) = second.split_at(second.len().min(MONITOR_IMAGE));
+    let record = RecordValue::from_image(record).unwrap_or(RecordValue::Time(0));
+    let chart = ChartValue::from_image(image);
+
+    let made = match chart.map(|chart| new(&chart)) {
+        Some(Ok(_)) => 0,
+        _ => 20,
+    };
+    let mut wanted = filled(MONITOR_IMAGE + BEYOND);
+    wanted[..MONITOR_IMAGE].fill(0);
+    let mut monitor = filled(MONITOR_IMAGE + BEYOND);
+    let answer = call::test_new(image, &mut monitor);
+    let wanted = (made, Hex(&wanted));
+    same("making a monitor", (answer, Hex(&monitor)), wanted)?;
+    if made != 0 {
+        seen.refusal(made);
+    }
+
+    if let Some(value) = MonitorValue::from_image(before) {
+        let (answer, after) = match chart {
+            None => (Answer::Refused(20), value),
+            Some(chart) => feed(&chart, value, record),
+        };
+        let mut wanted = after.to_image().to_vec();
+        wanted.extend(filled(BEYOND));
+        let mut monitor = before.to_vec();
+        monitor.extend(filled(BEYOND));
+        let said = feed_images(image, &mut monitor, &record);
+        let fields = MonitorValue::from_image(&monitor[..MONITOR_IMAGE]);
+        same("feeding", (said, fields), (number(&answer), Some(after)))?;
+        same("bytes behind feeding", Hex(&monitor), Hex(&wanted))?;
+        seen.answer(&answer);
+    }
+
+    for length in [0, MONITOR_IMAGE - 1] {
+        let mut short = filled(length);
+        let said = call::test_new(image, &mut short);
+        let fed = feed_images(image, &mut short, &record);
+        let wanted = (12, 12, Hex(&filled(length)));
+        same("a short monitor", (said, fed, Hex(&short)), wanted)?;
+        seen.refusal(said);
+    }
+    Ok(())
+}

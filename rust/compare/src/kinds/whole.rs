@@ -1,0 +1,96 @@
+//! Whole logs: `lsc_judge` and the safe `judge` against the reference's.
+
+use super::{filled_places, Kind};
+use crate::difference::{same, Both};
+use crate::seen::Seen;
+use lsc::{call, Part};
+use lsc_reference::log;
+use lsc_reference::random::{self, Rng, Size};
+use lsc_reference::reader::read_chart;
+use lsc_reference::value::{ChartValue, MAX_RECORDS};
+
+pub const KIND: Kind = Kind {
+    name: "judge",
+    share: 34,
+    parts: ["chart", "log"],
+    make,
+    compare,
+};
+
+fn make(rng: &mut Rng) -> (Vec<u8>, Vec<u8>) {
+    let size = random::some_size(rng);
+    let (bytes, chart) = random::chart(rng, size);
+    if rng.chance(35) {
+        let hostile = random::hostile_chart_bytes(rng);
+        let over = read_chart(&hostile).unwrap_or(chart);
+        return (hostile, some_log(rng, &over, size));
+    }
+    let log = some_log(rng, &chart, size);
+    (bytes, log)
+}
+
+fn some_log(rng: &mut Rng, chart: &ChartValue, size: Size) -> Vec<u8> {
+    if rng.chance(40) {
+        return random::hostile_log_bytes(rng, chart);
+    }
+    let count = rng.below(if size == Size::Large { 120 } else { 40 });
+    random::log_bytes(&random::records(rng, chart, count))
+}
+
+/// The number and the six places that the reference gives.
+pub fn expected(chart: &[u8], bytes: &[u8]) -> (u8, [u64; 6]) {
+    let (part, result) = match read_chart(chart) {
+        Err(fault) => (1, Err(fault)),
+        Ok(chart) => (2, log::judge(&chart, bytes)),
+    };
+    match result {
+        Err((number, offset)) => (number, [part, number.into(), offset as u64, 0, 0, 0]),
+        Ok(v) => {
+            let out = [
+                v.standing.into(),
+                v.kept.into(),
+                v.dropped.into(),
+                v.records.into(),
+                v.break_record.into(),
+                v.reason.into(),
+            ];
+            (0, out)
+        }
+    }
+}
+
+pub fn compare(chart: &[u8], log: &[u8], seen: &mut Seen) -> Result<(), Both> {
+    let (number, numbers) = expected(chart, log);
+    let mut after = filled_places(8);
+    after[..6].copy_from_slice(&numbers);
+    let mut out = filled_places(8);
+    let answer = call::judge(chart, log, &mut out);
+    same("verdict and places", (answer, out), (number, after))?;
+    let records = log::read_log(log).map_or(MAX_RECORDS + 1, |records| records.len() as u32);
+    same("records checked", call::test_check(log), records)?;
+    if number == 0 {
+        seen.standing(numbers[0]);
+    } else {
+        seen.refusal(number);
+    }
+    for places in [0, 5] {
+        let mut out = filled_places(places);
+        let answer = call::judge(chart, log, &mut out);
+        same("a short out", (answer, out), (12, filled_places(places)))?;
+        seen.refusal(answer);
+    }
+    let safe = match lsc::judge(chart, log) {
+        Ok(verdict) => format!("0 {verdict}"),
+        Err(refusal) => {
+            let part = if refusal.part == Part::Chart { 1 } else { 2 };
+            let number = refusal.number;
+            format!("{number} {part} {number} {} 0 0 0", refusal.offset)
+        }
+    };
+    let words: Vec<String> = numbers.iter().map(u64::to_string).collect();
+    same(
+        "the safe judge",
+        safe,
+        format!("{number} {}", words.join(" ")),
+    )
+}

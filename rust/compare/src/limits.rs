@@ -1,0 +1,109 @@
+//! Fixed inputs at the limits: 1,000,000 records, the longest input, sizes that overflow.
+
+use crate::charts::{self, U};
+use crate::difference::{same, Both, Difference};
+use crate::kinds::{compare_bytes, compare_judge, compare_print, compare_values, Compare};
+use crate::seen::Seen;
+use lsc::call;
+use lsc_reference::random::printing_input;
+use lsc_reference::reader::read_chart;
+use lsc_reference::value::*;
+
+/// A name, a comparison, and the input's two parts.
+type Case = (&'static str, Compare, Vec<u8>, Vec<u8>);
+
+/// Compares every fixed input.
+pub fn run(seen: &mut Seen) -> Result<(), Box<Difference>> {
+    let mut cases = judged();
+    cases.extend(printed());
+    cases.extend(fed());
+    cases.push(("live sizes", live_sizes, Vec::new(), Vec::new()));
+    for (name, compare, first, second) in cases {
+        compare(&first, &second, seen).map_err(|both| {
+            Box::new(Difference {
+                kind: name,
+                origin: None,
+                parts: [("first", first), ("second", second)],
+                both,
+            })
+        })?;
+        seen.input("limits");
+    }
+    Ok(())
+}
+
+/// Logs of 1,000,000 and of 1,000,001 records, with a falling time before and behind.
+fn judged() -> Vec<Case> {
+    let chart = read_chart(&U).expect("chart U is read");
+    let full = charts::keeping_log(&chart, MAX_RECORDS as usize, 3);
+    let with = |time: u32| [&full[..], &RecordValue::Time(time).to_image()].concat();
+    let cut = |mut log: Vec<u8>| {
+        log.pop();
+        log
+    };
+    let last = RecordValue::Time(u32::MAX).to_image();
+    vec![
+        ("1,000,000 records", compare_judge, U.to_vec(), full.clone()),
+        ("1,000,001", compare_judge, U.to_vec(), with(u32::MAX)),
+        ("falls at 1,000,001", compare_judge, U.to_vec(), with(0)),
+        ("cut at 1,000,001", compare_judge, U.to_vec(), cut(with(0))),
+        ("the latest time", compare_judge, U.to_vec(), last),
+    ]
+}
+
+/// Inputs about 65,536 bytes long, and short ones.
+fn printed() -> Vec<Case> {
+    let mut cases: Vec<Case> = Vec::new();
+    for length in [65_535, 65_536, 65_537, 70_000] {
+        let mut input = printing_input(&U, &[]);
+        while input.len() + 5 <= length {
+            input.extend(RecordValue::Time(7).to_image());
+        }
+        let mut ragged = input.clone();
+        ragged.resize(length, 2);
+        cases.push(("a long input", compare_print, Vec::new(), input));
+        cases.push(("a long input, cut", compare_print, Vec::new(), ragged));
+    }
+    for input in [&[][..], &[0], &[0, 0], &[0, 1], &[0, 1, 0x10], &[255; 9]] {
+        cases.push(("a short input", compare_print, Vec::new(), input.to_vec()));
+    }
+    cases
+}
+
+/// Monitors with 999,999, 1,000,000 and 1,000,001 records, fed as images and as live bytes.
+fn fed() -> Vec<Case> {
+    let chart = read_chart(&U).expect("chart U is read");
+    let mut cases: Vec<Case> = Vec::new();
+    for records in [999_999, 1_000_000, 1_000_001] {
+        let monitor = MonitorValue {
+            records,
+            now: 10,
+            ..MonitorValue::ZERO
+        };
+        let undo = RecordValue::Message {
+            source: 0,
+            destination: 1,
+            label: 1,
+            time: 10,
+        };
+        for record in [undo, RecordValue::Time(11), RecordValue::Time(9)] {
+            let image = monitor.to_image().to_vec();
+            let second = [image.clone(), record.to_image()].concat();
+            let first = chart.to_image().to_vec();
+            cases.push(("a full image", compare_values, first, second));
+            let live = [image, (U.len() as u64).to_be_bytes().to_vec(), U.to_vec()].concat();
+            cases.push(("full live bytes", compare_bytes, live, record.to_image()));
+        }
+    }
+    cases
+}
+
+/// "65 + chart_length; the largest usize where that would overflow".
+fn live_sizes(_: &[u8], _: &[u8], _: &mut Seen) -> Result<(), Both> {
+    let near = (0..70).map(|less| usize::MAX - less);
+    for length in (0..70).chain(near).chain([65_536, 1 << 32, 1 << 63]) {
+        let wanted = length.saturating_add(65);
+        same("live size", call::live_size(length), wanted)?;
+    }
+    Ok(())
+}

@@ -1,0 +1,75 @@
+/*
+ * Watches messages as they come: after undo, headings and references must come back, in either
+ * order, each within 40 ticks. watch.rs does the same in Rust. In the folder rust/:
+ *
+ *   gcc -std=c99 -Wall -Wextra -Werror -Iinclude lsc/examples/watch.c \
+ *       ../target/staticlib/liblsc.a -o target/watch
+ */
+#include "lsc.h"
+
+#include <stdio.h>
+
+/* Chart U: 4 lines, 1 clock. */
+static const uint8_t chart[38] = {
+    0x10, 4, 1,                                      /* heading */
+    0x20, 0, 1, 0, 1, 0x40, 1,                       /* prechart: undo resets clock 0 */
+    0x50,                                            /* the main chart starts */
+    0x20, 1, 0, 0, 2, 0x30, 0, 1, 0, 0, 0, 40, 0x32, /* headings, clock 0 <= 40, hot */
+    0x20, 2, 3, 0, 3, 0x30, 0, 1, 0, 0, 0, 40, 0x32, /* references likewise */
+    0x7F};
+
+struct message {
+    const char *name;
+    uint8_t source, destination;
+    uint16_t label;
+    uint32_t time;
+};
+
+static const struct message messages[] = {
+    {"undo", 0, 1, 1, 100},       {"headings", 1, 0, 2, 120},
+    {"references", 2, 3, 3, 140}, {"headings", 1, 0, 2, 150},
+    {"undo", 0, 1, 1, 200},       {"references", 2, 3, 3, 199},
+    {"references", 2, 3, 3, 230}, {"headings", 1, 0, 2, 241},
+    {"undo", 0, 1, 1, 300}};
+
+static const char *const answers[] = {"kept", "dropped", "entered", "moved", "quiet"};
+
+/* Writes what the monitor says to one message. */
+static void tell(const struct message *m, uint8_t answer, const uint64_t *verdict)
+{
+    printf("%s at %lu: ", m->name, (unsigned long)m->time);
+    if (answer == LSC_BROKEN)
+        printf("broken at record %lu, reason %lu", (unsigned long)verdict[4],
+               (unsigned long)verdict[5]);
+    else if (answer <= LSC_QUIET)
+        printf("%s", answers[answer - LSC_KEPT]);
+    else
+        printf("refused %u", (unsigned)answer);
+    printf("; standing %lu\n", (unsigned long)verdict[0]);
+}
+
+int main(void)
+{
+    uint8_t live[65 + sizeof chart];
+    uint64_t verdict[LSC_VERDICT_PLACES] = {0};
+    uint64_t at = 0;
+    uint8_t refused = lsc_open(chart, sizeof chart, live, sizeof live, &at);
+    size_t i;
+
+    if (refused != 0) {
+        fprintf(stderr, "refused chart %u at %lu\n", (unsigned)refused, (unsigned long)at);
+        return 1;
+    }
+    for (i = 0; i < sizeof messages / sizeof messages[0]; i++) {
+        const struct message *m = &messages[i];
+        uint8_t answer = lsc_feed_message(live, sizeof live, m->source, m->destination,
+                                          m->label, m->time);
+        if (lsc_standing(live, sizeof live, verdict, LSC_VERDICT_PLACES) != 0)
+            return 1;
+        tell(m, answer, verdict);
+    }
+    puts("STANDING KEPT DROPPED RECORDS BREAK REASON");
+    for (i = 0; i < LSC_VERDICT_PLACES; i++)
+        printf("%lu%c", (unsigned long)verdict[i], i + 1 < LSC_VERDICT_PLACES ? ' ' : '\n');
+    return 0;
+}

@@ -1,0 +1,52 @@
+//! Watches messages as they come: after undo, headings and references must come back, in
+//! either order, each within 40 ticks.
+//!
+//! `cargo run --example watch`. `watch.c` does the same in C.
+
+use lsc::LiveMonitor;
+use std::error::Error;
+use std::io::{self, Write};
+
+/// Chart U: 4 lines, 1 clock.
+const CHART: [u8; 38] = [
+    0x10, 4, 1, // heading
+    0x20, 0, 1, 0, 1, 0x40, 1,    // prechart: undo, 0 to 1, label 1, resets clock 0
+    0x50, // the main chart starts
+    0x20, 1, 0, 0, 2, 0x30, 0, 1, 0, 0, 0, 40, 0x32, // headings, 1 to 0, clock 0 <= 40, hot
+    0x20, 2, 3, 0, 3, 0x30, 0, 1, 0, 0, 0, 40, 0x32, // references, 2 to 3, likewise
+    0x7F,
+];
+
+const UNDO: (&str, u8, u8, u16) = ("undo", 0, 1, 1);
+const HEADINGS: (&str, u8, u8, u16) = ("headings", 1, 0, 2);
+const REFERENCES: (&str, u8, u8, u16) = ("references", 2, 3, 3);
+
+/// Feeds the messages and writes what the monitor says to each.
+pub fn watch(out: &mut dyn Write) -> Result<(), Box<dyn Error>> {
+    let messages = [
+        (UNDO, 100),
+        (HEADINGS, 120),
+        (REFERENCES, 140),
+        (HEADINGS, 150),
+        (UNDO, 200),
+        (REFERENCES, 199),
+        (REFERENCES, 230),
+        (HEADINGS, 241),
+        (UNDO, 300),
+    ];
+    let mut monitor = LiveMonitor::open(&CHART)?;
+    for ((name, source, destination, label), time) in messages {
+        match monitor.feed_message(source, destination, label, time) {
+            Ok(answer) => write!(out, "{name} at {time}: {answer}")?,
+            Err(refusal) => write!(out, "{name} at {time}: refused {}", refusal.number())?,
+        }
+        writeln!(out, "; standing {}", monitor.standing().standing.number())?;
+    }
+    writeln!(out, "STANDING KEPT DROPPED RECORDS BREAK REASON")?;
+    writeln!(out, "{}", monitor.standing())?;
+    Ok(())
+}
+
+fn main() -> Result<(), Box<dyn Error>> {
+    watch(&mut io::stdout())
+}

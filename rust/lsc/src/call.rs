@@ -1,0 +1,152 @@
+//! The static library's functions over slices: the numbers as they come, no `unsafe` for
+//! the caller. `include/lsc.h` says what each answers, writes and leaves.
+//!
+//! The functions have no preconditions beyond valid pointers and lengths: they are proved
+//! safe for every content of the bytes lent to them. They keep no pointer and no state.
+#![allow(unsafe_code)]
+
+use crate::raw;
+
+/// `lsc_judge`: 0 and the verdict, or the refusal's number and where; 12 for a short `out`.
+pub fn judge(chart: &[u8], log: &[u8], out: &mut [u64]) -> u8 {
+    // SAFETY: the pointers and lengths are those of slices borrowed for the whole call,
+    // `out` alone as mutable.
+    unsafe {
+        raw::lsc_judge(
+            chart.as_ptr(),
+            chart.len(),
+            log.as_ptr(),
+            log.len(),
+            out.as_mut_ptr(),
+            out.len(),
+        )
+    }
+}
+
+/// `lsc_print`: 0, the text in `out` and its length in `written`; 12 for a short `out`.
+pub fn print(input: &[u8], out: &mut [u8], written: &mut u64) -> u8 {
+    // SAFETY: the pointers and lengths are those of slices borrowed for the whole call, and
+    // `written` is a reference to one number; the mutable ones do not overlap.
+    unsafe {
+        raw::lsc_print(
+            input.as_ptr(),
+            input.len(),
+            out.as_mut_ptr(),
+            out.len(),
+            written,
+        )
+    }
+}
+
+/// `lsc_live_size`: the bytes that a live monitor takes.
+pub fn live_size(chart_length: usize) -> usize {
+    // SAFETY: the function takes and returns a number and touches no memory of the caller's.
+    unsafe { raw::lsc_live_size(chart_length) }
+}
+
+/// `lsc_open`: 0 and a fresh live monitor in `live`; the chart's refusal, or 12.
+pub fn open(chart: &[u8], live: &mut [u8], at: &mut u64) -> u8 {
+    // SAFETY: the pointers and lengths are those of slices borrowed for the whole call, and
+    // `at` is a reference to one number; the mutable ones do not overlap.
+    unsafe {
+        raw::lsc_open(
+            chart.as_ptr(),
+            chart.len(),
+            live.as_mut_ptr(),
+            live.len(),
+            at,
+        )
+    }
+}
+
+/// `lsc_feed_message`: an answer, 1 to 6, or a refusal, 20 to 23.
+pub fn feed_message(live: &mut [u8], source: u8, destination: u8, label: u16, time: u32) -> u8 {
+    // SAFETY: the pointer and length are those of a slice borrowed mutably for the call.
+    unsafe {
+        raw::lsc_feed_message(
+            live.as_mut_ptr(),
+            live.len(),
+            source,
+            destination,
+            label,
+            time,
+        )
+    }
+}
+
+/// `lsc_feed_time`: an answer, 1 to 6, or a refusal, 20 to 23.
+pub fn feed_time(live: &mut [u8], time: u32) -> u8 {
+    // SAFETY: the pointer and length are those of a slice borrowed mutably for the call.
+    unsafe { raw::lsc_feed_time(live.as_mut_ptr(), live.len(), time) }
+}
+
+/// `lsc_standing`: 0 and the verdict so far in `out`, or 20, 21, 12.
+pub fn standing(live: &[u8], out: &mut [u64]) -> u8 {
+    // SAFETY: the pointers and lengths are those of slices borrowed for the whole call,
+    // `out` alone as mutable.
+    unsafe { raw::lsc_standing(live.as_ptr(), live.len(), out.as_mut_ptr(), out.len()) }
+}
+
+/// `lsc_test_new` over images.
+#[cfg(feature = "testing")]
+pub fn test_new(chart: &[u8], monitor: &mut [u8]) -> u8 {
+    // SAFETY: the pointers and lengths are those of slices borrowed for the whole call,
+    // `monitor` alone as mutable.
+    unsafe {
+        raw::lsc_test_new(
+            chart.as_ptr(),
+            chart.len(),
+            monitor.as_mut_ptr(),
+            monitor.len(),
+        )
+    }
+}
+
+/// `lsc_test_feed_message` over images.
+#[cfg(feature = "testing")]
+pub fn test_feed_message(
+    chart: &[u8],
+    monitor: &mut [u8],
+    source: u8,
+    destination: u8,
+    label: u16,
+    time: u32,
+) -> u8 {
+    // SAFETY: the pointers and lengths are those of slices borrowed for the whole call,
+    // `monitor` alone as mutable.
+    unsafe {
+        raw::lsc_test_feed_message(
+            chart.as_ptr(),
+            chart.len(),
+            monitor.as_mut_ptr(),
+            monitor.len(),
+            source,
+            destination,
+            label,
+            time,
+        )
+    }
+}
+
+/// `lsc_test_feed_time` over images.
+#[cfg(feature = "testing")]
+pub fn test_feed_time(chart: &[u8], monitor: &mut [u8], time: u32) -> u8 {
+    // SAFETY: the pointers and lengths are those of slices borrowed for the whole call,
+    // `monitor` alone as mutable.
+    unsafe {
+        raw::lsc_test_feed_time(
+            chart.as_ptr(),
+            chart.len(),
+            monitor.as_mut_ptr(),
+            monitor.len(),
+            time,
+        )
+    }
+}
+
+/// `lsc_test_check`: the records of a log that has no fault, 1,000,001 for any other.
+#[cfg(feature = "testing")]
+pub fn test_check(log: &[u8]) -> u32 {
+    // SAFETY: the pointer and the length are those of a slice borrowed for the whole call.
+    unsafe { raw::lsc_test_check(log.as_ptr(), log.len()) }
+}

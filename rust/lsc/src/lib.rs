@@ -1,0 +1,78 @@
+//! A monitor over live sequence charts, proved from its bytes to its verdict.
+//!
+//! A chart says what must follow once a pattern of messages is seen, in what order and by
+//! when. The monitor reads a chart and timed messages, and says whether the chart was kept,
+//! is still owed, or was broken and at which record. This crate makes safe calls of the
+//! proved static library `liblsc.a`; it decides nothing by itself.
+//!
+//! [`judge`] takes a whole log. [`LiveMonitor`] takes one record at a time:
+//!
+//! ```
+//! use lsc::{Answer, LiveMonitor, Standing};
+//!
+//! // After undo (line 0 to 1, label 1), headings (1 to 0, label 2) and references (2 to 3,
+//! // label 3) come back in either order, each within 40 ticks.
+//! let chart = [
+//!     0x10, 4, 1, // 4 lines, 1 clock
+//!     0x20, 0, 1, 0, 1, 0x40, 1, // prechart: undo resets clock 0
+//!     0x50, // the main chart starts
+//!     0x20, 1, 0, 0, 2, 0x30, 0, 1, 0, 0, 0, 40, 0x32, // headings, clock 0 <= 40, hot
+//!     0x20, 2, 3, 0, 3, 0x30, 0, 1, 0, 0, 0, 40, 0x32, // references likewise
+//!     0x7F,
+//! ];
+//! let mut monitor = LiveMonitor::open(&chart)?;
+//! assert_eq!(monitor.feed_message(0, 1, 1, 100), Ok(Answer::Entered));
+//! assert_eq!(monitor.feed_message(2, 3, 3, 120), Ok(Answer::Moved));
+//! assert_eq!(monitor.standing().standing, Standing::Owed);
+//! assert_eq!(monitor.feed_message(1, 0, 2, 140), Ok(Answer::Kept));
+//! assert_eq!(monitor.standing().to_string(), "0 1 0 3 0 0");
+//!
+//! // The same as a log: a record byte, the message, the time.
+//! let log = [
+//!     1, 0, 1, 0, 1, 0, 0, 0, 100, //
+//!     1, 2, 3, 0, 3, 0, 0, 0, 120, //
+//!     1, 1, 0, 0, 2, 0, 0, 0, 140,
+//! ];
+//! let verdict = lsc::judge(&chart, &log)?;
+//! assert_eq!((verdict.standing, verdict.kept), (Standing::Open, 1));
+//! # Ok::<(), lsc::Refusal>(())
+//! ```
+#![deny(unsafe_code)]
+#![warn(missing_docs)]
+
+pub mod call;
+mod live;
+#[allow(missing_docs)]
+pub mod raw;
+mod values;
+
+pub use live::LiveMonitor;
+pub use values::{Answer, FeedRefusal, Part, Refusal, Standing, Verdict};
+
+/// The places of `out` for a text: `lsc_print` writes at most so many bytes.
+const TEXT_ROOM: usize = 169;
+
+/// Judges a whole log by a chart; both as bytes.
+///
+/// The chart is read first; then the whole log is checked before a record is taken.
+pub fn judge(chart: &[u8], log: &[u8]) -> Result<Verdict, Refusal> {
+    let mut out = [0; 6];
+    match call::judge(chart, log, &mut out) {
+        0 => Ok(Verdict::of(&out)),
+        number => Err(Refusal {
+            part: if out[0] == 1 { Part::Chart } else { Part::Log },
+            number,
+            offset: out[2] as usize,
+        }),
+    }
+}
+
+/// What the printing program prints for its input: the chart's length (2 bytes, most
+/// significant first), the chart, the log.
+pub fn print(input: &[u8]) -> String {
+    let mut out = [0; TEXT_ROOM];
+    let mut written = 0;
+    call::print(input, &mut out, &mut written);
+    let text = &out[..(written as usize).min(TEXT_ROOM)];
+    text.iter().map(|&byte| char::from(byte)).collect()
+}

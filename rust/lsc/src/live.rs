@@ -1,0 +1,96 @@
+//! A monitor that takes one record at a time.
+
+use crate::call;
+use crate::values::{Answer, FeedRefusal, Part, Refusal, Verdict};
+
+/// Where the break's record stands in a monitor's image; its reason is the byte behind.
+const BREAK: usize = 52;
+
+/// A monitor with its chart, in bytes of its own that can be stored and taken up again.
+///
+/// The bytes always hold a live monitor that is fit: [`open`](LiveMonitor::open) makes
+/// one, [`from_bytes`](LiveMonitor::from_bytes) lets in no other, and feeding keeps it so.
+#[derive(Clone, Debug, PartialEq, Eq)]
+pub struct LiveMonitor {
+    bytes: Vec<u8>,
+}
+
+impl LiveMonitor {
+    /// A fresh monitor of the chart, or the chart's refusal.
+    pub fn open(chart: &[u8]) -> Result<LiveMonitor, Refusal> {
+        let mut bytes = vec![0; call::live_size(chart.len())];
+        let mut at = 0;
+        match call::open(chart, &mut bytes, &mut at) {
+            0 => Ok(LiveMonitor { bytes }),
+            number => Err(Refusal {
+                part: Part::Chart,
+                number,
+                offset: at as usize,
+            }),
+        }
+    }
+
+    /// Takes up a monitor from the bytes of an earlier one. Refused with 20 or 21 if they
+    /// hold no live monitor, or an unfit one. Bytes behind the chart are kept and not read.
+    pub fn from_bytes(bytes: Vec<u8>) -> Result<LiveMonitor, FeedRefusal> {
+        match call::standing(&bytes, &mut [0; 6]) {
+            0 => Ok(LiveMonitor { bytes }),
+            number => Err(FeedRefusal::of(number)),
+        }
+    }
+
+    /// The bytes: the monitor's image (57), the chart's length (8), the chart; numbers most
+    /// significant byte first.
+    pub fn as_bytes(&self) -> &[u8] {
+        &self.bytes
+    }
+
+    /// The bytes, given away.
+    pub fn into_bytes(self) -> Vec<u8> {
+        self.bytes
+    }
+
+    /// Feeds a message. A refusal (22, 23) changes nothing; behind a break the answer is
+    /// [`Answer::Broken`] again and nothing changes.
+    pub fn feed_message(
+        &mut self,
+        source: u8,
+        destination: u8,
+        label: u16,
+        time: u32,
+    ) -> Result<Answer, FeedRefusal> {
+        let number = call::feed_message(&mut self.bytes, source, destination, label, time);
+        self.answer(number)
+    }
+
+    /// Feeds a record of time. Refusals as for a message.
+    pub fn feed_time(&mut self, time: u32) -> Result<Answer, FeedRefusal> {
+        let number = call::feed_time(&mut self.bytes, time);
+        self.answer(number)
+    }
+
+    /// How the chart stands after the records fed so far.
+    pub fn standing(&self) -> Verdict {
+        let mut out = [0; 6];
+        let number = call::standing(&self.bytes, &mut out);
+        debug_assert_eq!(number, 0, "the bytes hold a fit live monitor");
+        Verdict::of(&out)
+    }
+
+    /// The answer of a number; the break is read from the image.
+    fn answer(&self, number: u8) -> Result<Answer, FeedRefusal> {
+        let image = &self.bytes[BREAK..BREAK + 5];
+        match number {
+            1 => Ok(Answer::Broken {
+                record: u32::from_be_bytes([image[0], image[1], image[2], image[3]]),
+                reason: image[4],
+            }),
+            2 => Ok(Answer::Kept),
+            3 => Ok(Answer::Dropped),
+            4 => Ok(Answer::Entered),
+            5 => Ok(Answer::Moved),
+            6 => Ok(Answer::Quiet),
+            refused => Err(FeedRefusal::of(refused)),
+        }
+    }
+}

@@ -1,0 +1,201 @@
+//! Verdicts, answers and refusals.
+
+use std::error::Error;
+use std::fmt;
+
+/// How a chart stands.
+#[derive(Clone, Copy, Debug, PartialEq, Eq, Hash)]
+pub enum Standing {
+    /// 0: nothing is fired.
+    Open,
+    /// 1: a round runs, in the prechart.
+    Prechart,
+    /// 2: the prechart is complete, the main chart is owed.
+    Owed,
+    /// 3: broken, for good.
+    Broken,
+}
+
+impl Standing {
+    /// The number that the verdict prints.
+    pub fn number(self) -> u8 {
+        match self {
+            Standing::Open => 0,
+            Standing::Prechart => 1,
+            Standing::Owed => 2,
+            Standing::Broken => 3,
+        }
+    }
+
+    fn of(number: u64) -> Standing {
+        match number {
+            0 => Standing::Open,
+            1 => Standing::Prechart,
+            2 => Standing::Owed,
+            _ => Standing::Broken,
+        }
+    }
+}
+
+/// What is known behind a log, or so far.
+#[derive(Clone, Copy, Debug, PartialEq, Eq, Hash)]
+pub struct Verdict {
+    /// How the chart stands.
+    pub standing: Standing,
+    /// Rounds kept.
+    pub kept: u32,
+    /// Rounds dropped.
+    pub dropped: u32,
+    /// Records taken, up to the break if there is one.
+    pub records: u32,
+    /// The record that broke the chart, counted from 1; 0 if none did.
+    pub break_record: u32,
+    /// 1: a message of the chart came out of order. 2: a hot condition failed. 0: no break.
+    pub reason: u8,
+}
+
+impl Verdict {
+    pub(crate) fn of(out: &[u64; 6]) -> Verdict {
+        Verdict {
+            standing: Standing::of(out[0]),
+            kept: out[1] as u32,
+            dropped: out[2] as u32,
+            records: out[3] as u32,
+            break_record: out[4] as u32,
+            reason: out[5] as u8,
+        }
+    }
+}
+
+/// The six numbers in the printing program's order.
+impl fmt::Display for Verdict {
+    fn fmt(&self, f: &mut fmt::Formatter<'_>) -> fmt::Result {
+        write!(
+            f,
+            "{} {} {} {} {} {}",
+            self.standing.number(),
+            self.kept,
+            self.dropped,
+            self.records,
+            self.break_record,
+            self.reason
+        )
+    }
+}
+
+/// What a record did.
+#[derive(Clone, Copy, Debug, PartialEq, Eq, Hash)]
+pub enum Answer {
+    /// The chart is broken, by this record or an earlier one.
+    Broken {
+        /// The record that broke it, counted from 1.
+        record: u32,
+        /// 1: a message out of order. 2: a failed hot condition.
+        reason: u8,
+    },
+    /// The round is complete.
+    Kept,
+    /// The round is given up.
+    Dropped,
+    /// The prechart was completed.
+    Entered,
+    /// Something fired.
+    Moved,
+    /// Nothing fired.
+    Quiet,
+}
+
+impl fmt::Display for Answer {
+    fn fmt(&self, f: &mut fmt::Formatter<'_>) -> fmt::Result {
+        match self {
+            Answer::Broken { record, reason } => {
+                write!(f, "broken at record {record}, reason {reason}")
+            }
+            Answer::Kept => f.write_str("kept"),
+            Answer::Dropped => f.write_str("dropped"),
+            Answer::Entered => f.write_str("entered"),
+            Answer::Moved => f.write_str("moved"),
+            Answer::Quiet => f.write_str("quiet"),
+        }
+    }
+}
+
+/// Which part of the input is refused.
+#[derive(Clone, Copy, Debug, PartialEq, Eq, Hash)]
+pub enum Part {
+    /// The chart's bytes, numbers 1 to 11.
+    Chart,
+    /// The log's bytes, numbers 22, 23, 30, 31.
+    Log,
+}
+
+/// Refused bytes: the fault's number, and where it stands in its part.
+#[derive(Clone, Copy, Debug, PartialEq, Eq, Hash)]
+pub struct Refusal {
+    /// The part at fault.
+    pub part: Part,
+    /// The fault's number.
+    pub number: u8,
+    /// The offset within the part.
+    pub offset: usize,
+}
+
+impl fmt::Display for Refusal {
+    fn fmt(&self, f: &mut fmt::Formatter<'_>) -> fmt::Result {
+        let part = match self.part {
+            Part::Chart => "chart",
+            Part::Log => "log",
+        };
+        write!(f, "refused {part} {} at {}", self.number, self.offset)
+    }
+}
+
+impl Error for Refusal {}
+
+/// A record, or bytes for a live monitor, that are refused.
+#[derive(Clone, Copy, Debug, PartialEq, Eq, Hash)]
+pub enum FeedRefusal {
+    /// 20: the bytes hold no live monitor.
+    NoLiveMonitor,
+    /// 21: the bytes hold a monitor that no feeding gives.
+    Unfit,
+    /// 22: the record's time is below the one before.
+    TimeFalls,
+    /// 23: 1,000,000 records were taken.
+    Full,
+}
+
+impl FeedRefusal {
+    /// The refusal's number.
+    pub fn number(self) -> u8 {
+        match self {
+            FeedRefusal::NoLiveMonitor => 20,
+            FeedRefusal::Unfit => 21,
+            FeedRefusal::TimeFalls => 22,
+            FeedRefusal::Full => 23,
+        }
+    }
+
+    pub(crate) fn of(number: u8) -> FeedRefusal {
+        match number {
+            21 => FeedRefusal::Unfit,
+            22 => FeedRefusal::TimeFalls,
+            23 => FeedRefusal::Full,
+            _ => FeedRefusal::NoLiveMonitor,
+        }
+    }
+}
+
+impl fmt::Display for FeedRefusal {
+    fn fmt(&self, f: &mut fmt::Formatter<'_>) -> fmt::Result {
+        let what = match self {
+            FeedRefusal::NoLiveMonitor => "the bytes hold no live monitor",
+            FeedRefusal::Unfit => "the monitor is unfit",
+            FeedRefusal::TimeFalls => "the time falls",
+            FeedRefusal::Full => "1,000,000 records were taken",
+        };
+        write!(f, "refused {}: {what}", self.number())
+    }
+}
+
+impl Error for FeedRefusal {}

@@ -1,0 +1,46 @@
+//! The C example and the header: compiled without a warning, linked, run, compared.
+
+use std::path::{Path, PathBuf};
+use std::process::Command;
+
+const EXPECTED: &str = include_str!("../examples/watch.expected");
+
+fn package() -> PathBuf {
+    PathBuf::from(env!("CARGO_MANIFEST_DIR"))
+}
+
+/// Runs a command and gives its standard output; fails with what it says if it fails.
+fn run(command: &mut Command) -> String {
+    let output = command
+        .output()
+        .unwrap_or_else(|fault| panic!("{command:?}: {fault}"));
+    let said = String::from_utf8_lossy(&output.stderr);
+    assert!(output.status.success(), "{command:?}\n{said}");
+    String::from_utf8(output.stdout).expect("text")
+}
+
+fn gcc(standard: &str) -> Command {
+    let mut command = Command::new("gcc");
+    command.args([standard, "-Wall", "-Wextra", "-Werror", "-pedantic", "-I"]);
+    command.arg(package().join("../include"));
+    command
+}
+
+#[test]
+fn the_c_example_says_what_is_expected() {
+    let program = Path::new(env!("CARGO_TARGET_TMPDIR")).join("watch_c");
+    run(gcc("-std=c99")
+        .arg(package().join("examples/watch.c"))
+        .arg(env!("LSC_ARCHIVE"))
+        .arg("-o")
+        .arg(&program));
+    assert_eq!(run(&mut Command::new(program)), EXPECTED);
+}
+
+#[test]
+fn the_header_stands_alone_and_twice() {
+    let source = Path::new(env!("CARGO_TARGET_TMPDIR")).join("header_alone.c");
+    let text = "#include \"lsc.h\"\n#include \"lsc.h\"\nint unused_by_any;\n";
+    std::fs::write(&source, text).expect("the folder for tests can be written");
+    run(gcc("-std=c99").arg("-fsyntax-only").arg(&source));
+}

@@ -1,0 +1,120 @@
+//! Reading one record, and judging a whole log.
+
+use crate::monitor::{feed_fit, in_prechart, Order};
+use crate::value::*;
+use crate::well_formed::is_given;
+
+/// What reading one record says. The place behind a taken record stands with it; in the
+/// other cases the place stays.
+#[derive(Clone, Copy, Debug, PartialEq, Eq)]
+pub enum Next {
+    End,
+    Refused(u8),
+    Taken(RecordValue, usize),
+}
+
+/// "The verdict is standing, kept, dropped, records (to the break if there is one), break,
+/// reason."
+#[derive(Clone, Copy, Debug, PartialEq, Eq)]
+pub struct Verdict {
+    pub standing: u8,
+    pub kept: u32,
+    pub dropped: u32,
+    pub records: u32,
+    pub break_record: u32,
+    pub reason: u8,
+}
+
+impl Verdict {
+    /// "A refusal gives zeros for the verdict."
+    pub const ZERO: Verdict = Verdict {
+        standing: 0,
+        kept: 0,
+        dropped: 0,
+        records: 0,
+        break_record: 0,
+        reason: 0,
+    };
+}
+
+/// "With the place at or past the end of the bytes, it says 'end'; otherwise 31 or 30 as in
+/// judging, or the record. The place moves only when a record is handed out, to just behind
+/// it."
+pub fn read_record(bytes: &[u8], place: usize) -> Next {
+    if place >= bytes.len() {
+        return Next::End;
+    }
+    let rest = &bytes[place..];
+    let length = match rest[0] {
+        1 => 9,
+        2 => 5,
+        _ => return Next::Refused(31),
+    };
+    if rest.len() < length {
+        return Next::Refused(30);
+    }
+    match RecordValue::from_image(&rest[..length]) {
+        Some(record) => Next::Taken(record, place + length),
+        None => Next::Refused(31),
+    }
+}
+
+/// The log's records, or its first fault: "31 unknown record byte; 30 cut short; 22 a time
+/// below the one before; 23 as above. All are checked before a record is fed."
+pub fn read_log(bytes: &[u8]) -> Result<Vec<RecordValue>, (u8, usize)> {
+    let mut records: Vec<RecordValue> = Vec::new();
+    let mut place = 0;
+    loop {
+        match read_record(bytes, place) {
+            Next::End => return Ok(records),
+            Next::Refused(code) => return Err((code, place)),
+            Next::Taken(record, behind) => {
+                if let Some(last) = records.last() {
+                    if record.time() < last.time() {
+                        return Err((22, place));
+                    }
+                }
+                if records.len() == MAX_RECORDS as usize {
+                    return Err((23, place));
+                }
+                records.push(record);
+                place = behind;
+            }
+        }
+    }
+}
+
+/// "Standing, the first that applies: 3 broken, 0 nothing fired (also where there is no
+/// prechart; choice), 1 in the prechart, 2 owed in the main chart."
+pub fn standing(chart: &ChartValue, monitor: &MonitorValue) -> u8 {
+    if monitor.reason != 0 {
+        3
+    } else if monitor.fired == 0 {
+        0
+    } else if in_prechart(chart, monitor.fired) {
+        1
+    } else {
+        2
+    }
+}
+
+/// "Judging a whole log. 20 (offset 0), then each record from the left, with its offset."
+pub fn judge(chart: &ChartValue, bytes: &[u8]) -> Result<Verdict, (u8, usize)> {
+    if !is_given(chart) {
+        return Err((20, 0));
+    }
+    let records = read_log(bytes)?;
+    let order = Order::of(chart);
+    let mut monitor = MonitorValue::ZERO;
+    for record in records {
+        monitor = feed_fit(chart, &order, monitor, record).1;
+    }
+    Ok(Verdict {
+        standing: standing(chart, &monitor),
+        kept: monitor.kept,
+        dropped: monitor.dropped,
+        records: monitor.records,
+        break_record: monitor.break_record,
+        reason: monitor.reason,
+    })
+}

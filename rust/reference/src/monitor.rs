@@ -1,0 +1,324 @@
+//! The monitor: "How a record is taken", steps 1 to 7, with sets as rows of flags.
+
+use crate::value::*;
+use crate::well_formed::is_given;
+
+/// "Above" over a chart's regions.
+pub struct Order {
+    /// `above[b][a]`: region a is above region b.
+    above: Vec<Vec<bool>>,
+}
+
+/// Whether the region touches the line.
+fn touches(region: &RegionValue, line: u8) -> bool {
+    match region.event {
+        EventValue::Message {
+            source,
+            destination,
+            ..
+        } => line == source || line == destination,
+        EventValue::Plain(lines) => (lines >> line) & 1 == 1,
+    }
+}
+
+impl Order {
+    /// "Region a is directly above b if a has the lower number, both are in the same half,
+    /// and they share a line. 'Above' is the transitive closure. Every prechart region is
+    /// also above every main region."
+    pub fn of(chart: &ChartValue) -> Order {
+        let count = usize::from(chart.count);
+        let prechart = usize::from(chart.prechart);
+        let mut above = vec![vec![false; count]; count];
+        for (b, row) in above.iter_mut().enumerate() {
+            for (a, flag) in row.iter_mut().enumerate() {
+                let same_half = (a < prechart) == (b < prechart);
+                let share = (0..chart.lines).any(|line| {
+                    touches(&chart.regions[a], line) && touches(&chart.regions[b], line)
+                });
+                *flag = a < b && same_half && share;
+            }
+        }
+        for middle in 0..count {
+            let over_middle = above[middle].clone();
+            for row in above.iter_mut() {
+                if row[middle] {
+                    for (flag, over) in row.iter_mut().zip(&over_middle) {
+                        *flag |= over;
+                    }
+                }
+            }
+        }
+        for (b, row) in above.iter_mut().enumerate() {
+            for (a, flag) in row.iter_mut().enumerate() {
+                *flag |= a < prechart && b >= prechart;
+            }
+        }
+        Order { above }
+    }
+
+    /// Whether region a (from 0) is above region b (from 0).
+    pub fn is_above(&self, a: usize, b: usize) -> bool {
+        self.above[b][a]
+    }
+}
+
+/// Whether the set of fired regions has region `region` (from 0).
+fn has(fired: u32, region: usize) -> bool {
+    (fired >> region) & 1 == 1
+}
+
+/// "A region is ready if it isn't fired and all above it are."
+fn is_ready(chart: &ChartValue, order: &Order, fired: u32, region: usize) -> bool {
+    let count = usize::from(chart.count);
+    !has(fired, region) && (0..count).all(|a| !order.is_above(a, region) || has(fired, a))
+}
+
+fn is_plain(region: &RegionValue) -> bool {
+    matches!(region.event, EventValue::Plain(_))
+}
+
+/// The lowest-numbered ready plain region.
+fn ready_plain(chart: &ChartValue, order: &Order, fired: u32) -> Option<usize> {
+    (0..usize::from(chart.count))
+        .find(|&r| is_plain(&chart.regions[r]) && is_ready(chart, order, fired, r))
+}
+
+/// "The phase is prechart while a prechart region is unfired, else main."
+pub fn in_prechart(chart: &ChartValue, fired: u32) -> bool {
+    (0..usize::from(chart.prechart)).any(|region| !has(fired, region))
+}
+
+fn all_fired(chart: &ChartValue, fired: u32) -> bool {
+    (0..usize::from(chart.count)).all(|region| has(fired, region))
+}
+
+/// Whether the region's condition holds. "A clock's value is now minus its reset moment.
+/// 'First minus second' is the exact signed difference."
+fn condition_holds(region: &RegionValue, now: u32, resets: &[u32; MAX_CLOCKS]) -> bool {
+    let value = |clock: u8| i64::from(now) - i64::from(resets[usize::from(clock)]);
+    region.terms[..usize::from(region.term_count)]
+        .iter()
+        .all(|term| {
+            let left = match term.left {
+                LeftValue::Clock(clock) => value(clock),
+                LeftValue::Difference(first, second) => value(first) - value(second),
+            };
+            let n = i64::from(term.n);
+            match term.relation {
+                0 => left < n,
+                1 => left <= n,
+                2 => left == n,
+                3 => left >= n,
+                _ => left > n,
+            }
+        })
+}
+
+/// "Making a monitor": a fresh one, or refusal 20.
+pub fn new(chart: &ChartValue) -> Result<MonitorValue, u8> {
+    if is_given(chart) {
+        Ok(MonitorValue::ZERO)
+    } else {
+        Err(20)
+    }
+}
+
+/// "A monitor is fit if ..."; false for a chart that no accepted bytes give.
+pub fn is_fit(chart: &ChartValue, monitor: &MonitorValue) -> bool {
+    is_given(chart) && is_fit_under(chart, &Order::of(chart), monitor)
+}
+
+fn is_fit_under(chart: &ChartValue, order: &Order, monitor: &MonitorValue) -> bool {
+    let count = usize::from(chart.count);
+    let fired = monitor.fired;
+    // "all above a fired region are fired"
+    let closed = (0..count)
+        .all(|b| !has(fired, b) || (0..count).all(|a| !order.is_above(a, b) || has(fired, a)));
+    // "no fired region is beyond the chart"
+    let within = (count..MAX_REGIONS).all(|region| !has(fired, region));
+    // "not all are fired"
+    let unfinished = !all_fired(chart, fired);
+    // "no plain region is ready unless broken"
+    let broken = monitor.break_record != 0 || monitor.reason != 0;
+    let settled = broken || ready_plain(chart, order, fired).is_none();
+    // "reset moments are at most now, unused ones zero"
+    let clocks = usize::from(chart.clocks);
+    let moments = monitor.resets.iter().enumerate().all(|(clock, &moment)| {
+        if clock < clocks {
+            moment <= monitor.now
+        } else {
+            moment == 0
+        }
+    });
+    // "records are at most 1,000,000; kept plus dropped is at most records"
+    let counts = monitor.records <= MAX_RECORDS
+        && u64::from(monitor.kept) + u64::from(monitor.dropped) <= u64::from(monitor.records);
+    // "the break is two zeros, or a record from 1 to the count with reason 1 or 2"
+    let break_fits = match monitor.reason {
+        0 => monitor.break_record == 0,
+        1 | 2 => (1..=monitor.records).contains(&monitor.break_record),
+        _ => false,
+    };
+    closed && within && unfinished && settled && moments && counts && break_fits
+}
+
+/// "Feeding a record": refusals 20, 21, then broken again, then 22, 23, then the steps. "A
+/// refusal gives the monitor as it came."
+pub fn feed(
+    chart: &ChartValue,
+    monitor: MonitorValue,
+    record: RecordValue,
+) -> (Answer, MonitorValue) {
+    if !is_given(chart) {
+        return (Answer::Refused(20), monitor);
+    }
+    let order = Order::of(chart);
+    if !is_fit_under(chart, &order, &monitor) {
+        return (Answer::Refused(21), monitor);
+    }
+    feed_fit(chart, &order, monitor, record)
+}
+
+/// Feeding behind refusals 20 and 21.
+pub fn feed_fit(
+    chart: &ChartValue,
+    order: &Order,
+    monitor: MonitorValue,
+    record: RecordValue,
+) -> (Answer, MonitorValue) {
+    if monitor.reason != 0 {
+        let again = Answer::Broken {
+            record: monitor.break_record,
+            reason: monitor.reason,
+        };
+        return (again, monitor);
+    }
+    if record.time() < monitor.now {
+        return (Answer::Refused(22), monitor);
+    }
+    if monitor.records == MAX_RECORDS {
+        return (Answer::Refused(23), monitor);
+    }
+    take(chart, order, monitor, record)
+}
+
+/// Steps 1 to 7.
+fn take(
+    chart: &ChartValue,
+    order: &Order,
+    before: MonitorValue,
+    record: RecordValue,
+) -> (Answer, MonitorValue) {
+    let count = usize::from(chart.count);
+
+    // 1. "The record is counted; now becomes its time."
+    let mut after = before;
+    after.records += 1;
+    after.now = record.time();
+
+    // 2. "A record of time, or a message that no region of either half has (source, label
+    // and destination all equal), does nothing more."
+    let carried: Vec<usize> = (0..count)
+        .filter(|&region| has_message(&chart.regions[region], &record))
+        .collect();
+    if carried.is_empty() {
+        return (Answer::Quiet, after);
+    }
+
+    // 3. "A message with a ready region that has it"
+    let ready = carried
+        .into_iter()
+        .find(|&region| is_ready(chart, order, before.fired, region));
+
+    // 6. "A chart message with no ready region: in the prechart the round is dropped; in
+    // the main chart the round is broken, reason 1."
+    let Some(first) = ready else {
+        return if in_prechart(chart, before.fired) {
+            drop_round(chart, after)
+        } else {
+            break_round(after, 1)
+        };
+    };
+
+    // 3 and 4. The message region, then "while a plain region is ready, the lowest-numbered
+    // is tested and fired likewise, at the same moment".
+    let mut next = Some(first);
+    while let Some(place) = next {
+        let region = &chart.regions[place];
+        // "the condition is tested on the clocks before the region's own resets"
+        if !condition_holds(region, after.now, &after.resets) {
+            // 7. "A condition that fails: cold, the round is dropped; hot, broken, reason 2."
+            return if region.hot {
+                break_round(after, 2)
+            } else {
+                drop_round(chart, after)
+            };
+        }
+        after.fired |= 1 << place;
+        for clock in 0..MAX_CLOCKS {
+            if (region.resets >> clock) & 1 == 1 {
+                after.resets[clock] = after.now;
+            }
+        }
+        next = ready_plain(chart, order, after.fired);
+    }
+
+    // 5. "When all regions are fired, the round is kept."
+    if all_fired(chart, after.fired) {
+        after.kept += 1;
+        return (Answer::Kept, reopen(chart, after));
+    }
+    // "entered (the prechart was completed), moved (something fired)"
+    if in_prechart(chart, before.fired) && !in_prechart(chart, after.fired) {
+        (Answer::Entered, after)
+    } else {
+        (Answer::Moved, after)
+    }
+}
+
+/// "source, label and destination all equal"
+fn has_message(region: &RegionValue, record: &RecordValue) -> bool {
+    match (region.event, *record) {
+        (
+            EventValue::Message {
+                source: s,
+                destination: d,
+                label: l,
+            },
+            RecordValue::Message {
+                source,
+                destination,
+                label,
+                ..
+            },
+        ) => s == source && d == destination && l == label,
+        _ => false,
+    }
+}
+
+/// "Kept or dropped returns to the opening: nothing fired, every clock reset at that
+/// moment". Every clock of the chart: unused reset moments stay zero.
+fn reopen(chart: &ChartValue, mut monitor: MonitorValue) -> MonitorValue {
+    monitor.fired = 0;
+    for clock in 0..usize::from(chart.clocks) {
+        monitor.resets[clock] = monitor.now;
+    }
+    monitor
+}
+
+fn drop_round(chart: &ChartValue, mut monitor: MonitorValue) -> (Answer, MonitorValue) {
+    monitor.dropped += 1;
+    (Answer::Dropped, reopen(chart, monitor))
+}
+
+/// "A break stores its record and reason; fired regions and clocks are those just before
+/// the failing region, or, for reason 1, before the record."
+fn break_round(mut monitor: MonitorValue, reason: u8) -> (Answer, MonitorValue) {
+    monitor.break_record = monitor.records;
+    monitor.reason = reason;
+    let answer = Answer::Broken {
+        record: monitor.break_record,
+        reason,
+    };
+    (answer, monitor)
+}

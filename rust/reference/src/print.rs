@@ -1,0 +1,50 @@
+//! The printing program, as a function from its whole input to its text.
+
+use crate::log::judge;
+use crate::reader::read_chart;
+
+/// "It prints a header and the verdict's fields".
+pub const HEADER: &str = "STANDING KEPT DROPPED RECORDS BREAK REASON";
+
+/// "It reads standard input: chart length (2 bytes, most significant first), chart, log."
+pub fn respond(input: &[u8]) -> String {
+    // "`refused input 40 at 0` (over 65,536 bytes)"
+    if input.len() > 65_536 {
+        return refused("input", 40, 0);
+    }
+    // "`refused input 41 at 0` (under 2 bytes, or a length beyond the rest)"
+    if input.len() < 2 {
+        return refused("input", 41, 0);
+    }
+    let length = usize::from(u16::from_be_bytes([input[0], input[1]]));
+    let rest = &input[2..];
+    if length > rest.len() {
+        return refused("input", 41, 0);
+    }
+    // "`refused chart N at O`, `refused log N at O`, tried in this order, O counted within
+    // its part"
+    let (chart, log) = rest.split_at(length);
+    let chart = match read_chart(chart) {
+        Ok(chart) => chart,
+        Err((code, offset)) => return refused("chart", code, offset),
+    };
+    // "the verdict's fields in their order, decimal, one space between, a line feed after
+    // each line"
+    match judge(&chart, log) {
+        Err((code, offset)) => refused("log", code, offset),
+        Ok(verdict) => format!(
+            "{}\n{} {} {} {} {} {}\n",
+            HEADER,
+            verdict.standing,
+            verdict.kept,
+            verdict.dropped,
+            verdict.records,
+            verdict.break_record,
+            verdict.reason
+        ),
+    }
+}
+
+fn refused(part: &str, code: u8, offset: usize) -> String {
+    format!("refused {part} {code} at {offset}\n")
+}
