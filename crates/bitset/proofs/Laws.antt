@@ -1,13 +1,13 @@
 -- What callers use of sets: the members of each operation's result, and that a set is its members.
 -- Assumes nothing.
 use mathlib.Core.Path.{_≡_, refl, sym, ap, ap₂, _∙_}
-use mathlib.Core.Bool.{Bool, true, false, true≢false, false≢true, _||_, _&&_}
+use mathlib.Core.Bool.{Bool, true, false, true≢false, false≢true, not, _||_, _&&_}
 use Prim.Native.Nat.{ℕ, zero, suc, _+_, _-_, _*_, _/_, _%_, _^_, _≤_, _<_, min, max, zero-le}
-use native.Mathlib.Decide.{decLt}
+use native.Mathlib.Decide.{decLt, ℕ-discrete}
 use native.Mathlib.Nat.{lt-of-le-of-lt, lt-of-lt-of-le, div-eq-of-lt, one-mul, div-one, zero-div, div-add-mod', pow-suc}
 use native.Mathlib.Numerals.{one-add}
 use native.Mathlib.Omega.{arith}
-use borrow.Author.Tests.{lt-ltb, ltb-true, le-ltb, eqb-true, eq-eqb}
+use borrow.Author.Tests.{lt-ltb, ltb-true, le-ltb, eqb-true, eq-eqb, ne-eqb}
 use lib.Dec.{eqb, ltb, leb·suc-suc, eqb·zero-suc, eqb·suc-zero, eqb·suc-suc}
 use lib.Pow.{pow-lt, pow-mono, pow-pos, shr-shr, low}
 use lib.Arith.{lt-one, bin-ind}
@@ -195,3 +195,39 @@ trailing-few n k s h = elim (decLt n (trailingZeros k (s + 1))) [
   | yes l ↦ absurd (omega (arith, member-lt n s n h (trailing-members k s n l)))
   | no l ↦ omega arith
 ]
+
+even : (s : ℕ) → (s + 1) % 2 ≡ 1 → contains s 0 ≡ false
+unfolding contains
+even s e = ne-eqb (s / 1 % 2) 1 (rw (div-one s) (λ f. omega arith))
+
+-- and the number at their count is none
+pub trailing-gap : (k s : ℕ) → s < 2 ^ k → contains s (trailingZeros k (s + 1)) ≡ false
+unfolding trailingZeros
+trailing-gap zero s h = let e : s ≡ 0 = omega arith in rw e (contains-empty 0)
+trailing-gap (suc k) s h = by ((s + 1) % 2) refl (trailing-gap k (s / 2) (let m : 2 ^ suc k ≡ 2 ^ k * 2 = pow-suc 2 k in omega arith))
+  where
+    by : (r : ℕ) → (s + 1) % 2 ≡ r → contains (s / 2) (trailingZeros k (s / 2 + 1)) ≡ false
+        → contains s (under r (trailingZeros k ((s + 1) / 2))) ≡ false
+    by zero e ih =
+        let q : (s + 1) / 2 ≡ s / 2 + 1 = omega arith in
+        rw q (sym (contains-half s (trailingZeros k (s / 2 + 1))) ∙ ih)
+    by (suc r) e ih = even s (omega arith)
+
+-- the members of the complement
+other-digit : (m s : ℕ) → s < m * 2 → eqb ((m * 2 - 1 - s) % 2) 1 ≡ not (eqb (s % 2) 1)
+other-digit m s h = elim (ℕ-discrete (s % 2) 1) [
+  | yes e ↦ rw (eq-eqb (s % 2) 1 e) (ne-eqb ((m * 2 - 1 - s) % 2) 1 (λ f. omega arith))
+  | no e ↦ rw (ne-eqb (s % 2) 1 e) (eq-eqb ((m * 2 - 1 - s) % 2) 1 (omega arith))
+]
+
+pub contains-others : (k s i : ℕ) → s < 2 ^ k → i < k → contains (2 ^ k - 1 - s) i ≡ not (contains s i)
+unfolding contains
+contains-others zero s i h l = absurd (omega arith)
+contains-others (suc k) s zero h l =
+    let m : 2 ^ suc k ≡ 2 ^ k * 2 = pow-suc 2 k in
+    rw (m, div-one (2 ^ k * 2 - 1 - s), div-one s) (other-digit (2 ^ k) s (omega arith))
+contains-others (suc k) s (suc i) h l =
+    let m : 2 ^ suc k ≡ 2 ^ k * 2 = pow-suc 2 k in
+    let q : (2 ^ suc k - 1 - s) / 2 ≡ 2 ^ k - 1 - s / 2 = omega arith in
+    sym (contains-half (2 ^ suc k - 1 - s) i) ∙ ap (λ (x : ℕ). contains x i) q
+    ∙ contains-others k (s / 2) i (omega arith) (omega arith) ∙ ap not (contains-half s i)

@@ -1,6 +1,6 @@
 // Sets of numbers below 32, as the bits of a u32.
 ghost use mathlib.Core.Path.{_≡_};
-ghost use mathlib.Core.Bool.{So};
+ghost use mathlib.Core.Bool.{So, false, not};
 ghost use Prim.Native.Nat.{ℕ, _<_, _≤_};
 ghost use Rattle.bitset.specs.Set.{contains, inserted, isSubset, union, within};
 
@@ -39,9 +39,17 @@ fn wide(set: u32) -> u64
 // How many numbers from 0 on are members, up to the first that is none.
 pub fn run(set: u32) -> u32
     ensures members { λ r. ⌜ ((i : ℕ) → i < r → So (contains set i)) ⌝ }
+    ensures gap { λ r. ⌜ contains set r ≡ false ⌝ }
     ensures few { λ r. ⌜ r ≤ 32 ⌝ }
 {
     u64::trailing_zeros(wide(set) + 1)
+}
+
+// The numbers below 32 that are no members.
+pub fn others(set: u32) -> u32
+    ensures { λ r. ⌜ ((i : ℕ) → i < 32 → contains r i ≡ not (contains set i)) ⌝ }
+{
+    !set
 }
 
 // Every member is below n.

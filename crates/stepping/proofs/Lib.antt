@@ -1,5 +1,6 @@
 pub mod Loops
 pub mod Terms
+pub mod Skips
 pub mod Ready
 pub mod Scan
 pub mod Fires

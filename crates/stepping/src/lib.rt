@@ -119,20 +119,19 @@ pub enum Found {
     Nothing,
 }
 
-// The lowest plain region that is ready.
+// The lowest plain region that is ready: of those that are neither fired nor found unready, the first, and then the next.
 pub fn ready_plain(plain: u32, above: &[u32; MOST_REGIONS], count: usize, fired: u32) -> Found
     requires { ⌜ count ≤ mostRegions ⌝ }
     ensures { λ r. ⌜ foundOf r ≡ first count (λ i. contains plain i && readyBy (now (above .entry)) fired i) ⌝ }
 {
-    if bitset::subset(plain, fired) {
-        return Found::Nothing;
-    }
-    let mut i: usize = 0;
+    let mut skip = bitset::join(fired, bitset::others(plain));
+    let mut i = bitset::run(skip) as usize;
     while i < count {
-        if bitset::member(plain, i as u32) && is_ready(above, fired, i) {
+        if is_ready(above, fired, i) {
             return Found::At(i);
         }
-        i += 1;
+        skip = bitset::insert(skip, i as u32);
+        i = bitset::run(skip) as usize;
     }
     Found::Nothing
 }
