@@ -1,8 +1,9 @@
 /*
  * lsc.h: a monitor over live sequence charts, proved from its bytes to its verdict.
  *
- * Link with liblsc.a. The functions keep no state and no pointer, allocate nothing, and may
- * be called from several threads at once on different bytes. Every content of the bytes is
+ * Link with liblsc.a (whole logs) and liblsc_live.a (live monitors). The functions keep no
+ * state and no pointer, allocate nothing, and may be called from several threads at once on
+ * different bytes. Every content of the bytes is
  * allowed; only the pointers and lengths must be valid, and bytes written must not overlap
  * bytes read. A pointer with length 0 must still not be NULL.
  *

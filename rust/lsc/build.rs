@@ -1,4 +1,4 @@
-//! Finds the static library and links it.
+//! Finds the static libraries and links them: `lsc` for whole logs, `lsc_live` for live monitors.
 
 use std::env;
 use std::path::PathBuf;
@@ -10,18 +10,24 @@ fn main() {
         Some(folder) => package.join(folder),
         None => package.join("../../target/staticlib"),
     };
-    let archive = folder.join("liblsc.a");
-    println!("cargo:rerun-if-changed={}", archive.display());
-    let Ok(archive) = archive.canonicalize() else {
-        panic!(
-            "{} is missing: run \"rt staticlib lsc\" in the repository's root first \
-             (or set LSC_LIB_DIR to the folder that has liblsc.a)",
+    for name in ["lsc", "lsc_live"] {
+        let archive = folder.join(format!("lib{name}.a"));
+        println!("cargo:rerun-if-changed={}", archive.display());
+        let Ok(archive) = archive.canonicalize() else {
+            panic!(
+                "{} is missing: run \"rt staticlib {name}\" in the repository's root first \
+                 (or set LSC_LIB_DIR to the folder that has it)",
+                archive.display()
+            );
+        };
+        let folder = archive.parent().expect("a file stands in a folder");
+        println!("cargo:rustc-link-search=native={}", folder.display());
+        println!("cargo:rustc-link-lib=static={name}");
+        // For the test that links the C example.
+        println!(
+            "cargo:rustc-env={}_ARCHIVE={}",
+            name.to_uppercase(),
             archive.display()
         );
-    };
-    let folder = archive.parent().expect("a file stands in a folder");
-    println!("cargo:rustc-link-search=native={}", folder.display());
-    println!("cargo:rustc-link-lib=static=lsc");
-    // For the test that links the C example.
-    println!("cargo:rustc-env=LSC_ARCHIVE={}", archive.display());
+    }
 }

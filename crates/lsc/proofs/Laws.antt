@@ -3,7 +3,7 @@ use mathlib.Core.Path.{_≡_, refl, sym, ap, _∙_}
 use mathlib.Core.Bool.{true}
 use mathlib.Core.List.{List, [], _∷_, _++_}
 use Prim.Native.Nat.{ℕ, _≤_, _<_}
-use borrow.Author.Tests.{lt-ltb, le-ltb, eq-eqb, ne-eqb}
+use borrow.Author.Tests.{lt-ltb, le-ltb}
 use lib.ListN.{length, drop}
 use Rattle.model.specs.declared.Chart.{Chart}
 use Rattle.chart_step.specs.declared.Refusal.the-variants as refusal
@@ -20,9 +20,9 @@ use Rattle.live.proofs.Charts.{Reads, accepts, refuses, reads, accepted-whole}
 use Rattle.listing.specs.declared.Part.{Part}
 use Rattle.listing.specs.declared.Report.{Report}
 use Rattle.listing.specs.declared.Report.the-variants.{Refused}
-use Rattle.live.specs.declared.LiveVerdict.{LiveVerdict}
 use Rattle.live.specs.Live.{tooShort}
-use Rattle.lsc.specs.Lsc.{places, verdictNumbers, partNumber, reportNumbers, reportNumber, judgedNumber, judgedOut, isJudgedNumber, standingNumber, standingOut}
+use Rattle.numbers.specs.Numbers.{places}
+use Rattle.lsc.specs.Lsc.{partNumber, reportNumbers, reportNumber, judgedNumber, judgedOut, isJudgedNumber}
 
 -- six numbers that are those of a refusal
 pub put-refusal : (r : Report) (out : List ℕ) {m : List ℕ} (part : Part) (number offset p : ℕ) → r ≡ Refused part number offset → p ≡ partNumber part
@@ -69,18 +69,3 @@ chart-listed log (refuses refusal.BytesAfterEnd offset) w = refl
 pub parts-listed : (chart log : List ℕ) → isJudgedNumber (reportNumber (partsReport chart log)) ≡ true
 unfolding partsReport
 parts-listed chart log = chart-listed log (reads chart) (accepted-whole chart)
-
-module _ (s t : LiveVerdict) (out : List ℕ) (p : s ≡ t) where
-  along : (n : ℕ) (m : List ℕ) → n ≡ standingNumber s out → m ≡ standingOut s out → (n ≡ standingNumber t out) × (m ≡ standingOut t out)
-  along n m a b = (a ∙ ap (λ (x : LiveVerdict). standingNumber x out) p, b ∙ ap (λ (x : LiveVerdict). standingOut x out) p)
-
-  pub standing-refused : (s .number ≡ 0 → ⊥) → (s .number ≡ standingNumber t out) × (out ≡ standingOut t out)
-  standing-refused h = let e = ne-eqb (s .number) 0 h in along (s .number) out (rw e) (rw (e, e))
-
-  module _ (z : s .number ≡ 0) where
-    pub standing-short : length out < places → (tooShort ≡ standingNumber t out) × (out ≡ standingOut t out)
-    standing-short h = let e = eq-eqb (s .number) 0 z in let f = lt-ltb (length out) places h in along tooShort out (rw (e, f)) (rw (e, f))
-
-    pub standing-room : (m : List ℕ) → places ≤ length out → m ≡ verdictNumbers (s .verdict) ++ drop places out
-        → (0 ≡ standingNumber t out) × (m ≡ standingOut t out)
-    standing-room m h b = let e = eq-eqb (s .number) 0 z in let f = le-ltb (length out) places h in along 0 m (rw (e, f)) (rw (e, f) b)

@@ -1,11 +1,10 @@
--- What the library's functions return and write, in the numbers of document 01.
+-- What judging and printing return and write, in the numbers of document 01.
 use Prim.Native.Nat.{ℕ, suc}
 use mathlib.Core.Bool.{Bool, cond, _||_}
 use mathlib.Core.List.{List, [], _∷_, _++_}
 use lib.Dec.{eqb, leb, ltb}
 use lib.ListN.{length, drop}
 use Rattle.rounds.specs.Feeds.{mostRecords}
-use Rattle.judge.specs.declared.Verdict.{Verdict}
 use Rattle.judge.specs.declared.Checked.{Checked}
 use Rattle.judge.specs.declared.Checked.the-variants as checked
 use Rattle.listing.specs.declared.Part.{Part}
@@ -14,16 +13,8 @@ use Rattle.listing.specs.declared.Report.{Report}
 use Rattle.listing.specs.declared.Report.the-variants.{Judged, Refused}
 use Rattle.respond.specs.declared.Response.{Response}
 use Rattle.respond.specs.declared.Response.the-variants.{Written, TooShort}
-use Rattle.live.specs.declared.LiveVerdict.{LiveVerdict}
 use Rattle.live.specs.Live.{tooShort}
-
--- the places that a verdict or a refusal takes
-abbrev pub places : ℕ
-places = 6
-
--- "standing, kept, dropped, records, break, reason"
-abbrev pub verdictNumbers : Verdict → List ℕ
-verdictNumbers v = v .standing ∷ v .kept ∷ v .dropped ∷ v .records ∷ v .«break_record» ∷ v .reason ∷ []
+use Rattle.numbers.specs.Numbers.{places, verdictNumbers}
 
 -- "part (1 chart, 2 log)"; no report of a chart and a log has the part 0
 abbrev pub partNumber : Part → ℕ
@@ -56,13 +47,6 @@ isJudgedNumber n = leb n tooShort || (eqb n 22 || (eqb n 23 || (eqb n 30 || eqb 
 abbrev pub checkedCount : Checked → ℕ
 checkedCount (checked.Fine n) = n
 checkedCount (checked.Refused k offset) = suc mostRecords
-
--- 20 and 21 before 12; only on 0 is out written
-abbrev pub standingNumber : LiveVerdict → List ℕ → ℕ
-standingNumber s out = cond (eqb (s .number) 0) (cond (ltb (length out) places) tooShort 0) (s .number)
-
-abbrev pub standingOut : LiveVerdict → List ℕ → List ℕ
-standingOut s out = cond (eqb (standingNumber s out) 0) (verdictNumbers (s .verdict) ++ drop places out) out
 
 -- 0 printed, 12 where out may be too short
 abbrev pub printedNumber : Response → ℕ

@@ -3,7 +3,7 @@
 //! A chart says what must follow once a pattern of messages is seen, in what order and by
 //! when. The monitor reads a chart and timed messages, and says whether the chart was kept,
 //! is still owed, or was broken and at which record. This crate makes safe calls of the
-//! proved static library `liblsc.a`; it decides nothing by itself.
+//! proved static libraries `liblsc.a` and `liblsc_live.a`; it decides nothing by itself.
 //!
 //! [`judge`] takes a whole log. [`LiveMonitor`] takes one record at a time:
 //!

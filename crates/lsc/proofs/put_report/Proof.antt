@@ -1,6 +1,7 @@
 -- `lsc::put_report` meets its contract: by the report's two cases. Assumes nothing.
 use Rattle.lsc.proofs.Laws.{put-refusal}
-use Rattle.lsc.specs.Lsc.{places, reportNumber, reportNumbers}
+use Rattle.numbers.specs.Numbers.{places}
+use Rattle.lsc.specs.Lsc.{reportNumber, reportNumbers}
 use Rattle.listing.specs.declared.Report.{Report}
 use lib.ListN.{drop}
 use mathlib.Core.List.{_++_}

@@ -1,9 +1,9 @@
--- `lsc::lsc_open` meets its contract: what opening gives, part by part. Assumes nothing.
+-- `lsc_live::lsc_open` meets its contract: what opening gives, part by part. Assumes nothing.
 use Rattle.live.specs.declared.Opened.{Opened}
 use mathlib.Core.Path.{refl, ap}
 use borrow.Author.Needs.{needs}
-use Rattle.lsc.proofs.lsc_open.Statement.{statement}
-use Rattle.lsc.proofs.lsc_open.Tie as tie
+use Rattle.lsc_live.proofs.lsc_open.Statement.{statement}
+use Rattle.lsc_live.proofs.lsc_open.Tie as tie
 
 open-requires : tie.Need-open-requires
 open-requires c κs = search needs

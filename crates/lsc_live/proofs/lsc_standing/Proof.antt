@@ -1,9 +1,9 @@
--- `lsc::lsc_standing` meets its contract: the tests in their order, then the verdict's numbers. Assumes nothing.
-use Rattle.lsc.proofs.Laws.{standing-refused, standing-short, standing-room}
+-- `lsc_live::lsc_standing` meets its contract: the tests in their order, then the verdict's numbers. Assumes nothing.
+use Rattle.lsc_live.proofs.Laws.{standing-refused, standing-short, standing-room}
 use mathlib.Core.Path.{refl}
 use borrow.Author.Needs.{needs}
-use Rattle.lsc.proofs.lsc_standing.Statement.{statement}
-use Rattle.lsc.proofs.lsc_standing.Tie as tie
+use Rattle.lsc_live.proofs.lsc_standing.Statement.{statement}
+use Rattle.lsc_live.proofs.lsc_standing.Tie as tie
 
 standing-requires : tie.Need-standing-requires
 standing-requires c κs = search needs

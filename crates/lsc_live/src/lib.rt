@@ -1,0 +1,120 @@
+// The exported functions of live monitors. Numbers returned are document 01's; 0 is success, 12 a buffer with too few places.
+use live::TOO_SHORT;
+use model::Message;
+use model::Moment;
+use model::Record;
+use numbers::PLACES;
+ghost use mathlib.Core.Path.{_≡_};
+ghost use lib.ListN.{length};
+ghost use Rattle.model.specs.declared.Record.the-variants.{Message as MessageAt, Time as TimeAt};
+ghost use Rattle.live.specs.Live.{liveSize, openedOf, bytesOpened, Holds, Fed, standingIn};
+ghost use Rattle.live.specs.Images.{newNumber, newBytes, FedImage};
+ghost use Rattle.lsc_live.specs.Lsc.{standingNumber, standingOut};
+
+// The bytes that a live monitor of a chart of so many bytes takes.
+#[no_mangle]
+pub extern "C" fn lsc_live_size(bytes: usize) -> usize
+    ensures { λ r. ⌜ r ≡ liveSize bytes ⌝ }
+{
+    live::size(bytes)
+}
+
+// Puts a fresh live monitor for the chart into the buffer.
+#[no_mangle]
+pub extern "C" fn lsc_open(chart: &[u8], live: &mut [u8], at: &mut u64) -> u8
+    ensures number { λ r. ⌜ r ≡ openedOf (now (chart .entry)) (length (now (live .entry))) .number ⌝ }
+    ensures place { λ r. ⌜ now (at .exit) ≡ openedOf (now (chart .entry)) (length (now (live .entry))) .at ⌝ }
+    ensures bytes { λ r. ⌜ now (live .exit) ≡ bytesOpened (now (chart .entry)) (now (live .entry)) ⌝ }
+    ensures holds { λ r. ⌜ (r ≡ 0 → Holds (now (chart .entry)) (now (live .exit))) ⌝ }
+    ensures unchanged { λ r. ⌜ now (chart .exit) ≡ now (chart .entry) ⌝ }
+{
+    let opened = live::open(chart, live);
+    *at = opened.at;
+    opened.number
+}
+
+// Feeds a message to the live monitor.
+#[no_mangle]
+pub extern "C" fn lsc_feed_message(
+    live: &mut [u8],
+    source: u8,
+    destination: u8,
+    label: u16,
+    time: u32,
+) -> u8
+    ensures { λ r. ⌜ Fed (now (live .entry)) (MessageAt (record { source = source; destination = destination; label = label }) (record { 0 = time })) r (now (live .exit)) ⌝ }
+{
+    let message = Message {
+        source,
+        destination,
+        label,
+    };
+    live::feed(live, Record::Message(message, Moment(time)))
+}
+
+// Feeds a record of time to the live monitor.
+#[no_mangle]
+pub extern "C" fn lsc_feed_time(live: &mut [u8], time: u32) -> u8
+    ensures { λ r. ⌜ Fed (now (live .entry)) (TimeAt (record { 0 = time })) r (now (live .exit)) ⌝ }
+{
+    live::feed(live, Record::Time(Moment(time)))
+}
+
+// The standing of the live monitor.
+#[no_mangle]
+pub extern "C" fn lsc_standing(live: &[u8], out: &mut [u64]) -> u8
+    ensures number { λ r. ⌜ r ≡ standingNumber (standingIn (now (live .entry))) (now (out .entry)) ⌝ }
+    ensures numbers { λ r. ⌜ now (out .exit) ≡ standingOut (standingIn (now (live .entry))) (now (out .entry)) ⌝ }
+    ensures unchanged { λ r. ⌜ now (live .exit) ≡ now (live .entry) ⌝ }
+{
+    let standing = live::standing(live);
+    let number = standing.number;
+    if number != 0 {
+        return number;
+    }
+    if out.len() < PLACES {
+        return TOO_SHORT;
+    }
+    numbers::put_verdict(out, standing.verdict);
+    0
+}
+
+// For tests: makes a monitor for the chart value in an image.
+#[no_mangle]
+pub extern "C" fn lsc_test_new(chart: &[u8], monitor: &mut [u8]) -> u8
+    ensures number { λ r. ⌜ r ≡ newNumber (now (chart .entry)) (now (monitor .entry)) ⌝ }
+    ensures bytes { λ r. ⌜ now (monitor .exit) ≡ newBytes (now (monitor .entry)) ⌝ }
+    ensures unchanged { λ r. ⌜ now (chart .exit) ≡ now (chart .entry) ⌝ }
+{
+    live::new_image(chart, monitor)
+}
+
+// For tests: feeds a message to a monitor by its image.
+#[no_mangle]
+pub extern "C" fn lsc_test_feed_message(
+    chart: &[u8],
+    monitor: &mut [u8],
+    source: u8,
+    destination: u8,
+    label: u16,
+    time: u32,
+) -> u8
+    ensures fed { λ r. ⌜ FedImage (now (chart .entry)) (now (monitor .entry)) (MessageAt (record { source = source; destination = destination; label = label }) (record { 0 = time })) r (now (monitor .exit)) ⌝ }
+    ensures unchanged { λ r. ⌜ now (chart .exit) ≡ now (chart .entry) ⌝ }
+{
+    let message = Message {
+        source,
+        destination,
+        label,
+    };
+    live::feed_image(chart, monitor, Record::Message(message, Moment(time)))
+}
+
+// For tests: feeds a record of time to a monitor by its image.
+#[no_mangle]
+pub extern "C" fn lsc_test_feed_time(chart: &[u8], monitor: &mut [u8], time: u32) -> u8
+    ensures fed { λ r. ⌜ FedImage (now (chart .entry)) (now (monitor .entry)) (TimeAt (record { 0 = time })) r (now (monitor .exit)) ⌝ }
+    ensures unchanged { λ r. ⌜ now (chart .exit) ≡ now (chart .entry) ⌝ }
+{
+    live::feed_image(chart, monitor, Record::Time(Moment(time)))
+}

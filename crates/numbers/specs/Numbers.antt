@@ -1,0 +1,12 @@
+-- A verdict as numbers, in the order of its fields.
+use Prim.Native.Nat.{ℕ}
+use mathlib.Core.List.{List, [], _∷_}
+use Rattle.judge.specs.declared.Verdict.{Verdict}
+
+-- the places that a verdict or a refusal takes
+abbrev pub places : ℕ
+places = 6
+
+-- "standing, kept, dropped, records, break, reason"
+abbrev pub verdictNumbers : Verdict → List ℕ
+verdictNumbers v = v .standing ∷ v .kept ∷ v .dropped ∷ v .records ∷ v .«break_record» ∷ v .reason ∷ []
