@@ -1,13 +1,15 @@
 -- What the inner functions give, over the numbers.
+use mathlib.Core.Path.{_≡_}
 use mathlib.Core.Bool.{Bool, cond, not, _&&_, _||_}
 use mathlib.Core.List.{List}
 use mathlib.Core.Option.{Option, none, some}
-use Prim.Native.Nat.{ℕ, _-_}
+use Prim.Native.Nat.{ℕ, _-_, _≤_}
 use lib.Dec.{eqb, ltb}
 use lib.ListN.{getD}
 use Rattle.bitset.specs.Set.{contains, isSubset}
 use Rattle.model.specs.declared.Moment.{Moment}
 use Rattle.model.specs.declared.Place.{Place}
+use Rattle.model.specs.Chart.{mostClocks}
 use Rattle.rounds.specs.Base.{someBelow, first, onFound}
 use Rattle.rounds.specs.Chart.{Chart}
 use Rattle.rounds.specs.Rows.{values}
@@ -19,7 +21,7 @@ use Rattle.stepping.specs.declared.Found.{Found}
 use Rattle.stepping.specs.declared.Found.the-variants.{At, Nothing}
 use Rattle.stepping.specs.declared.Sought.{Sought}
 use Rattle.stepping.specs.declared.Sought.the-variants.{Ready, Unready, Foreign}
-use Rattle.stepping.specs.View.{momentsOf, placeAt}
+use Rattle.stepping.specs.View.{InChart, momentsOf, placeAt}
 
 -- region i isn't fired, and those above it are: `above` has the set of regions above each region
 abbrev pub readyBy : List ℕ → ℕ → ℕ → Bool
@@ -38,6 +40,12 @@ soughtBy keys above count fired code = onFound (first count (λ i. eqb (getD key
 -- a clock's value at moment t; beyond the chart's clocks it is 0
 abbrev pub valueAt : ℕ → ℕ → List Moment → ℕ → ℕ
 valueAt clocks t resets c = cond (ltb c clocks) (t - momentsOf resets c) 0
+
+-- what the test of words by the moments assumes: the words' clocks are among at most eight, and no clock is reset after moment t
+pub record Testable (clocks t : ℕ) (resets : List Moment) (terms : List ℕ) : Type 0 where
+  pub few : clocks ≤ mostClocks
+  pub past : (c : ℕ) → momentsOf resets c ≤ t
+  pub words : (k : ℕ) → ¬ (getD terms k 0 ≡ 0) → InChart clocks (getD terms k 0)
 
 -- region i fired at moment t, its clocks reset
 abbrev pub fireBy : List ℕ → ℕ → Place → ℕ → AbstractPlace

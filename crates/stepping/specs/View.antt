@@ -1,19 +1,16 @@
 -- What the numbers stand for: a compiled chart as an abstract chart, a stored monitor as its monitor.
 use mathlib.Core.Path.{_≡_}
-use mathlib.Core.Bool.{Bool, true, cond}
+use mathlib.Core.Logic.{_⊎_}
+use mathlib.Core.Bool.{Bool, cond, not, _&&_}
 use mathlib.Core.List.{List}
 use Prim.Native.Nat.{ℕ, _+_, _*_, _/_, _%_, _≤_, _<_}
 use lib.Dec.{eqb, ltb}
-use lib.IntN.{pos, _-ℤ_}
 use lib.ListN.{getD}
 use Rattle.bitset.specs.Set.{contains}
 use Rattle.model.specs.declared.Moment.{Moment}
-use Rattle.model.specs.declared.Relation.{Relation}
-use Rattle.model.specs.declared.Relation.the-variants.{Less, AtMost, Equal, AtLeast, More}
 use Rattle.model.specs.declared.Place.{Place}
 use Rattle.model.specs.declared.Monitor.{Monitor}
 use Rattle.model.specs.Chart.{mostClocks, mostRegions, mostTerms}
-use Rattle.condition.specs.Condition.{related, signed}
 use Rattle.rounds.specs.Base.{allBelow}
 use Rattle.rounds.specs.Chart.{Chart, Accepted}
 use Rattle.rounds.specs.Rows.{LogRecord}
@@ -22,23 +19,30 @@ use Rattle.stepping.specs.declared.Head.{Head}
 use Rattle.stepping.specs.declared.Step.{Step}
 use Rattle.stepping.specs.Answers.{answerOf}
 
--- A term as one number, its word: n, then the first clock, the second clock and the relation's code, each at its place. A term of one
--- clock has, as its second clock, a number from 8 on.
+-- A term as one number, its word. Every relation bounds the difference d, the first clock's value less the second's, by a number k: from
+-- above, d ≤ k, from below, k ≤ d, or from both sides. The word has bias + k, then the first clock, the second clock and the sides, each
+-- at its place. A term of one clock has, as its second clock, a number from 8 on.
+abbrev pub bias : ℕ
+bias = 0x1_0000_0000
+
 abbrev pub firstPlace : ℕ
-firstPlace = 0x1_0000_0000
+firstPlace = 0x100_0000_0000
 
 abbrev pub secondPlace : ℕ
-secondPlace = 0x10_0000_0000
+secondPlace = 0x1000_0000_0000
 
-abbrev pub relationPlace : ℕ
-relationPlace = 0x100_0000_0000
+abbrev pub upperPlace : ℕ
+upperPlace = 0x1_0000_0000_0000
+
+abbrev pub lowerPlace : ℕ
+lowerPlace = 0x2_0000_0000_0000
 
 -- the number of codes of a clock in a word
 abbrev pub clockCodes : ℕ
 clockCodes = 16
 
-abbrev pub numberOf : ℕ → ℕ
-numberOf w = w % firstPlace
+abbrev pub boundOf : ℕ → ℕ
+boundOf w = w % firstPlace
 
 abbrev pub firstOf : ℕ → ℕ
 firstOf w = w / firstPlace % clockCodes
@@ -46,22 +50,18 @@ firstOf w = w / firstPlace % clockCodes
 abbrev pub secondOf : ℕ → ℕ
 secondOf w = w / secondPlace % clockCodes
 
-abbrev pub relationCode : ℕ → ℕ
-relationCode w = w / relationPlace
-
--- the relations, by codes from 1 on
-abbrev pub relationIn : ℕ → Relation
-relationIn w = cond (eqb (relationCode w) 1) Less
-    (cond (eqb (relationCode w) 2) AtMost (cond (eqb (relationCode w) 3) Equal (cond (eqb (relationCode w) 4) AtLeast More)))
-
 -- the second clock's value; a term of one clock has no second clock: 0
 abbrev pub secondValue : ℕ → (ℕ → ℕ) → ℕ
 secondValue w v = cond (ltb (secondOf w) mostClocks) (v (secondOf w)) 0
 
--- the word's term holds, given each clock's value; with code 0 there is no term
+-- on the sides that the word has, x is within y
+abbrev pub bounded : ℕ → ℕ → ℕ → Bool
+bounded w x y = not (eqb (w / upperPlace % 2) 1 && ltb y x) && not (eqb (w / lowerPlace % 2) 1 && ltb x y)
+
+-- the word's term holds, given each clock's value; word 0, without a side, is no term. The sums are d and k with bias and the second
+-- clock's value added: no number is negative.
 unfoldable pub holdsBy : ℕ → (ℕ → ℕ) → Bool
-holdsBy w v = cond (eqb (relationCode w) 0) true
-    (related (relationIn w) (pos (v (firstOf w)) -ℤ pos (secondValue w v)) (signed (numberOf w)))
+holdsBy w v = bounded w (bias + v (firstOf w)) (boundOf w + secondValue w v)
 
 -- the condition of region i: its four words
 abbrev pub conditionBy : List ℕ → ℕ → (ℕ → ℕ) → Bool
@@ -80,12 +80,18 @@ planChart h keys above resets terms = record {
   hot = contains (h .hot);
 }
 
+-- the word's clocks are the chart's; it may have no second
+pub record InChart (clocks w : ℕ) : Type 0 where
+  pub first : firstOf w < clocks
+  pub second : (secondOf w < clocks) ⊎ (mostClocks ≤ secondOf w)
+
 -- what compiling an accepted chart gives
 pub record Compiled (h : Head) (keys above resets terms : List ℕ) : Type 0 where
   pub regions : h .count ≤ mostRegions
   pub clocks : h .clocks ≤ mostClocks
   -- the set of plain regions
   pub plain : (i : ℕ) → i < h .count → contains (h .plain) i ≡ eqb (getD keys i 0) 0
+  pub words : (k : ℕ) → ¬ (getD terms k 0 ≡ 0) → InChart (h .clocks) (getD terms k 0)
   pub accepted : Accepted (planChart h keys above resets terms)
 
 -- each clock's reset moment

@@ -1,23 +1,19 @@
 // One record taken by a fit monitor. A chart comes as numbers: its head, and four arrays lent beside it.
 use model::CLOCK_PLACES;
-use model::Length;
 use model::MOST_RECORDS;
 use model::MOST_REGIONS;
 use model::MOST_TERMS;
 use model::Moment;
 use model::Monitor;
 use model::Place;
-use model::Relation;
 ghost use mathlib.Core.Path.{_≡_};
 ghost use mathlib.Core.Bool.{So, _&&_, not, cond};
 ghost use mathlib.Core.List.{List};
 ghost use Prim.Native.Nat.{ℕ, _<_, _≤_, _+_, _-_, _^_};
-ghost use lib.Dec.{eqb, ltb};
-ghost use lib.IntN.{pos, _-ℤ_};
+ghost use lib.Dec.{eqb};
 ghost use lib.ListN.{getD};
 ghost use Rattle.bitset.specs.Set.{contains};
 ghost use Rattle.model.specs.Chart.{mostRegions, mostClocks};
-ghost use Rattle.condition.specs.Condition.{related, signed};
 ghost use Rattle.rounds.specs.Base.{first, allBelow, someBelow};
 ghost use Rattle.rounds.specs.Chart.{Chart};
 ghost use Rattle.rounds.specs.Rows.{Ready};
@@ -25,19 +21,23 @@ ghost use Rattle.rounds.specs.Feeds.{mostRecords, entered, moved};
 ghost use Rattle.rounds.specs.Machine.{stuck, opening as opened, goOn, keepRound, dropRound, breakRound, conclude as concluded, accept as accepted, feed as fed, Fit};
 ghost use Rattle.stepping.specs.declared.Rest.the-variants.{Fails as FailsAt};
 ghost use Rattle.stepping.specs.Answers.{feedRefusalNumber, answerNumber, answerOf, HandsBack};
-ghost use Rattle.stepping.specs.View.{momentsOf, numberOf, relationIn, conditionBy, planChart, placeAt, recordOf, monitorAt, stepOf, Compiled};
-ghost use Rattle.stepping.specs.Parts.{readyBy, foundOf, soughtBy, valueAt, fireBy, takenAt, moveOf};
+ghost use Rattle.stepping.specs.View.{bias, boundOf, bounded, momentsOf, conditionBy, planChart, placeAt, recordOf, monitorAt, stepOf, Compiled};
+ghost use Rattle.stepping.specs.Parts.{readyBy, foundOf, soughtBy, valueAt, Testable, fireBy, takenAt, moveOf};
 
 pub const TERM_PLACES: usize = MOST_REGIONS * MOST_TERMS;
 
-// A term's word: n below FIRST_PLACE, then the first clock, the second clock and the relation's code, each at its place.
-pub const FIRST_PLACE: u64 = 0x1_0000_0000;
+// A term's word: below FIRST_PLACE the bound with BIAS added, then the first clock, the second clock and the two sides, each at its place.
+pub const BIAS: u64 = 0x1_0000_0000;
 
-pub const SECOND_PLACE: u64 = 0x10_0000_0000;
+pub const FIRST_PLACE: u64 = 0x100_0000_0000;
 
-pub const RELATION_PLACE: u64 = 0x100_0000_0000;
+pub const SECOND_PLACE: u64 = 0x1000_0000_0000;
 
-pub const CLOCK_CODES: u64 = 16;
+pub const UPPER_PLACE: u64 = 0x1_0000_0000_0000;
+
+pub const LOWER_PLACE: u64 = 0x2_0000_0000_0000;
+
+const CLOCK_CODES: u64 = 16;
 
 // The reasons of a break.
 pub const NO_READY_REGION: u8 = 1;
@@ -199,58 +199,51 @@ fn seek(
     Sought::Ready(i)
 }
 
-// The value at moment t of the clock with this code, reset at m; beyond the chart's clocks it is 0.
-fn clock_value(clocks: usize, m: Moment, t: Moment, c: usize) -> Length
-    ensures { λ r. ⌜ r .0 ≡ cond (ltb c clocks) (t .0 - m .0) 0 ⌝ }
+// x if b, otherwise y.
+fn pick(b: bool, x: Moment, y: Moment) -> Moment
+    ensures { λ r. ⌜ r .0 ≡ cond b (x .0) (y .0) ⌝ }
 {
-    if c < clocks {
-        return t.since(m);
-    }
-    Length(0)
+    if b { x } else { y }
 }
 
-// The relation of a term's word.
-fn relation_in(word: u64) -> Relation
-    ensures { λ r. ⌜ r ≡ relationIn word ⌝ }
+// A moment's number in 64 bits.
+fn ticks(m: Moment) -> u64
+    ensures value { λ r. ⌜ r ≡ m .0 ⌝ }
+    ensures bound { λ r. ⌜ r < bias ⌝ }
 {
-    match word / RELATION_PLACE {
-        1 => Relation::Less,
-        2 => Relation::AtMost,
-        3 => Relation::Equal,
-        4 => Relation::AtLeast,
-        _ => Relation::More,
-    }
+    m.0 as u64
 }
 
-// The term of a word holds, given the values of its clocks.
-fn word_holds(word: u64, first: Length, second: Length) -> bool
-    ensures { λ r. ⌜ r ≡ related (relationIn word) (pos (first .0) -ℤ pos (second .0)) (signed (numberOf word)) ⌝ }
+// The word's term holds. A clock's value is t less its reset moment: with t taken from both sums, each has the other clock's moment.
+fn word_holds(word: u64, first: Moment, second: Moment) -> bool
+    ensures { λ r. ⌜ r ≡ bounded word (bias + second .0) (boundOf word + first .0) ⌝ }
 {
-    let n = (word % FIRST_PLACE) as u32;
-    condition::compares(relation_in(word), first, second, n)
+    let x = BIAS + ticks(second);
+    let y = word % FIRST_PLACE + ticks(first);
+    let upper = word / UPPER_PLACE % 2 == 1;
+    let lower = word / LOWER_PLACE % 2 == 1;
+    !(upper & (y < x)) & !(lower & (x < y))
 }
 
-// All terms of region i hold; relation code 0 is no term. The array of moments is looked into here and lent no further: a call that takes
-// it by value would copy it for each clock.
+// All terms of region i hold at moment t, which stands for the second clock that a term lacks. The array of moments is looked into here
+// and lent no further: a call that takes it by value would copy it for each clock.
 fn holds(
     terms: &[u64; TERM_PLACES],
-    clocks: usize,
     resets: [Moment; CLOCK_PLACES],
     i: usize,
     t: Moment,
 ) -> bool
     requires { ⌜ i < mostRegions ⌝ }
-    requires { ⌜ clocks ≤ mostClocks ⌝ }
-    ensures { λ r. ⌜ r ≡ conditionBy (now (terms .entry)) i (valueAt clocks (t .0) resets) ⌝ }
+    ensures { λ r. ⌜ ((clocks : ℕ) → Testable clocks (t .0) resets (now (terms .entry)) → r ≡ conditionBy (now (terms .entry)) i (valueAt clocks (t .0) resets)) ⌝ }
 {
     let mut j: usize = 0;
     while j < MOST_TERMS {
         let word = terms[i * MOST_TERMS + j];
-        if RELATION_PLACE <= word {
+        if word != 0 {
             let a = (word / FIRST_PLACE % CLOCK_CODES) as usize;
             let b = (word / SECOND_PLACE % CLOCK_CODES) as usize;
-            let first = clock_value(clocks, resets[a % CLOCK_PLACES], t, a);
-            let second = clock_value(clocks, resets[b % CLOCK_PLACES], t, b);
+            let first = resets[a % CLOCK_PLACES];
+            let second = pick(b < CLOCK_PLACES, resets[b % CLOCK_PLACES], t);
             if !word_holds(word, first, second) {
                 return false;
             }
@@ -258,13 +251,6 @@ fn holds(
         j += 1;
     }
     true
-}
-
-// x if b, otherwise y.
-fn pick(b: bool, x: Moment, y: Moment) -> Moment
-    ensures { λ r. ⌜ r .0 ≡ cond b (x .0) (y .0) ⌝ }
-{
-    if b { x } else { y }
 }
 
 // The reset moments once the clocks of the set are reset at moment t.
@@ -325,6 +311,7 @@ fn take_region<'a>(
 ) -> Settled
     requires { ⌜ Compiled h (now keys) (now above) (now resets) (now terms) ⌝ }
     requires { ⌜ Ready (planChart h (now keys) (now above) (now resets) (now terms)) (contains (p .fired)) i ⌝ }
+    requires { ⌜ ((c : ℕ) → momentsOf (p .resets) c ≤ t .0) ⌝ }
     ensures place { λ r. ⌜ moveOf r ≡ takenAt (planChart h (now (keys .entry)) (now (above .entry)) (now (resets .entry)) (now (terms .entry))) (t .0) (placeAt p) i ⌝ }
     ensures region { λ r. ⌜ ((j : ℕ) → r .rest ≡ FailsAt j → j < mostRegions) ⌝ }
 {
@@ -333,7 +320,7 @@ fn take_region<'a>(
     loop {
         let next = fire(resets, q, k, t);
         let clocks = q.resets;
-        if !holds(terms, h.clocks, clocks, k, t) {
+        if !holds(terms, clocks, k, t) {
             return Settled {
                 rest: Rest::Fails(k),
                 place: q,
@@ -523,6 +510,7 @@ fn accept<'a>(
 ) -> Step
     requires { ⌜ Compiled h (now keys) (now above) (now resets) (now terms) ⌝ }
     requires { ⌜ (m .records < mostRecords) × (m .kept + m .dropped ≤ m .records) ⌝ }
+    requires { ⌜ ((c : ℕ) → momentsOf (m .at .resets) c ≤ t .0) ⌝ }
     ensures { λ r. ⌜ stepOf r ≡ accepted (planChart h (now (keys .entry)) (now (above .entry)) (now (resets .entry)) (now (terms .entry))) (monitorAt m) (recordOf code (t .0)) ⌝ }
 {
     let at = m.at;

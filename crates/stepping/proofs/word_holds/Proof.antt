@@ -1,19 +1,22 @@
--- The parts of the word, by what the calls give. Assumes nothing.
+-- The two sums, by what the calls give. Assumes nothing.
 use borrow.Author.Needs.{needs}
 use Rattle.stepping.proofs.word_holds.Statement.{statement}
 use Rattle.stepping.proofs.word_holds.Tie as tie
 
-cast-n : tie.Need-cast-n
-cast-n c = search needs
+ticks-requires : tie.Need-ticks-requires
+ticks-requires c κs = search needs
 
-relation-in-requires : tie.Need-relation-in-requires
-relation-in-requires c κs = search needs
+add-x : tie.Need-add-x
+add-x c = search needs
 
-compares-requires : tie.Need-compares-requires
-compares-requires c κs = search needs
+ticks-requires-2 : tie.Need-ticks-requires-2
+ticks-requires-2 c κs = search needs
+
+add-y : tie.Need-add-y
+add-y c = search needs
 
 returns : tie.Need-returns
-returns c = rw (← c .before .relation-in .ensures) (c .compares .ensures)
+returns c = rw (c .ticks2 .ensures .0, c .before .ticks .ensures .0)
 
 pub word-holds-spec : {M : Type 1} → statement M
-word-holds-spec = tie.close (tie.spec cast-n relation-in-requires compares-requires returns)
+word-holds-spec = tie.close (tie.spec ticks-requires add-x ticks-requires-2 add-y returns)
