@@ -23,11 +23,11 @@ use Rattle.rounds.specs.Chart.{Accepted}
 use Rattle.chart_value.specs.View.{codeOf, keyOf, regionOf, chartOf}
 use Rattle.chart_value.proofs.Facts.{WellFormed}
 use Rattle.chart_value.proofs.Order.{fits-at}
-use Rattle.stepping.specs.View.{firstPlace, conditionBy, planChart}
+use Rattle.stepping.specs.View.{bias, conditionBy, planChart, InChart}
 use Rattle.plan.specs.declared.Plan.{Plan}
 use Rattle.plan.specs.Words.{wordOf, wordAt}
 use Rattle.plan.specs.Plan.{Compiles}
-use Rattle.plan.proofs.Words.{word-holds, words-hold}
+use Rattle.plan.proofs.Words.{word-holds, word-named, words-hold}
 use Rattle.plan.proofs.Members.{Gathered}
 
 -- a part of the region at i, or of zeros beyond the chart
@@ -66,7 +66,7 @@ above-shows c a b = by (ltb b (c .count)) refl
     by true e = refl
     by false e = ap (λ (s : ℕ). contains s a) (sets-beyond c b (ltb-false _ _ e)) ∙ contains-empty a
 
-module _ (c : Chart) (w : WellFormed c) (numbers : (i j : ℕ) → i < mostRegions → j < mostTerms → termAt (regionAt c i) j .n < firstPlace)
+module _ (c : Chart) (w : WellFormed c) (numbers : (i j : ℕ) → i < mostRegions → j < mostTerms → termAt (regionAt c i) j .n < bias)
     (terms : List ℕ) (F : Filled (λ k. wordAt (regionAt c (k / mostTerms)) (k % mostTerms)) (c .count * mostTerms) terms) where
   -- the words of region i
   words-in : (i j : ℕ) → i < c .count → j < mostTerms → getD terms (i * mostTerms + j) 0 ≡ wordAt (regionAt c i) j
@@ -99,6 +99,25 @@ module _ (c : Chart) (w : WellFormed c) (numbers : (i j : ℕ) → i < mostRegio
           (λ j k. absurd (omega arith))
           ∙ ap (λ (b : Bool). conditionHolds (cond b (regionAt c i) zeroRegion) v) (sym (le-ltb i (c .count) l))
 
+  -- a word that isn't 0 is a term's
+  pub words-named : (k : ℕ) → ¬ (getD terms k 0 ≡ 0) → InChart (c .clocks) (getD terms k 0)
+  words-named k z = by (decLt k (c .count * mostTerms)) (decLt (k % mostTerms) (regionAt c (k / mostTerms) .«term_count»))
+    where
+      by : Dec (k < c .count * mostTerms) → Dec (k % mostTerms < regionAt c (k / mostTerms) .«term_count») → InChart (c .clocks) (getD terms k 0)
+      by (no h) d = let l : c .count * mostTerms ≤ k = omega arith in absurd (z (F .is k ∙ rw (le-ltb k (c .count * mostTerms) l)))
+      by (yes h) (no d) =
+          let l : regionAt c (k / mostTerms) .«term_count» ≤ k % mostTerms = omega arith in
+          absurd (z (F .is k ∙ rw (lt-ltb k (c .count * mostTerms) h, le-ltb (k % mostTerms) (regionAt c (k / mostTerms) .«term_count») l)))
+      by (yes h) (yes d) =
+          let r : c .count ≤ mostRegions = w .room in
+          let i : k / mostTerms < c .count = omega arith in
+          let t = fits-at c w (k / mostTerms) i .terms in
+          let e : getD terms k 0 ≡ wordOf (termAt (regionAt c (k / mostTerms)) (k % mostTerms)) = F .is k
+          ∙ rw (lt-ltb k (c .count * mostTerms) h, lt-ltb (k % mostTerms) (regionAt c (k / mostTerms) .«term_count») d) in
+          subst (InChart (c .clocks)) (sym e)
+          (word-named (c .clocks) (termAt (regionAt c (k / mostTerms)) (k % mostTerms)) (w .clocks) (t .used (k % mostTerms) d)
+          (numbers (k / mostTerms) (k % mostTerms) (omega arith) (omega arith)))
+
 -- the parts together
 module _ (c : Chart) (p : Plan) (w : WellFormed c) (accepted : Accepted (chartOf c))
     (heading : (p .head .count ≡ c .count) × (p .head .prechart ≡ c .prechart) × (p .head .clocks ≡ c .clocks))
@@ -107,7 +126,8 @@ module _ (c : Chart) (p : Plan) (w : WellFormed c) (accepted : Accepted (chartOf
     (keys : (i : ℕ) → getD (p .keys) i 0 ≡ chartOf c .key i)
     (above : p .above ≡ aboveOf c)
     (resets : (i k : ℕ) → contains (getD (p .resets) i 0) k ≡ chartOf c .resets i k)
-    (terms : (i : ℕ) (v : ℕ → ℕ) → conditionBy (p .terms) i v ≡ chartOf c .condition i v) where
+    (terms : (i : ℕ) (v : ℕ → ℕ) → conditionBy (p .terms) i v ≡ chartOf c .condition i v)
+    (words : (k : ℕ) → ¬ (getD (p .terms) k 0 ≡ 0) → InChart (c .clocks) (getD (p .terms) k 0)) where
   above-set : (a b : ℕ) → contains (getD (p .above) b 0) a ≡ chartOf c .above a b
   above-set a b = ap (λ (l : List ℕ). contains (getD l b 0) a) above ∙ above-shows c a b
 
@@ -131,6 +151,7 @@ module _ (c : Chart) (p : Plan) (w : WellFormed c) (accepted : Accepted (chartOf
       regions = rw (heading .0) (w .room);
       clocks = rw (heading .2) (w .clocks);
       plain = λ i h. plain i (rw (heading .0) at h) ∙ ap (λ (k : ℕ). eqb k 0) (sym (keys i));
+      words = rw (heading .2) words;
       accepted = subst Accepted (sym shows) accepted;
     };
   }

@@ -1,11 +1,12 @@
 -- A term's word holds exactly if the term does, and the four words of a region exactly if its condition does. Assumes nothing.
 use mathlib.Core.Path.{_≡_, refl, sym, ap, ap₂, _∙_}
 use mathlib.Core.Bool.{Bool, true, false, cond, not, _&&_}
-use Prim.Native.Nat.{ℕ, zero, suc, _+_, _*_, _/_, _%_, _≤_, _<_}
+use mathlib.Core.Logic.{_⊎_, inl, inr}
+use Prim.Native.Nat.{ℕ, zero, suc, _+_, _-_, _*_, _/_, _%_, _≤_, _<_}
 use native.Mathlib.Omega.{arith}
-use native.Mathlib.Decide.{ℕ-discrete}
-use borrow.Author.Tests.{ltb-true, lt-ltb, le-ltb}
-use lib.Dec.{eqb, ltb}
+use native.Mathlib.Decide.{decLt, ℕ-discrete}
+use borrow.Author.Tests.{ltb-true, ltb-false, lt-ltb, le-ltb, lt-leb, le-leb, eq-eqb, ne-eqb}
+use lib.Dec.{eqb, ltb, leb}
 use lib.IntN.{ℤ, pos, _-ℤ_}
 use Rattle.bitset.proofs.Bools.{both}
 use Rattle.model.specs.declared.Term.{Term}
@@ -16,60 +17,166 @@ use Rattle.model.specs.declared.Relation.{Relation}
 use Rattle.model.specs.declared.Relation.the-variants.{Less, AtMost, Equal, AtLeast, More}
 use Rattle.model.specs.Chart.{mostClocks, mostTerms, termAt}
 use Rattle.condition.specs.Condition.{signed, related, leftOf, termHolds, termsHold, conditionHolds}
-use Rattle.condition.proofs.Signed.{one-clock}
+use Rattle.condition.specs.Parts.{inRelation, positivePart, negativePart}
+use Rattle.condition.proofs.Signed.{compares-exactly, one-clock}
 use Rattle.rounds.specs.Base.{allBelow}
 use Rattle.chart_value.specs.WellFormed.{leftFits}
-use Rattle.stepping.specs.View.{firstPlace, secondPlace, relationPlace, clockCodes, holdsBy}
-use Rattle.plan.specs.Words.{relationNumber, firstClock, secondClock, wordOf, wordAt}
+use Rattle.stepping.specs.View.{bias, firstPlace, secondPlace, upperPlace, lowerPlace, clockCodes, firstOf, secondOf, holdsBy, InChart}
+use Rattle.plan.specs.Words.{sidesOf, biased, boundBy, firstClock, secondClock, wordOf, wordAt}
 
--- the relation that a code stands for
-relationFrom : ℕ → Relation
-relationFrom r = cond (eqb r 1) Less (cond (eqb r 2) AtMost (cond (eqb r 3) Equal (cond (eqb r 4) AtLeast More)))
+-- a bound by its sides
+sided : (u l : Bool) → ℕ → ℕ → Bool
+sided u l x y = not (u && ltb y x) && not (l && ltb x y)
 
 -- a word taken apart
-module _ (r s f n : ℕ) (hf : f < clockCodes) (hs : s < clockCodes) (hn : n < firstPlace) where
-  unpack : (v : ℕ → ℕ) → holdsBy (r * relationPlace + (s * secondPlace + f * firstPlace) + n) v
-      ≡ cond (eqb r 0) true (related (relationFrom r) (pos (v f) -ℤ pos (cond (ltb s mostClocks) (v s) 0)) (signed n))
-  unfolding holdsBy relationFrom
-  unpack v =
-      let w = r * relationPlace + (s * secondPlace + f * firstPlace) + n in
-      let en : w % firstPlace ≡ n = omega arith in
-      let e₀ : w / firstPlace ≡ (r * clockCodes + s) * clockCodes + f = omega arith in
-      let e₁ : w / secondPlace ≡ r * clockCodes + s = omega arith in
-      let ef : ((r * clockCodes + s) * clockCodes + f) % clockCodes ≡ f = omega arith in
-      let es : (r * clockCodes + s) % clockCodes ≡ s = omega arith in
-      let er : w / relationPlace ≡ r = omega arith in
-      rw (en, e₀, ef, e₁, es, er)
+module _ (r s f b : ℕ) (hf : f < clockCodes) (hs : s < clockCodes) (hb : b < firstPlace) where
+  packed : ℕ
+  packed = r * upperPlace + (s * secondPlace + f * firstPlace) + b
 
--- a relation's own code
-related-by : (e : Relation) (x y : ℤ) → cond (eqb (relationNumber e) 0) true (related (relationFrom (relationNumber e)) x y) ≡ related e x y
-unfolding relationFrom
-related-by Less x y = refl
-related-by AtMost x y = refl
-related-by Equal x y = refl
-related-by AtLeast x y = refl
-related-by More x y = refl
+  first-of : firstOf packed ≡ f
+  unfolding packed
+  first-of =
+      let e : packed / firstPlace ≡ (r * clockCodes + s) * clockCodes + f = omega arith in
+      let g : ((r * clockCodes + s) * clockCodes + f) % clockCodes ≡ f = omega arith in
+      rw (e, g)
+
+  second-of : secondOf packed ≡ s
+  unfolding packed
+  second-of =
+      let e : packed / secondPlace ≡ r * clockCodes + s = omega arith in
+      let g : (r * clockCodes + s) % clockCodes ≡ s = omega arith in
+      rw (e, g)
+
+  unpack : (v : ℕ → ℕ) → holdsBy packed v ≡ sided (eqb (r % 2) 1) (eqb (r / 2 % 2) 1) (bias + v f) (b + cond (ltb s mostClocks) (v s) 0)
+  unfolding holdsBy sided packed
+  unpack v =
+      let eb : packed % firstPlace ≡ b = omega arith in
+      let eu : packed / upperPlace ≡ r = omega arith in
+      let el : packed / lowerPlace ≡ r / 2 = omega arith in
+      rw (eb, first-of, second-of, eu, el)
+
+-- by the order of the two numbers
+module _ (u l : Bool) (x y : ℕ) (t : Bool) (above : y < x → not u ≡ t) (under : x < y → not l ≡ t) (same : x ≡ y → true ≡ t) where
+  only-above : (u l : Bool) → (not (u && true) && not (l && false)) ≡ not u
+  only-above true true = refl
+  only-above true false = refl
+  only-above false true = refl
+  only-above false false = refl
+
+  only-under : (u l : Bool) → (not (u && false) && not (l && true)) ≡ not l
+  only-under true true = refl
+  only-under true false = refl
+  only-under false true = refl
+  only-under false false = refl
+
+  neither-side : (u l : Bool) → (not (u && false) && not (l && false)) ≡ true
+  neither-side true true = refl
+  neither-side true false = refl
+  neither-side false true = refl
+  neither-side false false = refl
+
+  sided-is : sided u l x y ≡ t
+  unfolding sided
+  sided-is = by (decLt y x) (decLt x y)
+    where
+      by : Dec (y < x) → Dec (x < y) → (not (u && ltb y x) && not (l && ltb x y)) ≡ t
+      by (yes p) q = rw (lt-ltb y x p, le-ltb x y (omega arith)) (only-above u l ∙ above p)
+      by (no p) (yes q) = rw (le-ltb y x (omega arith), lt-ltb x y q) (only-under u l ∙ under q)
+      by (no p) (no q) = rw (le-ltb y x (omega arith), le-ltb x y (omega arith)) (neither-side u l ∙ same (omega arith))
+
+-- the bias and the two parts of n
+biased-parts : (n : ℕ) → n < bias → biased n + negativePart n ≡ bias + positivePart n
+biased-parts n h = by (ltb n 0x8000_0000)
+  where
+    by : (t : Bool) → cond t (bias + n) n + cond t 0 (0x1_0000_0000 - n) ≡ bias + cond t n 0
+    by true = omega arith
+    by false = omega arith
+
+biased-fits : (n : ℕ) → n < bias → (0 < biased n) × (biased n < 0x2_0000_0000)
+biased-fits n h = by (ltb n 0x8000_0000) refl
+  where
+    by : (t : Bool) → ltb n 0x8000_0000 ≡ t → (0 < cond t (bias + n) n) × (cond t (bias + n) n < 0x2_0000_0000)
+    by true e = (omega arith, omega arith)
+    by false e = let l : 0x8000_0000 ≤ n = ltb-false _ _ e in (omega arith, omega arith)
+
+bound-fits : (e : Relation) (b : ℕ) → b < 0x2_0000_0000 → boundBy e b < firstPlace
+bound-fits Less b h = omega arith
+bound-fits AtMost b h = omega arith
+bound-fits Equal b h = omega arith
+bound-fits AtLeast b h = omega arith
+bound-fits More b h = omega arith
+
+-- a relation by its sides and its bound
+module _ (a b n : ℕ) (h : n < bias) where
+  bounds : (e : Relation) → sided (eqb (sidesOf e % 2) 1) (eqb (sidesOf e / 2 % 2) 1) (bias + a) (boundBy e (biased n) + b)
+      ≡ inRelation e (a + negativePart n) (b + positivePart n)
+  bounds e =
+      let q = biased-parts n h in
+      let g = biased-fits n h in
+      by e (biased n) (negativePart n) (positivePart n) q (g .0)
+    where
+      by : (e : Relation) (k m p : ℕ) → k + m ≡ bias + p → 0 < k
+          → sided (eqb (sidesOf e % 2) 1) (eqb (sidesOf e / 2 % 2) 1) (bias + a) (boundBy e k + b) ≡ inRelation e (a + m) (b + p)
+      by Less k m p q g = sided-is true false (bias + a) ((k - 1) + b) (ltb (a + m) (b + p))
+          (λ z. sym (le-ltb (a + m) (b + p) (omega arith)))
+          (λ z. sym (lt-ltb (a + m) (b + p) (omega arith)))
+          (λ z. sym (lt-ltb (a + m) (b + p) (omega arith)))
+      by AtMost k m p q g = sided-is true false (bias + a) (k + b) (leb (a + m) (b + p))
+          (λ z. sym (lt-leb (a + m) (b + p) (omega arith)))
+          (λ z. sym (le-leb (a + m) (b + p) (omega arith)))
+          (λ z. sym (le-leb (a + m) (b + p) (omega arith)))
+      by Equal k m p q g = sided-is true true (bias + a) (k + b) (eqb (a + m) (b + p))
+          (λ z. sym (ne-eqb (a + m) (b + p) (λ y. omega arith)))
+          (λ z. sym (ne-eqb (a + m) (b + p) (λ y. omega arith)))
+          (λ z. sym (eq-eqb (a + m) (b + p) (omega arith)))
+      by AtLeast k m p q g = sided-is false true (bias + a) (k + b) (leb (b + p) (a + m))
+          (λ z. sym (le-leb (b + p) (a + m) (omega arith)))
+          (λ z. sym (lt-leb (b + p) (a + m) (omega arith)))
+          (λ z. sym (le-leb (b + p) (a + m) (omega arith)))
+      by More k m p q g = sided-is false true (bias + a) ((k + 1) + b) (ltb (b + p) (a + m))
+          (λ z. sym (lt-ltb (b + p) (a + m) (omega arith)))
+          (λ z. sym (le-ltb (b + p) (a + m) (omega arith)))
+          (λ z. sym (lt-ltb (b + p) (a + m) (omega arith)))
+
+-- the clocks of a term that fits
+record Names (clocks : ℕ) (l : Left) : Type 0 where
+  first : firstClock l < clocks
+  second : (secondClock l < clocks) ⊎ (mostClocks ≤ secondClock l)
+  codes : (firstClock l < clockCodes) × (secondClock l < clockCodes)
+  value : (v : ℕ → ℕ) → pos (v (firstClock l)) -ℤ pos (cond (ltb (secondClock l) mostClocks) (v (secondClock l)) 0) ≡ leftOf l v
+
+names : (clocks : ℕ) (l : Left) → clocks ≤ mostClocks → leftFits clocks l ≡ true → Names clocks l
+names clocks (Clock a) k f =
+    let l : a < clocks = ltb-true _ _ f in
+    record { first = l; second = inr (omega arith); codes = (omega arith, omega arith); value = λ v. one-clock (v a) }
+names clocks (Difference a b) k f =
+    let p = both (ltb a clocks) (ltb b clocks && not (eqb a b)) f in
+    let l : a < clocks = ltb-true _ _ (p .0) in
+    let m : b < clocks = ltb-true _ _ (both (ltb b clocks) (not (eqb a b)) (p .1) .0) in
+    record { first = l; second = inl m; codes = (omega arith, omega arith); value = λ v. rw (lt-ltb b mostClocks (omega arith)) }
 
 -- the word of a term that fits; nothing is asked of the values
-pub word-holds : (clocks : ℕ) (t : Term) → clocks ≤ mostClocks → leftFits clocks (t .left) ≡ true → t .n < firstPlace
-    → (v : ℕ → ℕ) → holdsBy (wordOf t) v ≡ termHolds t v
-word-holds clocks t k f h v = by (t .left) f
-  where
-    by : (l : Left) → leftFits clocks l ≡ true
-        → holdsBy (relationNumber (t .relation) * relationPlace + (secondClock l * secondPlace + firstClock l * firstPlace) + t .n) v
-        ≡ related (t .relation) (leftOf l v) (signed (t .n))
-    by (Clock a) f =
-        let l : a < clocks = ltb-true _ _ f in
-        unpack (relationNumber (t .relation)) mostClocks a (t .n) (omega arith) (omega arith) h v
-        ∙ related-by (t .relation) (pos (v a) -ℤ pos 0) (signed (t .n))
-        ∙ ap (λ (x : ℤ). related (t .relation) x (signed (t .n))) (one-clock (v a))
-    by (Difference a b) f =
-        let p = both (ltb a clocks) (ltb b clocks && not (eqb a b)) f in
-        let l : a < clocks = ltb-true _ _ (p .0) in
-        let m : b < clocks = ltb-true _ _ (both (ltb b clocks) (not (eqb a b)) (p .1) .0) in
-        unpack (relationNumber (t .relation)) b a (t .n) (omega arith) (omega arith) h v
-        ∙ related-by (t .relation) (pos (v a) -ℤ pos (cond (ltb b mostClocks) (v b) 0)) (signed (t .n))
-        ∙ rw (lt-ltb b mostClocks (omega arith))
+module _ (clocks : ℕ) (t : Term) (k : clocks ≤ mostClocks) (f : leftFits clocks (t .left) ≡ true) (h : t .n < bias) where
+  fitting : boundBy (t .relation) (biased (t .n)) < firstPlace
+  fitting = bound-fits (t .relation) (biased (t .n)) (biased-fits (t .n) h .1)
+
+  pub word-holds : (v : ℕ → ℕ) → holdsBy (wordOf t) v ≡ termHolds t v
+  unfolding packed
+  word-holds v =
+      let N = names clocks (t .left) k f in
+      let s = cond (ltb (secondClock (t .left)) mostClocks) (v (secondClock (t .left))) 0 in
+      unpack (sidesOf (t .relation)) (secondClock (t .left)) (firstClock (t .left)) _ (N .codes .0) (N .codes .1) fitting v
+      ∙ bounds (v (firstClock (t .left))) s (t .n) h (t .relation)
+      ∙ compares-exactly (v (firstClock (t .left))) s (t .n) h (t .relation)
+      ∙ ap (λ (x : ℤ). related (t .relation) x (signed (t .n))) (N .value v)
+
+  pub word-named : InChart clocks (wordOf t)
+  unfolding packed
+  word-named =
+      let N = names clocks (t .left) k f in
+      let p = first-of (sidesOf (t .relation)) (secondClock (t .left)) (firstClock (t .left)) _ (N .codes .0) (N .codes .1) fitting in
+      let q = second-of (sidesOf (t .relation)) (secondClock (t .left)) (firstClock (t .left)) _ (N .codes .0) (N .codes .1) fitting in
+      record { first = rw p (N .first); second = rw q (N .second) }
 
 -- the word without a term
 zero-holds : (v : ℕ → ℕ) → holdsBy 0 v ≡ true

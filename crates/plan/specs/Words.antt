@@ -1,6 +1,6 @@
 -- A term as one number, as the steps read it.
 use mathlib.Core.Bool.{cond}
-use Prim.Native.Nat.{ℕ, _+_, _*_}
+use Prim.Native.Nat.{ℕ, _+_, _-_, _*_}
 use lib.Dec.{ltb}
 use Rattle.model.specs.declared.Term.{Term}
 use Rattle.model.specs.declared.Region.{Region}
@@ -9,15 +9,27 @@ use Rattle.model.specs.declared.Left.the-variants.{Clock, Difference}
 use Rattle.model.specs.declared.Relation.{Relation}
 use Rattle.model.specs.declared.Relation.the-variants.{Less, AtMost, Equal, AtLeast, More}
 use Rattle.model.specs.Chart.{mostClocks, termAt}
-use Rattle.stepping.specs.View.{firstPlace, secondPlace, relationPlace}
+use Rattle.stepping.specs.View.{bias, firstPlace, secondPlace, upperPlace}
 
--- the relations, by codes from 1 on
-abbrev pub relationNumber : Relation → ℕ
-relationNumber Less = 1
-relationNumber AtMost = 2
-relationNumber Equal = 3
-relationNumber AtLeast = 4
-relationNumber More = 5
+-- the sides on which a relation bounds the difference: 1 above, 2 below, 3 both
+abbrev pub sidesOf : Relation → ℕ
+sidesOf Less = 1
+sidesOf AtMost = 1
+sidesOf Equal = 3
+sidesOf AtLeast = 2
+sidesOf More = 2
+
+-- the number that n's 32 bits stand for, with bias added
+abbrev pub biased : ℕ → ℕ
+biased n = cond (ltb n 0x8000_0000) (bias + n) n
+
+-- the bound that a relation to this number is
+abbrev pub boundBy : Relation → ℕ → ℕ
+boundBy Less b = b - 1
+boundBy AtMost b = b
+boundBy Equal b = b
+boundBy AtLeast b = b
+boundBy More b = b + 1
 
 abbrev pub firstClock : Left → ℕ
 firstClock (Clock k) = k
@@ -29,7 +41,8 @@ secondClock (Clock k) = mostClocks
 secondClock (Difference a b) = b
 
 abbrev pub wordOf : Term → ℕ
-wordOf t = relationNumber (t .relation) * relationPlace + (secondClock (t .left) * secondPlace + firstClock (t .left) * firstPlace) + t .n
+wordOf t = sidesOf (t .relation) * upperPlace + (secondClock (t .left) * secondPlace + firstClock (t .left) * firstPlace)
+    + boundBy (t .relation) (biased (t .n))
 
 -- the word at place j of a region; without a term, 0
 abbrev pub wordAt : Region → ℕ → ℕ

@@ -10,11 +10,12 @@ use model::Record;
 use model::Region;
 use model::Relation;
 use model::Term;
+use stepping::BIAS;
 use stepping::FIRST_PLACE;
 use stepping::Head;
-use stepping::RELATION_PLACE;
 use stepping::SECOND_PLACE;
 use stepping::TERM_PLACES;
+use stepping::UPPER_PLACE;
 ghost use mathlib.Core.Path.{_≡_};
 ghost use mathlib.Core.Bool.{true, cond};
 ghost use Prim.Native.Nat.{ℕ, _<_};
@@ -24,8 +25,8 @@ ghost use Rattle.bitset.specs.Set.{contains, inserted};
 ghost use Rattle.model.specs.Chart.{mostRegions, mostTerms};
 ghost use Rattle.chart_value.specs.WellFormed.{wellFormed};
 ghost use Rattle.chart_value.specs.View.{codeOf, keyOf, chartOf};
-ghost use Rattle.stepping.specs.View.{conditionBy};
-ghost use Rattle.plan.specs.Words.{relationNumber, firstClock, secondClock, wordOf, wordAt};
+ghost use Rattle.stepping.specs.View.{conditionBy, InChart};
+ghost use Rattle.plan.specs.Words.{sidesOf, biased, boundBy, firstClock, secondClock, wordOf, wordAt};
 ghost use Rattle.plan.specs.Plan.{recordCode, Compiles};
 
 // A message's code: one more than label, source and destination at their places.
@@ -35,6 +36,9 @@ const SOURCE_PLACE: u64 = 0x100;
 
 // The second clock of a term of one clock.
 const NO_CLOCK: u64 = MOST_CLOCKS as u64;
+
+// n is negative from here on.
+const SIGN: u32 = 0x8000_0000;
 
 // A compiled chart: each region's key, the regions above it, the clocks that it resets, and four words of terms.
 pub struct Plan {
@@ -176,17 +180,43 @@ fn plain_of(c: Chart) -> u32
     plain
 }
 
-// The relations by codes from 1 on; 0 is left for no term.
-fn relation_number(e: Relation) -> u64
-    ensures value { λ r. ⌜ r ≡ relationNumber e ⌝ }
-    ensures bound { λ r. ⌜ r < 6 ⌝ }
+// The sides on which a relation bounds the difference: 1 above, 2 below, 3 both.
+fn sides_of(e: Relation) -> u64
+    ensures value { λ r. ⌜ r ≡ sidesOf e ⌝ }
+    ensures bound { λ r. ⌜ r < 4 ⌝ }
 {
     match e {
         Relation::Less => 1,
-        Relation::AtMost => 2,
+        Relation::AtMost => 1,
         Relation::Equal => 3,
-        Relation::AtLeast => 4,
-        Relation::More => 5,
+        Relation::AtLeast => 2,
+        Relation::More => 2,
+    }
+}
+
+// The number that n's 32 bits stand for, with BIAS added.
+fn biased_number(n: u32) -> u64
+    ensures value { λ r. ⌜ r ≡ biased n ⌝ }
+    ensures bound { λ r. ⌜ (0 < r) × (r < 0x2_0000_0000) ⌝ }
+{
+    if n < SIGN {
+        return BIAS + wide32(n);
+    }
+    wide32(n)
+}
+
+// The bound that a relation to this number is.
+fn bound_by(e: Relation, b: u64) -> u64
+    requires { ⌜ (0 < b) × (b < 0x2_0000_0000) ⌝ }
+    ensures value { λ r. ⌜ r ≡ boundBy e b ⌝ }
+    ensures bound { λ r. ⌜ r < 0x4_0000_0000 ⌝ }
+{
+    match e {
+        Relation::Less => b - 1,
+        Relation::AtMost => b,
+        Relation::Equal => b,
+        Relation::AtLeast => b,
+        Relation::More => b + 1,
     }
 }
 
@@ -219,7 +249,7 @@ fn word_of(t: Term) -> u64
     let l = t.left;
     let e = t.relation;
     let clocks = second_clock(l) * SECOND_PLACE + first_clock(l) * FIRST_PLACE;
-    relation_number(e) * RELATION_PLACE + clocks + wide32(t.n)
+    sides_of(e) * UPPER_PLACE + clocks + bound_by(e, biased_number(t.n))
 }
 
 // The word of term j; 0 where there is none.
@@ -236,7 +266,8 @@ fn word_at(g: Region, j: usize) -> u64
 // The words of each region's terms, four places a region.
 fn terms_of(c: Chart) -> [u64; TERM_PLACES]
     requires { ⌜ wellFormed c ≡ true ⌝ }
-    ensures { λ r. ⌜ ((i : ℕ) (value : ℕ → ℕ) → conditionBy r i value ≡ chartOf c .condition i value) ⌝ }
+    ensures conditions { λ r. ⌜ ((i : ℕ) (value : ℕ → ℕ) → conditionBy r i value ≡ chartOf c .condition i value) ⌝ }
+    ensures words { λ r. ⌜ ((k : ℕ) → ¬ (getD r k 0 ≡ 0) → InChart (c .clocks) (getD r k 0)) ⌝ }
 {
     let places = c.count as usize * MOST_TERMS;
     let mut terms = [0u64; TERM_PLACES];

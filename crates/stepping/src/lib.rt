@@ -227,12 +227,7 @@ fn word_holds(word: u64, first: Moment, second: Moment) -> bool
 
 // All terms of region i hold at moment t, which stands for the second clock that a term lacks. The array of moments is looked into here
 // and lent no further: a call that takes it by value would copy it for each clock.
-fn holds(
-    terms: &[u64; TERM_PLACES],
-    resets: [Moment; CLOCK_PLACES],
-    i: usize,
-    t: Moment,
-) -> bool
+fn holds(terms: &[u64; TERM_PLACES], resets: [Moment; CLOCK_PLACES], i: usize, t: Moment) -> bool
     requires { ⌜ i < mostRegions ⌝ }
     ensures { λ r. ⌜ ((clocks : ℕ) → Testable clocks (t .0) resets (now (terms .entry)) → r ≡ conditionBy (now (terms .entry)) i (valueAt clocks (t .0) resets)) ⌝ }
 {

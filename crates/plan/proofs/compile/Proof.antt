@@ -47,7 +47,8 @@ returns c =
     (c .before .before .before .keys-of .ensures)
     (c .before .before .above-sets .ensures .0)
     (c .before .resets-of .ensures)
-    (c .terms-of .ensures)
+    (c .terms-of .ensures .0)
+    (c .terms-of .ensures .1)
 
 pub compile-spec : {M : Type 1} → statement M
 compile-spec =
