@@ -21,7 +21,7 @@ use Rattle.condition.specs.Parts.{inRelation, positivePart, negativePart}
 use Rattle.condition.proofs.Signed.{compares-exactly, one-clock}
 use Rattle.rounds.specs.Base.{allBelow}
 use Rattle.chart_value.specs.WellFormed.{leftFits}
-use Rattle.stepping.specs.View.{bias, firstPlace, secondPlace, upperPlace, lowerPlace, clockCodes, firstOf, secondOf, holdsBy, InChart}
+use Rattle.stepping.specs.View.{secondPlace, upperPlace, lowerPlace, boundPlace, bias, clockCodes, firstOf, secondOf, holdsBy, InChart}
 use Rattle.plan.specs.Words.{sidesOf, biased, boundBy, firstClock, secondClock, wordOf, wordAt}
 
 -- a bound by its sides
@@ -29,31 +29,30 @@ sided : (u l : Bool) → ℕ → ℕ → Bool
 sided u l x y = not (u && ltb y x) && not (l && ltb x y)
 
 -- a word taken apart
-module _ (r s f b : ℕ) (hf : f < clockCodes) (hs : s < clockCodes) (hb : b < firstPlace) where
+module _ (b r s f : ℕ) (hr : r < 4) (hs : s < clockCodes) (hf : f < clockCodes) where
   packed : ℕ
-  packed = r * upperPlace + (s * secondPlace + f * firstPlace) + b
+  packed = b * boundPlace + r * upperPlace + s * secondPlace + f
 
   first-of : firstOf packed ≡ f
   unfolding packed
-  first-of =
-      let e : packed / firstPlace ≡ (r * clockCodes + s) * clockCodes + f = omega arith in
-      let g : ((r * clockCodes + s) * clockCodes + f) % clockCodes ≡ f = omega arith in
-      rw (e, g)
+  first-of = omega arith
 
   second-of : secondOf packed ≡ s
   unfolding packed
   second-of =
-      let e : packed / secondPlace ≡ r * clockCodes + s = omega arith in
-      let g : (r * clockCodes + s) % clockCodes ≡ s = omega arith in
+      let e : packed / secondPlace ≡ (b * 4 + r) * clockCodes + s = omega arith in
+      let g : ((b * 4 + r) * clockCodes + s) % clockCodes ≡ s = omega arith in
       rw (e, g)
 
-  unpack : (v : ℕ → ℕ) → holdsBy packed v ≡ sided (eqb (r % 2) 1) (eqb (r / 2 % 2) 1) (bias + v f) (b + cond (ltb s mostClocks) (v s) 0)
+  unpack : (v : ℕ → ℕ) → holdsBy packed v ≡ sided (eqb (r % 2) 1) (eqb (r / 2) 1) (bias + v f) (b + cond (ltb s mostClocks) (v s) 0)
   unfolding holdsBy sided packed
   unpack v =
-      let eb : packed % firstPlace ≡ b = omega arith in
-      let eu : packed / upperPlace ≡ r = omega arith in
-      let el : packed / lowerPlace ≡ r / 2 = omega arith in
-      rw (eb, first-of, second-of, eu, el)
+      let eb : packed / boundPlace ≡ b = omega arith in
+      let eu : packed / upperPlace ≡ b * 4 + r = omega arith in
+      let el : packed / lowerPlace ≡ b * 2 + r / 2 = omega arith in
+      let u : (b * 4 + r) % 2 ≡ r % 2 = omega arith in
+      let l : (b * 2 + r / 2) % 2 ≡ r / 2 = omega arith in
+      rw (eb, first-of, second-of, eu, u, el, l)
 
 -- by the order of the two numbers
 module _ (u l : Bool) (x y : ℕ) (t : Bool) (above : y < x → not u ≡ t) (under : x < y → not l ≡ t) (same : x ≡ y → true ≡ t) where
@@ -92,31 +91,28 @@ biased-parts n h = by (ltb n 0x8000_0000)
     by true = omega arith
     by false = omega arith
 
-biased-fits : (n : ℕ) → n < bias → (0 < biased n) × (biased n < 0x2_0000_0000)
-biased-fits n h = by (ltb n 0x8000_0000) refl
+biased-positive : (n : ℕ) → n < bias → 0 < biased n
+biased-positive n h = by (ltb n 0x8000_0000) refl
   where
-    by : (t : Bool) → ltb n 0x8000_0000 ≡ t → (0 < cond t (bias + n) n) × (cond t (bias + n) n < 0x2_0000_0000)
-    by true e = (omega arith, omega arith)
-    by false e = let l : 0x8000_0000 ≤ n = ltb-false _ _ e in (omega arith, omega arith)
+    by : (t : Bool) → ltb n 0x8000_0000 ≡ t → 0 < cond t (bias + n) n
+    by true e = omega arith
+    by false e = let l : 0x8000_0000 ≤ n = ltb-false _ _ e in omega arith
 
-bound-fits : (e : Relation) (b : ℕ) → b < 0x2_0000_0000 → boundBy e b < firstPlace
-bound-fits Less b h = omega arith
-bound-fits AtMost b h = omega arith
-bound-fits Equal b h = omega arith
-bound-fits AtLeast b h = omega arith
-bound-fits More b h = omega arith
+sides-fit : (e : Relation) → sidesOf e < 4
+sides-fit Less = omega arith
+sides-fit AtMost = omega arith
+sides-fit Equal = omega arith
+sides-fit AtLeast = omega arith
+sides-fit More = omega arith
 
 -- a relation by its sides and its bound
 module _ (a b n : ℕ) (h : n < bias) where
-  bounds : (e : Relation) → sided (eqb (sidesOf e % 2) 1) (eqb (sidesOf e / 2 % 2) 1) (bias + a) (boundBy e (biased n) + b)
+  bounds : (e : Relation) → sided (eqb (sidesOf e % 2) 1) (eqb (sidesOf e / 2) 1) (bias + a) (boundBy e (biased n) + b)
       ≡ inRelation e (a + negativePart n) (b + positivePart n)
-  bounds e =
-      let q = biased-parts n h in
-      let g = biased-fits n h in
-      by e (biased n) (negativePart n) (positivePart n) q (g .0)
+  bounds e = by e (biased n) (negativePart n) (positivePart n) (biased-parts n h) (biased-positive n h)
     where
       by : (e : Relation) (k m p : ℕ) → k + m ≡ bias + p → 0 < k
-          → sided (eqb (sidesOf e % 2) 1) (eqb (sidesOf e / 2 % 2) 1) (bias + a) (boundBy e k + b) ≡ inRelation e (a + m) (b + p)
+          → sided (eqb (sidesOf e % 2) 1) (eqb (sidesOf e / 2) 1) (bias + a) (boundBy e k + b) ≡ inRelation e (a + m) (b + p)
       by Less k m p q g = sided-is true false (bias + a) ((k - 1) + b) (ltb (a + m) (b + p))
           (λ z. sym (le-ltb (a + m) (b + p) (omega arith)))
           (λ z. sym (lt-ltb (a + m) (b + p) (omega arith)))
@@ -157,15 +153,12 @@ names clocks (Difference a b) k f =
 
 -- the word of a term that fits; nothing is asked of the values
 module _ (clocks : ℕ) (t : Term) (k : clocks ≤ mostClocks) (f : leftFits clocks (t .left) ≡ true) (h : t .n < bias) where
-  fitting : boundBy (t .relation) (biased (t .n)) < firstPlace
-  fitting = bound-fits (t .relation) (biased (t .n)) (biased-fits (t .n) h .1)
-
   pub word-holds : (v : ℕ → ℕ) → holdsBy (wordOf t) v ≡ termHolds t v
   unfolding packed
   word-holds v =
       let N = names clocks (t .left) k f in
       let s = cond (ltb (secondClock (t .left)) mostClocks) (v (secondClock (t .left))) 0 in
-      unpack (sidesOf (t .relation)) (secondClock (t .left)) (firstClock (t .left)) _ (N .codes .0) (N .codes .1) fitting v
+      unpack _ (sidesOf (t .relation)) (secondClock (t .left)) (firstClock (t .left)) (sides-fit (t .relation)) (N .codes .1) (N .codes .0) v
       ∙ bounds (v (firstClock (t .left))) s (t .n) h (t .relation)
       ∙ compares-exactly (v (firstClock (t .left))) s (t .n) h (t .relation)
       ∙ ap (λ (x : ℤ). related (t .relation) x (signed (t .n))) (N .value v)
@@ -174,8 +167,8 @@ module _ (clocks : ℕ) (t : Term) (k : clocks ≤ mostClocks) (f : leftFits clo
   unfolding packed
   word-named =
       let N = names clocks (t .left) k f in
-      let p = first-of (sidesOf (t .relation)) (secondClock (t .left)) (firstClock (t .left)) _ (N .codes .0) (N .codes .1) fitting in
-      let q = second-of (sidesOf (t .relation)) (secondClock (t .left)) (firstClock (t .left)) _ (N .codes .0) (N .codes .1) fitting in
+      let p = first-of (boundBy (t .relation) (biased (t .n))) (sidesOf (t .relation)) (secondClock (t .left)) (firstClock (t .left)) (sides-fit (t .relation)) (N .codes .1) (N .codes .0) in
+      let q = second-of (boundBy (t .relation) (biased (t .n))) (sidesOf (t .relation)) (secondClock (t .left)) (firstClock (t .left)) (sides-fit (t .relation)) (N .codes .1) (N .codes .0) in
       record { first = rw p (N .first); second = rw q (N .second) }
 
 -- the word without a term

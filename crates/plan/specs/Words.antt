@@ -9,7 +9,7 @@ use Rattle.model.specs.declared.Left.the-variants.{Clock, Difference}
 use Rattle.model.specs.declared.Relation.{Relation}
 use Rattle.model.specs.declared.Relation.the-variants.{Less, AtMost, Equal, AtLeast, More}
 use Rattle.model.specs.Chart.{mostClocks, termAt}
-use Rattle.stepping.specs.View.{bias, firstPlace, secondPlace, upperPlace}
+use Rattle.stepping.specs.View.{secondPlace, upperPlace, boundPlace, bias}
 
 -- the sides on which a relation bounds the difference: 1 above, 2 below, 3 both
 abbrev pub sidesOf : Relation → ℕ
@@ -41,8 +41,8 @@ secondClock (Clock k) = mostClocks
 secondClock (Difference a b) = b
 
 abbrev pub wordOf : Term → ℕ
-wordOf t = sidesOf (t .relation) * upperPlace + (secondClock (t .left) * secondPlace + firstClock (t .left) * firstPlace)
-    + boundBy (t .relation) (biased (t .n))
+wordOf t = boundBy (t .relation) (biased (t .n)) * boundPlace + sidesOf (t .relation) * upperPlace
+    + secondClock (t .left) * secondPlace + firstClock (t .left)
 
 -- the word at place j of a region; without a term, 0
 abbrev pub wordAt : Region → ℕ → ℕ

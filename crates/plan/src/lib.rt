@@ -11,7 +11,7 @@ use model::Region;
 use model::Relation;
 use model::Term;
 use stepping::BIAS;
-use stepping::FIRST_PLACE;
+use stepping::BOUND_PLACE;
 use stepping::Head;
 use stepping::SECOND_PLACE;
 use stepping::TERM_PLACES;
@@ -248,8 +248,8 @@ fn word_of(t: Term) -> u64
 {
     let l = t.left;
     let e = t.relation;
-    let clocks = second_clock(l) * SECOND_PLACE + first_clock(l) * FIRST_PLACE;
-    sides_of(e) * UPPER_PLACE + clocks + bound_by(e, biased_number(t.n))
+    let bound = bound_by(e, biased_number(t.n)) * BOUND_PLACE + sides_of(e) * UPPER_PLACE;
+    bound + second_clock(l) * SECOND_PLACE + first_clock(l)
 }
 
 // The word of term j; 0 where there is none.

@@ -20,35 +20,35 @@ use Rattle.stepping.specs.declared.Step.{Step}
 use Rattle.stepping.specs.Answers.{answerOf}
 
 -- A term as one number, its word. Every relation bounds the difference d, the first clock's value less the second's, by a number k: from
--- above, d ≤ k, from below, k ≤ d, or from both sides. The word has bias + k, then the first clock, the second clock and the sides, each
+-- above, d ≤ k, from below, k ≤ d, or from both sides. The word has the first clock, then the second clock, the sides and bias + k, each
 -- at its place. A term of one clock has, as its second clock, a number from 8 on.
-abbrev pub bias : ℕ
-bias = 0x1_0000_0000
-
-abbrev pub firstPlace : ℕ
-firstPlace = 0x100_0000_0000
-
 abbrev pub secondPlace : ℕ
-secondPlace = 0x1000_0000_0000
+secondPlace = 0x10
 
 abbrev pub upperPlace : ℕ
-upperPlace = 0x1_0000_0000_0000
+upperPlace = 0x100
 
 abbrev pub lowerPlace : ℕ
-lowerPlace = 0x2_0000_0000_0000
+lowerPlace = 0x200
+
+abbrev pub boundPlace : ℕ
+boundPlace = 0x400
+
+abbrev pub bias : ℕ
+bias = 0x1_0000_0000
 
 -- the number of codes of a clock in a word
 abbrev pub clockCodes : ℕ
 clockCodes = 16
 
-abbrev pub boundOf : ℕ → ℕ
-boundOf w = w % firstPlace
-
 abbrev pub firstOf : ℕ → ℕ
-firstOf w = w / firstPlace % clockCodes
+firstOf w = w % clockCodes
 
 abbrev pub secondOf : ℕ → ℕ
 secondOf w = w / secondPlace % clockCodes
+
+abbrev pub boundOf : ℕ → ℕ
+boundOf w = w / boundPlace
 
 -- the second clock's value; a term of one clock has no second clock: 0
 abbrev pub secondValue : ℕ → (ℕ → ℕ) → ℕ

@@ -26,16 +26,17 @@ ghost use Rattle.stepping.specs.Parts.{readyBy, foundOf, soughtBy, value
 
 pub const TERM_PLACES: usize = MOST_REGIONS * MOST_TERMS;
 
-// A term's word: below FIRST_PLACE the bound with BIAS added, then the first clock, the second clock and the two sides, each at its place.
+// A term's word: the first clock below SECOND_PLACE, then the second clock, the two sides and, with BIAS added, the bound, each at its
+// place. What is small stands below, where a test of it needs no large constant.
+pub const SECOND_PLACE: u64 = 0x10;
+
+pub const UPPER_PLACE: u64 = 0x100;
+
+const LOWER_PLACE: u64 = 0x200;
+
+pub const BOUND_PLACE: u64 = 0x400;
+
 pub const BIAS: u64 = 0x1_0000_0000;
-
-pub const FIRST_PLACE: u64 = 0x100_0000_0000;
-
-pub const SECOND_PLACE: u64 = 0x1000_0000_0000;
-
-pub const UPPER_PLACE: u64 = 0x1_0000_0000_0000;
-
-pub const LOWER_PLACE: u64 = 0x2_0000_0000_0000;
 
 const CLOCK_CODES: u64 = 16;
 
@@ -219,7 +220,7 @@ fn word_holds(word: u64, first: Moment, second: Moment) -> bool
     ensures { λ r. ⌜ r ≡ bounded word (bias + second .0) (boundOf word + first .0) ⌝ }
 {
     let x = BIAS + ticks(second);
-    let y = word % FIRST_PLACE + ticks(first);
+    let y = word / BOUND_PLACE + ticks(first);
     let upper = word / UPPER_PLACE % 2 == 1;
     let lower = word / LOWER_PLACE % 2 == 1;
     !(upper & (y < x)) & !(lower & (x < y))
@@ -235,7 +236,7 @@ fn holds(terms: &[u64; TERM_PLACES], resets: [Moment; CLOCK_PLACES], i: usize, t
     while j < MOST_TERMS {
         let word = terms[i * MOST_TERMS + j];
         if word != 0 {
-            let a = (word / FIRST_PLACE % CLOCK_CODES) as usize;
+            let a = (word % CLOCK_CODES) as usize;
             let b = (word / SECOND_PLACE % CLOCK_CODES) as usize;
             let first = resets[a % CLOCK_PLACES];
             let second = pick(b < CLOCK_PLACES, resets[b % CLOCK_PLACES], t);
