@@ -23,11 +23,11 @@ use Rattle.rounds.specs.Chart.{Accepted}
 use Rattle.chart_value.specs.View.{codeOf, keyOf, regionOf, chartOf}
 use Rattle.chart_value.proofs.Facts.{WellFormed}
 use Rattle.chart_value.proofs.Order.{fits-at}
-use Rattle.stepping.specs.View.{bias, conditionBy, planChart, InChart}
+use Rattle.stepping.specs.View.{bias, conditionBy, planChart, InChart, Words}
 use Rattle.plan.specs.declared.Plan.{Plan}
 use Rattle.plan.specs.Words.{wordOf, wordAt}
 use Rattle.plan.specs.Plan.{Compiles}
-use Rattle.plan.proofs.Words.{word-holds, word-named, words-hold}
+use Rattle.plan.proofs.Words.{word-is, word-holds, word-named, words-hold}
 use Rattle.plan.proofs.Members.{Gathered}
 
 -- a part of the region at i, or of zeros beyond the chart
@@ -100,7 +100,7 @@ module _ (c : Chart) (w : WellFormed c) (numbers : (i j : ℕ) → i < mostRegio
           ∙ ap (λ (b : Bool). conditionHolds (cond b (regionAt c i) zeroRegion) v) (sym (le-ltb i (c .count) l))
 
   -- a word that isn't 0 is a term's
-  pub words-named : (k : ℕ) → ¬ (getD terms k 0 ≡ 0) → InChart (c .clocks) (getD terms k 0)
+  words-named : (k : ℕ) → ¬ (getD terms k 0 ≡ 0) → InChart (c .clocks) (getD terms k 0)
   words-named k z = by (decLt k (c .count * mostTerms)) (decLt (k % mostTerms) (regionAt c (k / mostTerms) .«term_count»))
     where
       by : Dec (k < c .count * mostTerms) → Dec (k % mostTerms < regionAt c (k / mostTerms) .«term_count») → InChart (c .clocks) (getD terms k 0)
@@ -118,6 +118,21 @@ module _ (c : Chart) (w : WellFormed c) (numbers : (i j : ℕ) → i < mostRegio
           (word-named (c .clocks) (termAt (regionAt c (k / mostTerms)) (k % mostTerms)) (w .clocks) (t .used (k % mostTerms) d)
           (numbers (k / mostTerms) (k % mostTerms) (omega arith) (omega arith)))
 
+  words-end : (i j k : ℕ) → j ≤ k → k < mostTerms → getD terms (i * mostTerms + j) 0 ≡ 0 → getD terms (i * mostTerms + k) 0 ≡ 0
+  words-end i j k l m z = by (decLt i (c .count)) (decLt j (regionAt c i .«term_count»))
+    where
+      by : Dec (i < c .count) → Dec (j < regionAt c i .«term_count») → getD terms (i * mostTerms + k) 0 ≡ 0
+      by (no h) d = words-beyond i k (omega arith)
+      by (yes h) (yes d) =
+          absurd (word-is (termAt (regionAt c i) j)
+          (ap (λ (b : Bool). cond b (wordOf (termAt (regionAt c i) j)) 0) (sym (lt-ltb j (regionAt c i .«term_count») d)) ∙ sym (words-in i j h (omega arith)) ∙ z))
+      by (yes h) (no d) =
+          let g : regionAt c i .«term_count» ≤ k = omega arith in
+          words-in i k h m ∙ ap (λ (b : Bool). cond b (wordOf (termAt (regionAt c i) k)) 0) (le-ltb k (regionAt c i .«term_count») g)
+
+  pub words-are : Words (c .clocks) terms
+  words-are = record { named = words-named; ends = words-end }
+
 -- the parts together
 module _ (c : Chart) (p : Plan) (w : WellFormed c) (accepted : Accepted (chartOf c))
     (heading : (p .head .count ≡ c .count) × (p .head .prechart ≡ c .prechart) × (p .head .clocks ≡ c .clocks))
@@ -127,7 +142,7 @@ module _ (c : Chart) (p : Plan) (w : WellFormed c) (accepted : Accepted (chartOf
     (above : p .above ≡ aboveOf c)
     (resets : (i k : ℕ) → contains (getD (p .resets) i 0) k ≡ chartOf c .resets i k)
     (terms : (i : ℕ) (v : ℕ → ℕ) → conditionBy (p .terms) i v ≡ chartOf c .condition i v)
-    (words : (k : ℕ) → ¬ (getD (p .terms) k 0 ≡ 0) → InChart (c .clocks) (getD (p .terms) k 0)) where
+    (words : Words (c .clocks) (p .terms)) where
   above-set : (a b : ℕ) → contains (getD (p .above) b 0) a ≡ chartOf c .above a b
   above-set a b = ap (λ (l : List ℕ). contains (getD l b 0) a) above ∙ above-shows c a b
 

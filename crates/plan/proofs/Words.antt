@@ -98,12 +98,16 @@ biased-positive n h = by (ltb n 0x8000_0000) refl
     by true e = omega arith
     by false e = let l : 0x8000_0000 ≤ n = ltb-false _ _ e in omega arith
 
-sides-fit : (e : Relation) → sidesOf e < 4
-sides-fit Less = omega arith
-sides-fit AtMost = omega arith
-sides-fit Equal = omega arith
-sides-fit AtLeast = omega arith
-sides-fit More = omega arith
+sides-fit : (e : Relation) → (0 < sidesOf e) × (sidesOf e < 4)
+sides-fit Less = (omega arith, omega arith)
+sides-fit AtMost = (omega arith, omega arith)
+sides-fit Equal = (omega arith, omega arith)
+sides-fit AtLeast = (omega arith, omega arith)
+sides-fit More = (omega arith, omega arith)
+
+-- no term's word is 0
+pub word-is : (t : Term) → ¬ (wordOf t ≡ 0)
+word-is t z = omega (arith, sides-fit (t .relation) .0)
 
 -- a relation by its sides and its bound
 module _ (a b n : ℕ) (h : n < bias) where
@@ -158,7 +162,7 @@ module _ (clocks : ℕ) (t : Term) (k : clocks ≤ mostClocks) (f : leftFits clo
   word-holds v =
       let N = names clocks (t .left) k f in
       let s = cond (ltb (secondClock (t .left)) mostClocks) (v (secondClock (t .left))) 0 in
-      unpack _ (sidesOf (t .relation)) (secondClock (t .left)) (firstClock (t .left)) (sides-fit (t .relation)) (N .codes .1) (N .codes .0) v
+      unpack _ (sidesOf (t .relation)) (secondClock (t .left)) (firstClock (t .left)) (sides-fit (t .relation) .1) (N .codes .1) (N .codes .0) v
       ∙ bounds (v (firstClock (t .left))) s (t .n) h (t .relation)
       ∙ compares-exactly (v (firstClock (t .left))) s (t .n) h (t .relation)
       ∙ ap (λ (x : ℤ). related (t .relation) x (signed (t .n))) (N .value v)
@@ -167,8 +171,8 @@ module _ (clocks : ℕ) (t : Term) (k : clocks ≤ mostClocks) (f : leftFits clo
   unfolding packed
   word-named =
       let N = names clocks (t .left) k f in
-      let p = first-of (boundBy (t .relation) (biased (t .n))) (sidesOf (t .relation)) (secondClock (t .left)) (firstClock (t .left)) (sides-fit (t .relation)) (N .codes .1) (N .codes .0) in
-      let q = second-of (boundBy (t .relation) (biased (t .n))) (sidesOf (t .relation)) (secondClock (t .left)) (firstClock (t .left)) (sides-fit (t .relation)) (N .codes .1) (N .codes .0) in
+      let p = first-of (boundBy (t .relation) (biased (t .n))) (sidesOf (t .relation)) (secondClock (t .left)) (firstClock (t .left)) (sides-fit (t .relation) .1) (N .codes .1) (N .codes .0) in
+      let q = second-of (boundBy (t .relation) (biased (t .n))) (sidesOf (t .relation)) (secondClock (t .left)) (firstClock (t .left)) (sides-fit (t .relation) .1) (N .codes .1) (N .codes .0) in
       record { first = rw p (N .first); second = rw q (N .second) }
 
 -- the word without a term

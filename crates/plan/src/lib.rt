@@ -25,7 +25,7 @@ ghost use Rattle.bitset.specs.Set.{contains, inserted};
 ghost use Rattle.model.specs.Chart.{mostRegions, mostTerms};
 ghost use Rattle.chart_value.specs.WellFormed.{wellFormed};
 ghost use Rattle.chart_value.specs.View.{codeOf, keyOf, chartOf};
-ghost use Rattle.stepping.specs.View.{conditionBy, InChart};
+ghost use Rattle.stepping.specs.View.{conditionBy, Words};
 ghost use Rattle.plan.specs.Words.{sidesOf, biased, boundBy, firstClock, secondClock, wordOf, wordAt};
 ghost use Rattle.plan.specs.Plan.{recordCode, Compiles};
 
@@ -267,7 +267,7 @@ fn word_at(g: Region, j: usize) -> u64
 fn terms_of(c: Chart) -> [u64; TERM_PLACES]
     requires { ⌜ wellFormed c ≡ true ⌝ }
     ensures conditions { λ r. ⌜ ((i : ℕ) (value : ℕ → ℕ) → conditionBy r i value ≡ chartOf c .condition i value) ⌝ }
-    ensures words { λ r. ⌜ ((k : ℕ) → ¬ (getD r k 0 ≡ 0) → InChart (c .clocks) (getD r k 0)) ⌝ }
+    ensures words { λ r. ⌜ Words (c .clocks) r ⌝ }
 {
     let places = c.count as usize * MOST_TERMS;
     let mut terms = [0u64; TERM_PLACES];

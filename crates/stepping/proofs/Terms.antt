@@ -63,15 +63,16 @@ module _ {clocks t : ℕ} {resets : List Moment} {terms : List ℕ} (T : Testabl
   same-test : (k : ℕ) → Dec (getD terms k 0 ≡ 0) → holdsBy (getD terms k 0) (valueAt clocks t resets) ≡ heldAt (getD terms k 0) t resets
   unfolding holdsBy heldAt
   same-test k (yes e) = rw e
-  same-test k (no e) = word-tested (getD terms k 0) (T .words k e)
+  same-test k (no e) = word-tested (getD terms k 0) (T .words .named k e)
 
   pub condition-tested : (i : ℕ) → allBelow mostTerms (λ j. heldAt (getD terms (i * mostTerms + j) 0) t resets) ≡ conditionBy terms i (valueAt clocks t resets)
   condition-tested i = ap (allBelow mostTerms) (fun-ext (λ j. sym (same-test (i * mostTerms + j) (ℕ-discrete (getD terms (i * mostTerms + j) 0) 0))))
 
--- without a term
-pub no-term : {w : ℕ} (t : ℕ) (resets : List Moment) → w ≡ 0 → heldAt w t resets ≡ true
-unfolding heldAt
-no-term t resets e = rw e
+  -- from the first word without a term on
+  pub terms-end : (i j : ℕ) → getD terms (i * mostTerms + j) 0 ≡ 0 → (k : ℕ) → j ≤ k → k < mostTerms
+      → heldAt (getD terms (i * mostTerms + k) 0) t resets ≡ true
+  unfolding heldAt
+  terms-end i j e k l m = rw (T .words .ends i j k l m e)
 
 pub term-held : (w t : ℕ) (resets : List Moment) (x : ℕ) (r : Bool) → x ≡ cond (ltb (secondOf w) mostClocks) (momentsOf resets (secondOf w % mostClocks)) t
     → r ≡ bounded w (bias + x) (boundOf w + momentsOf resets (firstOf w % mostClocks)) → heldAt w t resets ≡ r

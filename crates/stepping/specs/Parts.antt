@@ -21,7 +21,7 @@ use Rattle.stepping.specs.declared.Found.{Found}
 use Rattle.stepping.specs.declared.Found.the-variants.{At, Nothing}
 use Rattle.stepping.specs.declared.Sought.{Sought}
 use Rattle.stepping.specs.declared.Sought.the-variants.{Ready, Unready, Foreign}
-use Rattle.stepping.specs.View.{InChart, momentsOf, placeAt}
+use Rattle.stepping.specs.View.{Words, momentsOf, placeAt}
 
 -- region i isn't fired, and those above it are: `above` has the set of regions above each region
 abbrev pub readyBy : List ℕ → ℕ → ℕ → Bool
@@ -41,11 +41,11 @@ soughtBy keys above count fired code = onFound (first count (λ i. eqb (getD key
 abbrev pub valueAt : ℕ → ℕ → List Moment → ℕ → ℕ
 valueAt clocks t resets c = cond (ltb c clocks) (t - momentsOf resets c) 0
 
--- what the test of words by the moments assumes: the words' clocks are among at most eight, and no clock is reset after moment t
+-- what the test of words by the moments assumes: at most eight clocks, none reset after moment t, and a compiled chart's words
 pub record Testable (clocks t : ℕ) (resets : List Moment) (terms : List ℕ) : Type 0 where
   pub few : clocks ≤ mostClocks
   pub past : (c : ℕ) → momentsOf resets c ≤ t
-  pub words : (k : ℕ) → ¬ (getD terms k 0 ≡ 0) → InChart clocks (getD terms k 0)
+  pub words : Words clocks terms
 
 -- region i fired at moment t, its clocks reset
 abbrev pub fireBy : List ℕ → ℕ → Place → ℕ → AbstractPlace

@@ -85,13 +85,19 @@ pub record InChart (clocks w : ℕ) : Type 0 where
   pub first : firstOf w < clocks
   pub second : (secondOf w < clocks) ⊎ (mostClocks ≤ secondOf w)
 
+-- what a compiled chart's words are
+pub record Words (clocks : ℕ) (terms : List ℕ) : Type 0 where
+  pub named : (k : ℕ) → ¬ (getD terms k 0 ≡ 0) → InChart clocks (getD terms k 0)
+  -- behind a region's last term are zeros
+  pub ends : (i j k : ℕ) → j ≤ k → k < mostTerms → getD terms (i * mostTerms + j) 0 ≡ 0 → getD terms (i * mostTerms + k) 0 ≡ 0
+
 -- what compiling an accepted chart gives
 pub record Compiled (h : Head) (keys above resets terms : List ℕ) : Type 0 where
   pub regions : h .count ≤ mostRegions
   pub clocks : h .clocks ≤ mostClocks
   -- the set of plain regions
   pub plain : (i : ℕ) → i < h .count → contains (h .plain) i ≡ eqb (getD keys i 0) 0
-  pub words : (k : ℕ) → ¬ (getD terms k 0 ≡ 0) → InChart (h .clocks) (getD terms k 0)
+  pub words : Words (h .clocks) terms
   pub accepted : Accepted (planChart h keys above resets terms)
 
 -- each clock's reset moment

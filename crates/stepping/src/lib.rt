@@ -235,14 +235,15 @@ fn holds(terms: &[u64; TERM_PLACES], resets: [Moment; CLOCK_PLACES], i: usize, t
     let mut j: usize = 0;
     while j < MOST_TERMS {
         let word = terms[i * MOST_TERMS + j];
-        if word != 0 {
-            let a = (word % CLOCK_CODES) as usize;
-            let b = (word / SECOND_PLACE % CLOCK_CODES) as usize;
-            let first = resets[a % CLOCK_PLACES];
-            let second = pick(b < CLOCK_PLACES, resets[b % CLOCK_PLACES], t);
-            if !word_holds(word, first, second) {
-                return false;
-            }
+        if word == 0 {
+            return true;
+        }
+        let a = (word % CLOCK_CODES) as usize;
+        let b = (word / SECOND_PLACE % CLOCK_CODES) as usize;
+        let first = resets[a % CLOCK_PLACES];
+        let second = pick(b < CLOCK_PLACES, resets[b % CLOCK_PLACES], t);
+        if !word_holds(word, first, second) {
+            return false;
         }
         j += 1;
     }

@@ -9,7 +9,7 @@ use Rattle.model.proofs.Filled.{Filled, filled-none, filled-next}
 use Rattle.chart_value.proofs.Facts.{wf-of}
 use Rattle.chart_value.proofs.Owned.{owned-at}
 use Rattle.plan.specs.Words.{wordAt}
-use Rattle.plan.proofs.Shows.{terms-show, words-named}
+use Rattle.plan.proofs.Shows.{terms-show, words-are}
 use Rattle.plan.proofs.terms_of.Statement.{statement}
 use Rattle.plan.proofs.terms_of.Tie as tie
 
@@ -63,7 +63,7 @@ returns c =
     let W = wf-of (s .args .t1) (s .pre) in
     let F = rw e at (l .inv .3) in (
       terms-show (s .args .t1) W (λ i j h m. owned-at (s .args .t1) _ (s .good .0) i h .numbers j m) (l .terms) F,
-      words-named (s .args .t1) W (λ i j h m. owned-at (s .args .t1) _ (s .good .0) i h .numbers j m) (l .terms) F,
+      words-are (s .args .t1) W (λ i j h m. owned-at (s .args .t1) _ (s .good .0) i h .numbers j m) (l .terms) F,
     )
 
 pub terms-of-spec : {M : Type 1} → statement M

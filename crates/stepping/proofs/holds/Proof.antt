@@ -1,15 +1,14 @@
 -- The loop's invariant: every term so far holds, by the moments. Assumes nothing.
 use mathlib.Core.Bool.{true}
 use mathlib.Core.Path.{_∙_, sym}
-use mathlib.Core.Logic.{⊎-elim}
 use Prim.Native.Nat.{_≤_, _-_, _+_, _*_}
 use native.Mathlib.Omega.{arith}
 use lib.ListN.{getD}
 use borrow.Author.Tests.{not-true, not-false}
 use borrow.Author.Needs.{needs}
 use Rattle.model.specs.Chart.{mostTerms}
-use Rattle.stepping.proofs.Loops.{SoFar, at-start, one-more, all-pass, one-fails}
-use Rattle.stepping.proofs.Terms.{heldAt, no-term, term-held, condition-tested}
+use Rattle.stepping.proofs.Loops.{SoFar, at-start, one-more, all-pass, rest-pass, one-fails}
+use Rattle.stepping.proofs.Terms.{heldAt, terms-end, term-held, condition-tested}
 use Rattle.stepping.proofs.holds.Statement.{statement}
 use Rattle.stepping.proofs.holds.Tie as tie
 
@@ -34,6 +33,12 @@ mul-word-2 c = omega arith
 element-copy-out-word : tie.Need-element-copy-out-word Inv-loop μ-loop
 element-copy-out-word c = search needs
 
+returns : tie.Need-returns Inv-loop μ-loop
+returns c = λ clocks T.
+    let a = c .before .before .before .before .args in
+    let L = c .before .before .before .loop in
+    sym (rest-pass mostTerms (L .inv .1) (terms-end T (a .i) (L .j) (c .if1 .taken))) ∙ condition-tested T (a .i)
+
 mul-first : tie.Need-mul-first Inv-loop μ-loop
 mul-first c = search needs
 
@@ -52,11 +57,12 @@ pick-requires c κs = search needs
 word-holds-requires : tie.Need-word-holds-requires Inv-loop μ-loop
 word-holds-requires c κs = search needs
 
-returns : tie.Need-returns Inv-loop μ-loop
-returns c = λ clocks T.
+returns-2 : tie.Need-returns-2 Inv-loop μ-loop
+returns-2 c = λ clocks T.
     let a = c .before .before .before .before .before .before .before .before .before .args in
     let j = c .before .before .before .before .before .before .before .before .loop .j in
-    let e = term-held (getD (a .terms .now) (a .i * mostTerms + j) 0) (a .t .0) (a .t2) _ _ (c .before .before .pick .ensures) (c .before .word-holds .ensures) ∙ not-true _ (c .if2 .taken) in
+    let e = term-held (getD (a .terms .now) (a .i * mostTerms + j) 0) (a .t .0) (a .t2) _ _ (c .before .before .pick .ensures) (c .before .word-holds .ensures)
+    ∙ not-true _ (c .if2 .taken) in
     sym (one-fails (λ k. heldAt (getD (a .terms .now) (a .i * mostTerms + k) 0) (a .t .0) (a .t2)) j mostTerms (omega arith) e) ∙ condition-tested T (a .i)
 
 add-j : tie.Need-add-j Inv-loop μ-loop
@@ -67,18 +73,16 @@ loop-less c = omega arith
 
 loop-again : tie.Need-loop-again Inv-loop μ-loop
 loop-again c =
-    let a = c .before .before .before .before .args in
-    let w = getD (a .terms .now) (a .i * mostTerms + c .before .before .before .loop .j) 0 in (
+    let a = c .before .before .before .before .before .before .before .before .before .args in
+    let L = c .before .before .before .before .before .before .before .before .loop in (
       omega arith,
-      one-more (c .before .before .before .loop .inv .1)
-          (⊎-elim
-          (λ o. term-held w (a .t .0) (a .t2) _ _ (o .3 .ensures) (o .4 .ensures) ∙ not-false _ (o .5 .left))
-          (λ o. no-term (a .t .0) (a .t2) (o .left))
-          (c .if1 .came)),
+      one-more (L .inv .1)
+          (term-held (getD (a .terms .now) (a .i * mostTerms + L .j) 0) (a .t .0) (a .t2) _ _ (c .before .before .pick .ensures) (c .before .word-holds .ensures)
+          ∙ not-false _ (c .if2 .left)),
     )
 
-returns-2 : tie.Need-returns-2 Inv-loop μ-loop
-returns-2 c = λ clocks T. sym (all-pass mostTerms (c .before .loop .inv .1) (omega arith)) ∙ condition-tested T _
+returns-3 : tie.Need-returns-3 Inv-loop μ-loop
+returns-3 c = λ clocks T. sym (all-pass mostTerms (c .before .loop .inv .1) (omega arith)) ∙ condition-tested T _
 
 pub holds-spec : {M : Type 1} → statement M
 holds-spec =
@@ -91,14 +95,15 @@ holds-spec =
     add-word
     mul-word-2
     element-copy-out-word
+    returns
     mul-first
     array-copy-out-first
     mul-pick
     array-copy-out-pick
     pick-requires
     word-holds-requires
-    returns
+    returns-2
     add-j
     loop-less
     loop-again
-    returns-2)
+    returns-3)
