@@ -1,2 +1,3 @@
 pub mod Count
 pub mod Laws
+pub mod Ends

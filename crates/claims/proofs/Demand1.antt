@@ -1,6 +1,6 @@
 -- Each operation's equation, read case by case: the tests of its definition decide which case applies. Assumes nothing.
 use mathlib.Core.Path.{_≡_, refl, sym, ap, subst, _∙_}
-use mathlib.Core.Logic.{_⊎_, inl, inr, _↔_}
+use mathlib.Core.Logic.{inl, inr, _↔_}
 use mathlib.Core.Bool.{Bool, true, false, cond, So}
 use mathlib.Core.List.{List}
 use Prim.Native.Nat.{ℕ, zero, suc, _+_, _-_, _≤_, _<_}
@@ -14,13 +14,10 @@ use Rattle.model.specs.declared.Moment.{Moment}
 use Rattle.model.specs.declared.Monitor.{Monitor}
 use Rattle.model.specs.declared.Record.{Record}
 use Rattle.model.specs.Chart.{mostClocks}
-use Rattle.chart_step.specs.declared.Refusal.{Refusal}
-use Rattle.chart_step.specs.declared.Refusal.the-variants as chart-refusal
-use Rattle.chart_step.specs.declared.Reading.{Reading}
-use Rattle.chart_step.specs.declared.Outcome.{Outcome}
-use Rattle.chart_step.specs.declared.Outcome.the-variants as outcome
 use Rattle.chart_reader.specs.Read as read
-use Rattle.chart_reader.specs.Read.{readChart, readFrom, advanceOf, continueBy, startReading, acceptedAs, refusedFor}
+use Rattle.chart_reader.specs.Read.{readChart}
+use Rattle.chart_reader.proofs.Ends as end
+use Rattle.chart_reader.proofs.Ends.{Reads, reads}
 use Rattle.chart_value.specs.Given.{Given}
 use Rattle.chart_value.specs.View.{chartOf}
 use Rattle.chart_value.specs.WellFormed.{wellFormed}
@@ -58,33 +55,13 @@ use Rattle.judge.specs.Judge.{byCheck, judgeOf}
 use Rattle.claims.specs.Demand1.{ReadsAs, accepts, refuses, MakesAs, makes, no-chart, FeedsAs, not-a-chart, unfit, broken-again, time-falls, too-many, takes, FindsAs, ends, unknown, message-cut, time-cut, message, time, Walk, start, step, JudgesAs, not-given, no-record, falls, overflows, judges}
 use Rattle.claims.proofs.Demand2.{demand-2-of}
 
--- a reading ends with a chart or with a refusal
-record Accepts (r : read.Said) : Type 0 where
-  chart : Chart
-  is : r ≡ acceptedAs chart
-
-record Refuses (r : read.Said) : Type 0 where
-  fault : Refusal
-  offset : ℕ
-  is : r ≡ refusedFor fault offset
-
-reads-from : (n : ℕ) (s : List ℕ) (at : ℕ) (r : Reading) → Accepts (readFrom n s at r) ⊎ Refuses (readFrom n s at r)
-unfolding readFrom
-reads-from zero s at r = inr (record { fault = chart-refusal.CutShort; offset = length s; is = refl })
-reads-from (suc n) s at r = by (advanceOf s at r .outcome) (λ next q. reads-from n s next q)
-  where
-    by : (o : Outcome) → ((next : ℕ) (q : Reading) → Accepts (readFrom n s next q) ⊎ Refuses (readFrom n s next q))
-        → Accepts (continueBy (readFrom n s) o (advanceOf s at r .reading)) ⊎ Refuses (continueBy (readFrom n s) o (advanceOf s at r .reading))
-    by (outcome.Going next) i = i next (advanceOf s at r .reading)
-    by outcome.Ended i = inl (record { chart = advanceOf s at r .reading .chart; is = refl })
-    by (outcome.Refused k offset) i = inr (record { fault = k; offset = offset; is = refl })
-
+-- a chart, or a refusal
 pub reads-as : (s : List ℕ) (r : read.Said) → r ≡ readChart s → ReadsAs s r
-unfolding readChart
-reads-as s r e = subst (λ (x : read.Said). ReadsAs s x) (sym e) (elim (reads-from (length s + 1) s 0 startReading) [
-  | inl a ↦ subst (λ (x : read.Said). ReadsAs s x) (sym (a .is)) (accepts (a .chart) (a .is) (sound s (a .chart) (a .is) .fine))
-  | inr f ↦ subst (λ (x : read.Said). ReadsAs s x) (sym (f .is)) (refuses (f .fault) (f .offset) (f .is))
-])
+reads-as s r e = subst (λ (x : read.Said). ReadsAs s x) (sym e) (by (reads s) refl)
+  where
+    by : {x : read.Said} → Reads x → readChart s ≡ x → ReadsAs s x
+    by (end.accepts c) q = accepts c q (sound s c q .fine)
+    by (end.refuses k offset) q = refuses k offset q
 
 same-made : (a b : MadeAnswer) → madeNumber a ≡ madeNumber b → a ≡ b
 same-made Fresh Fresh e = refl

@@ -3,7 +3,7 @@ use mathlib.Core.Path.{_≡_, refl, sym, ap, _∙_}
 use mathlib.Core.Bool.{true, false, cond, _&&_}
 use mathlib.Core.Logic.{inl, inr}
 use mathlib.Core.List.{List, _++_}
-use Prim.Native.Nat.{ℕ, zero, suc, _+_, _-_, _≤_, _<_, _^_}
+use Prim.Native.Nat.{ℕ, _+_, _-_, _≤_, _<_, _^_}
 use native.Mathlib.Omega.{arith}
 use borrow.Author.Tests.{le-leb, lt-leb, eqb-true, eqb-false}
 use lib.Dec.{eqb, leb}
@@ -12,14 +12,10 @@ use lib.Seq.{getD-drop, drop-drop, take-at}
 use Rattle.bitset.proofs.Bools.{both, split}
 use Rattle.model.specs.declared.Chart.{Chart}
 use Rattle.model.specs.Chart.{zeroChart}
-use Rattle.chart_step.specs.declared.Reading.{Reading}
-use Rattle.chart_step.specs.declared.Outcome.{Outcome}
-use Rattle.chart_step.specs.declared.Outcome.the-variants.{Going, Ended, Refused}
-use Rattle.chart_step.specs.declared.Refusal.{Refusal}
-use Rattle.chart_step.specs.declared.Refusal.the-variants as refusal
-use Rattle.chart_step.specs.Refusal.{refusalNumber}
+use Rattle.chart_step.proofs.Numbers.{refusal-nonzero}
 use Rattle.chart_value.proofs.Sound.{sound}
-use Rattle.chart_reader.specs.Read.{Said, acceptedAs, refusedFor, readChart, readFrom, continueBy, advanceOf, startReading}
+use Rattle.chart_reader.specs.Read.{Said, acceptedAs, readChart}
+use Rattle.chart_reader.proofs.Ends.{Reads, accepts, refuses, reads}
 use Rattle.chart_value.specs.WellFormed.{wellFormed}
 use Rattle.image.specs.Image.{monitorSize, longBytes, word64}
 use Rattle.image.proofs.Laws.{long-told}
@@ -75,46 +71,13 @@ chart-behind l chart rest e h k =
     sym (chart-from l) ∙ ap (chartFrom (length l)) e
     ∙ rw (long-told (length chart) (chart ++ rest) k, le-leb headSize (length l) (omega arith), le-leb (length chart) (length l - headSize) b, take-at chart rest (length chart) refl)
 
--- a reading is accepted, or refused with a chart of zeros
-pub data Reads : Said → Type 0 where
-  accepts : (c : Chart) → Reads (acceptedAs c)
-  refuses : (f : Refusal) (offset : ℕ) → Reads (refusedFor f offset)
-
-reads-from : (n : ℕ) (s : List ℕ) (at : ℕ) (r : Reading) → Reads (readFrom n s at r)
-unfolding readFrom
-reads-from zero s at r = refuses refusal.CutShort (length s)
-reads-from (suc n) s at r = by (advanceOf s at r .outcome) (advanceOf s at r .reading) (λ k q. reads-from n s k q)
-  where
-    by : (o : Outcome) (q : Reading) → ((k : ℕ) (q : Reading) → Reads (readFrom n s k q)) → Reads (continueBy (readFrom n s) o q)
-    by (Going k) q i = i k q
-    by Ended q i = accepts (q .chart)
-    by (Refused f offset) q i = refuses f offset
-
-pub reads : (s : List ℕ) → Reads (readChart s)
-unfolding readChart
-reads s = reads-from (length s + 1) s 0 startReading
-
--- no refusal has the number 0
-pub not-zero : (f : Refusal) → refusalNumber f ≡ 0 → ⊥
-not-zero refusal.CutShort e = omega arith
-not-zero refusal.UnknownCommand e = omega arith
-not-zero refusal.OutOfPlace e = omega arith
-not-zero refusal.OutOfRange e = omega arith
-not-zero refusal.NoRoom e = omega arith
-not-zero refusal.BareRegion e = omega arith
-not-zero refusal.HotWithoutTerm e = omega arith
-not-zero refusal.HotInPrechart e = omega arith
-not-zero refusal.NoneAbove e = omega arith
-not-zero refusal.NoMainRegion e = omega arith
-not-zero refusal.BytesAfterEnd e = omega arith
-
 refused-zeros : {x : Said} → Reads x → (x .number ≡ 0 → ⊥) → x .chart ≡ zeroChart
 refused-zeros (accepts c) h = absurd (h refl)
 refused-zeros (refuses f offset) h = refl
 
 accepted-as : {x : Said} → Reads x → x .number ≡ 0 → x ≡ acceptedAs (x .chart)
 accepted-as (accepts c) h = refl
-accepted-as (refuses f offset) h = absurd (not-zero f h)
+accepted-as (refuses f offset) h = absurd (refusal-nonzero f h)
 
 pub accepted-whole : (s : List ℕ) → readChart s .number ≡ 0 → wellFormed (readChart s .chart) ≡ true
 accepted-whole s h = sound s (readChart s .chart) (accepted-as (reads s) h) .fine

@@ -21,7 +21,8 @@ use Rattle.image.specs.Image.{monitorSize, monitorBytes, monitorIn, longBytes}
 use Rattle.image.proofs.Laws.{at-start, monitor-length}
 use Rattle.live.specs.declared.Opened.{Opened}
 use Rattle.live.specs.Live.{headSize, largest, liveSize, freshBytes, tooShort, openedBy, openedOf, bytesOpened, Holds}
-use Rattle.live.proofs.Charts.{chart-behind, not-zero}
+use Rattle.live.proofs.Charts.{chart-behind}
+use Rattle.chart_step.proofs.Numbers.{refusal-nonzero}
 
 pub size-sum : (n : ℕ) → n ≤ largest - headSize → liveSize n ≡ headSize + n
 unfolding liveSize
@@ -67,9 +68,9 @@ module _ (chart l : List ℕ) (r : ChartRead) (e : said r ≡ readChart chart) w
       → (record { number = n; at = o } ≡ openedOf chart (length l)) × ((l ≡ bytesOpened chart l) × ((n ≡ 0 → Holds chart l) × (chart ≡ chart)))
   unfolding openedOf
   opened-refused f o n a p =
-      let z : eqb n 0 ≡ false = ap (λ (k : ℕ). eqb k 0) p ∙ ne-eqb _ _ (not-zero f) in
+      let z : eqb n 0 ≡ false = ap (λ (k : ℕ). eqb k 0) p ∙ ne-eqb _ _ (refusal-nonzero f) in
       let s : record { number = refusalNumber f; at = o } ≡ openedOf chart (length l) =
-      rw (ap (λ (x : Said). openedBy x (liveSize (length chart)) (length l)) (as-answered chart r (Refused f o) e a)) (rw (ne-eqb _ _ (not-zero f))) in
+      rw (ap (λ (x : Said). openedBy x (liveSize (length chart)) (length l)) (as-answered chart r (Refused f o) e a)) (rw (ne-eqb _ _ (refusal-nonzero f))) in
       let t : record { number = n; at = o } ≡ openedOf chart (length l) = (λ i. record { number = p i; at = o }) ∙ s in
       (t, (bytes-by chart l (record { number = n; at = o }) false (sym t) z, ((λ g. absurd (eqb-false n 0 z g)), refl)))
 

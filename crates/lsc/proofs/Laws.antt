@@ -16,7 +16,8 @@ use Rattle.judge.specs.declared.Checked.the-variants as checked
 use Rattle.judge.specs.Check.{checkLog}
 use Rattle.judge.specs.Judge.{byCheck, judgeOf}
 use Rattle.respond.specs.Respond.{logReport, chartReport, partsReport}
-use Rattle.live.proofs.Charts.{Reads, accepts, refuses, reads, accepted-whole}
+use Rattle.chart_reader.proofs.Ends.{Reads, accepts, refuses, reads}
+use Rattle.live.proofs.Charts.{accepted-whole}
 use Rattle.listing.specs.declared.Part.{Part}
 use Rattle.listing.specs.declared.Report.{Report}
 use Rattle.listing.specs.declared.Report.the-variants.{Refused}

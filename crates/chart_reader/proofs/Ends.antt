@@ -1,0 +1,30 @@
+-- How a reading ends. Assumes nothing.
+use mathlib.Core.List.{List}
+use Prim.Native.Nat.{ℕ, zero, suc, _+_}
+use lib.ListN.{length}
+use Rattle.model.specs.declared.Chart.{Chart}
+use Rattle.chart_step.specs.declared.Reading.{Reading}
+use Rattle.chart_step.specs.declared.Outcome.{Outcome}
+use Rattle.chart_step.specs.declared.Outcome.the-variants.{Going, Ended, Refused}
+use Rattle.chart_step.specs.declared.Refusal.{Refusal}
+use Rattle.chart_step.specs.declared.Refusal.the-variants.{CutShort}
+use Rattle.chart_reader.specs.Read.{Said, acceptedAs, refusedFor, readChart, readFrom, continueBy, advanceOf, startReading}
+
+-- accepted, or refused with a chart of zeros
+pub data Reads : Said → Type 0 where
+  accepts : (c : Chart) → Reads (acceptedAs c)
+  refuses : (f : Refusal) (offset : ℕ) → Reads (refusedFor f offset)
+
+reads-from : (n : ℕ) (s : List ℕ) (at : ℕ) (r : Reading) → Reads (readFrom n s at r)
+unfolding readFrom
+reads-from zero s at r = refuses CutShort (length s)
+reads-from (suc n) s at r = by (advanceOf s at r .outcome) (advanceOf s at r .reading) (λ k q. reads-from n s k q)
+  where
+    by : (o : Outcome) (q : Reading) → ((k : ℕ) (q : Reading) → Reads (readFrom n s k q)) → Reads (continueBy (readFrom n s) o q)
+    by (Going k) q i = i k q
+    by Ended q i = accepts (q .chart)
+    by (Refused f offset) q i = refuses f offset
+
+pub reads : (s : List ℕ) → Reads (readChart s)
+unfolding readChart
+reads s = reads-from (length s + 1) s 0 startReading
