@@ -1,8 +1,8 @@
 -- Steps 3 and 4 over any chart: what the loop that tests and fires one region after the other keeps. Assumes nothing.
 use mathlib.Core.Path.{_≡_, refl, sym, _∙_}
-use mathlib.Core.Bool.{Bool, true, false, cond, not}
+use mathlib.Core.Bool.{Bool, true, false, not}
 use mathlib.Core.Option.{none, some}
-use Prim.Native.Nat.{ℕ, zero, suc, _≤_, _<_}
+use Prim.Native.Nat.{ℕ, zero, suc, _<_}
 use native.Mathlib.Omega.{arith}
 use borrow.Author.Tests.{not-true, not-false}
 use Rattle.rounds.specs.Chart.{Chart, Accepted}
@@ -15,19 +15,9 @@ use Rattle.stepping.specs.Parts.{takenAt}
 pub record OnTheWay (C : Chart) (t : ℕ) (p : Place) (i : ℕ) (q : Place) (k : ℕ) : Type 0 where
   pub same : takenAt C t p i ≡ takenAt C t q k
   pub ready : Ready C (q .fired) k
-  pub past : (c : ℕ) → q .clocks c ≤ t
 
-pub way-starts : {C : Chart} {t : ℕ} {p : Place} {i : ℕ} → Ready C (p .fired) i → ((c : ℕ) → p .clocks c ≤ t) → OnTheWay C t p i p i
-way-starts R h = record { same = refl; ready = R; past = h }
-
--- a clock is reset at moment t or stays as it was
-fired-past : (C : Chart) (t : ℕ) (q : Place) (k : ℕ) → ((c : ℕ) → q .clocks c ≤ t) → (c : ℕ) → fire C t q k .clocks c ≤ t
-unfolding fire
-fired-past C t q k h c = by (C .resets k c)
-  where
-    by : (b : Bool) → cond b t (q .clocks c) ≤ t
-    by true = omega arith
-    by false = h c
+pub way-starts : {C : Chart} {t : ℕ} {p : Place} {i : ℕ} → Ready C (p .fired) i → OnTheWay C t p i p i
+way-starts R = record { same = refl; ready = R }
 
 module _ {C : Chart} {t i k : ℕ} {p q : Place} (W : OnTheWay C t p i q k) {b : Bool} (test : b ≡ C .condition k (values C t (q .clocks))) where
   pub way-fails : not b ≡ true → fails k q ≡ takenAt C t p i
@@ -52,8 +42,4 @@ module _ {C : Chart} {t i k : ℕ} {p q : Place} (W : OnTheWay C t p i q k) {b :
     unfolding settle
     way-on A {j} f =
         let R = plain-some C A (q′ .fired) j f .is-ready in
-        record {
-          same = W .same ∙ rw (holds, ← e, ← unfired-falls C t q′ j R, f);
-          ready = R;
-          past = λ c. rw e (fired-past C t q k (W .past) c);
-        }
+        record { same = W .same ∙ rw (holds, ← e, ← unfired-falls C t q′ j R, f); ready = R }

@@ -1,5 +1,4 @@
 -- What the inner functions give, over the numbers.
-use mathlib.Core.Path.{_≡_}
 use mathlib.Core.Bool.{Bool, cond, not, _&&_, _||_}
 use mathlib.Core.List.{List}
 use mathlib.Core.Option.{Option, none, some}
@@ -41,10 +40,9 @@ soughtBy keys above count fired code = onFound (first count (λ i. eqb (getD key
 abbrev pub valueAt : ℕ → ℕ → List Moment → ℕ → ℕ
 valueAt clocks t resets c = cond (ltb c clocks) (t - momentsOf resets c) 0
 
--- what the test of words by the moments assumes: at most eight clocks, none reset after moment t, and a compiled chart's words
-pub record Testable (clocks t : ℕ) (resets : List Moment) (terms : List ℕ) : Type 0 where
+-- what the test of words assumes: at most eight clocks, and a compiled chart's words
+pub record Testable (clocks : ℕ) (terms : List ℕ) : Type 0 where
   pub few : clocks ≤ mostClocks
-  pub past : (c : ℕ) → momentsOf resets c ≤ t
   pub words : Words clocks terms
 
 -- region i fired at moment t, its clocks reset

@@ -1,5 +1,6 @@
 // One record taken by a fit monitor. A chart comes as numbers: its head, and four arrays lent beside it.
 use model::CLOCK_PLACES;
+use model::Length;
 use model::MOST_RECORDS;
 use model::MOST_REGIONS;
 use model::MOST_TERMS;
@@ -10,7 +11,7 @@ ghost use mathlib.Core.Path.{_≡_};
 ghost use mathlib.Core.Bool.{So, _&&_, not, cond};
 ghost use mathlib.Core.List.{List};
 ghost use Prim.Native.Nat.{ℕ, _<_, _≤_, _+_, _-_, _^_};
-ghost use lib.Dec.{eqb};
+ghost use lib.Dec.{eqb, ltb};
 ghost use lib.ListN.{getD};
 ghost use Rattle.bitset.specs.Set.{contains};
 ghost use Rattle.model.specs.Chart.{mostRegions, mostClocks};
@@ -207,30 +208,40 @@ fn pick(b: bool, x: Moment, y: Moment) -> Moment
     if b { x } else { y }
 }
 
-// A moment's number in 64 bits.
-fn ticks(m: Moment) -> u64
-    ensures value { λ r. ⌜ r ≡ m .0 ⌝ }
+// A length's number in 64 bits.
+fn ticks(x: Length) -> u64
+    ensures value { λ r. ⌜ r ≡ x .0 ⌝ }
     ensures bound { λ r. ⌜ r < bias ⌝ }
 {
-    m.0 as u64
+    x.0 as u64
 }
 
-// The word's term holds. A clock's value is t less its reset moment: with t taken from both sums, each has the other clock's moment.
-fn word_holds(word: u64, first: Moment, second: Moment) -> bool
-    ensures { λ r. ⌜ r ≡ bounded word (bias + second .0) (boundOf word + first .0) ⌝ }
+// The word's term holds, given the values of its clocks.
+fn word_holds(word: u64, first: Length, second: Length) -> bool
+    ensures { λ r. ⌜ r ≡ bounded word (bias + first .0) (boundOf word + second .0) ⌝ }
 {
-    let x = BIAS + ticks(second);
-    let y = word / BOUND_PLACE + ticks(first);
+    let x = BIAS + ticks(first);
+    let y = word / BOUND_PLACE + ticks(second);
     let upper = word / UPPER_PLACE % 2 == 1;
     let lower = word / LOWER_PLACE % 2 == 1;
     !(upper & (y < x)) & !(lower & (x < y))
 }
 
-// All terms of region i hold at moment t, which stands for the second clock that a term lacks. The array of moments is looked into here
-// and lent no further: a call that takes it by value would copy it for each clock.
+// The value at moment t of a term's second clock, reset at m; a term of one clock has none, and 0 for it.
+fn second_value(b: usize, m: Moment, t: Moment) -> Length
+    ensures { λ r. ⌜ r .0 ≡ cond (ltb b mostClocks) (t .0 - m .0) 0 ⌝ }
+{
+    if b < CLOCK_PLACES {
+        return t.since(m);
+    }
+    Length(0)
+}
+
+// All terms of region i hold at moment t. The array of moments is looked into here and lent no further: a call that takes it by value
+// would copy it for each clock.
 fn holds(terms: &[u64; TERM_PLACES], resets: [Moment; CLOCK_PLACES], i: usize, t: Moment) -> bool
     requires { ⌜ i < mostRegions ⌝ }
-    ensures { λ r. ⌜ ((clocks : ℕ) → Testable clocks (t .0) resets (now (terms .entry)) → r ≡ conditionBy (now (terms .entry)) i (valueAt clocks (t .0) resets)) ⌝ }
+    ensures { λ r. ⌜ ((clocks : ℕ) → Testable clocks (now (terms .entry)) → r ≡ conditionBy (now (terms .entry)) i (valueAt clocks (t .0) resets)) ⌝ }
 {
     let mut j: usize = 0;
     while j < MOST_TERMS {
@@ -240,8 +251,8 @@ fn holds(terms: &[u64; TERM_PLACES], resets: [Moment; CLOCK_PLACES], i: usize, t
         }
         let a = (word % CLOCK_CODES) as usize;
         let b = (word / SECOND_PLACE % CLOCK_CODES) as usize;
-        let first = resets[a % CLOCK_PLACES];
-        let second = pick(b < CLOCK_PLACES, resets[b % CLOCK_PLACES], t);
+        let first = t.since(resets[a % CLOCK_PLACES]);
+        let second = second_value(b, resets[b % CLOCK_PLACES], t);
         if !word_holds(word, first, second) {
             return false;
         }
@@ -308,7 +319,6 @@ fn take_region<'a>(
 ) -> Settled
     requires { ⌜ Compiled h (now keys) (now above) (now resets) (now terms) ⌝ }
     requires { ⌜ Ready (planChart h (now keys) (now above) (now resets) (now terms)) (contains (p .fired)) i ⌝ }
-    requires { ⌜ ((c : ℕ) → momentsOf (p .resets) c ≤ t .0) ⌝ }
     ensures place { λ r. ⌜ moveOf r ≡ takenAt (planChart h (now (keys .entry)) (now (above .entry)) (now (resets .entry)) (now (terms .entry))) (t .0) (placeAt p) i ⌝ }
     ensures region { λ r. ⌜ ((j : ℕ) → r .rest ≡ FailsAt j → j < mostRegions) ⌝ }
 {
@@ -507,7 +517,6 @@ fn accept<'a>(
 ) -> Step
     requires { ⌜ Compiled h (now keys) (now above) (now resets) (now terms) ⌝ }
     requires { ⌜ (m .records < mostRecords) × (m .kept + m .dropped ≤ m .records) ⌝ }
-    requires { ⌜ ((c : ℕ) → momentsOf (m .at .resets) c ≤ t .0) ⌝ }
     ensures { λ r. ⌜ stepOf r ≡ accepted (planChart h (now (keys .entry)) (now (above .entry)) (now (resets .entry)) (now (terms .entry))) (monitorAt m) (recordOf code (t .0)) ⌝ }
 {
     let at = m.at;

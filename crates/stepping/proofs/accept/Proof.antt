@@ -37,14 +37,13 @@ take-region-requires : tie.Need-take-region-requires
 take-region-requires c κs =
     let F = c .before .before .before in
     let S = F .before .before .before in
-    let R = sought-ready (S .pre .0) (S .args .m) (S .args .code) (S .args .t .0) (F .seek .ensures) (c .before .sought .given .1) in
-    (S .pre .0, (R, S .pre .1 .1))
+    (S .pre .0, sought-ready (S .pre .0) (S .args .m) (S .args .code) (S .args .t .0) (F .seek .ensures) (c .before .sought .given .1))
 
 conclude-requires : tie.Need-conclude-requires
 conclude-requires c κs =
     let S = c .before .before .before .before .before .before .before in
     let K = S .pre .0 in
-    ((K .regions, omega (arith, K .regions, K .accepted .has-main), K .clocks), (S .pre .1 .0, c .take-region .ensures .1))
+    ((K .regions, omega (arith, K .regions, K .accepted .has-main), K .clocks), (S .pre .1, c .take-region .ensures .1))
 
 returns-2 : tie.Need-returns-2
 unfolding afterScan

@@ -1,5 +1,5 @@
 -- By the tests in their order. Assumes nothing.
-use native.Mathlib.Omega.{arith}
+use borrow.Author.Needs.{needs}
 use borrow.Author.Tests.{eq-eqb, ne-eqb, lt-ltb, le-ltb, le-leb, lt-leb}
 use mathlib.Core.Path.{refl, ap}
 use Rattle.rounds.specs.Machine.{Step, feed}
@@ -23,10 +23,7 @@ returns-3 c = (
 )
 
 accept-requires : tie.Need-accept-requires
-accept-requires c κs =
-    let S = c .before .before .before .before .before .before .before .before in
-    let F = S .pre .1 in
-    (S .pre .0, ((omega arith, F .counts), λ x. omega (arith, F .moments x)))
+accept-requires c κs = search needs
 
 returns-4 : tie.Need-returns-4
 unfolding feed

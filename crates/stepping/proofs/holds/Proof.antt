@@ -37,33 +37,36 @@ returns : tie.Need-returns Inv-loop μ-loop
 returns c = λ clocks T.
     let a = c .before .before .before .before .args in
     let L = c .before .before .before .loop in
-    sym (rest-pass mostTerms (L .inv .1) (terms-end T (a .i) (L .j) (c .if1 .taken))) ∙ condition-tested T (a .i)
+    sym (rest-pass mostTerms (L .inv .1) (terms-end T (a .t .0) (a .t2) (a .i) (L .j) (c .if1 .taken))) ∙ condition-tested T (a .t .0) (a .t2) (a .i)
 
-mul-first : tie.Need-mul-first Inv-loop μ-loop
-mul-first c = search needs
+mul-since : tie.Need-mul-since Inv-loop μ-loop
+mul-since c = search needs
 
-array-copy-out-first : tie.Need-array-copy-out-first Inv-loop μ-loop
-array-copy-out-first c = search needs
+array-copy-out-since : tie.Need-array-copy-out-since Inv-loop μ-loop
+array-copy-out-since c = search needs
 
-mul-pick : tie.Need-mul-pick Inv-loop μ-loop
-mul-pick c = search needs
+since-requires : tie.Need-since-requires Inv-loop μ-loop
+since-requires c κs = search needs
 
-array-copy-out-pick : tie.Need-array-copy-out-pick Inv-loop μ-loop
-array-copy-out-pick c = search needs
+mul-second-value : tie.Need-mul-second-value Inv-loop μ-loop
+mul-second-value c = search needs
 
-pick-requires : tie.Need-pick-requires Inv-loop μ-loop
-pick-requires c κs = search needs
+array-copy-out-second-value : tie.Need-array-copy-out-second-value Inv-loop μ-loop
+array-copy-out-second-value c = search needs
+
+second-value-requires : tie.Need-second-value-requires Inv-loop μ-loop
+second-value-requires c κs = search needs
 
 word-holds-requires : tie.Need-word-holds-requires Inv-loop μ-loop
 word-holds-requires c κs = search needs
 
 returns-2 : tie.Need-returns-2 Inv-loop μ-loop
 returns-2 c = λ clocks T.
-    let a = c .before .before .before .before .before .before .before .before .before .args in
-    let j = c .before .before .before .before .before .before .before .before .loop .j in
-    let e = term-held (getD (a .terms .now) (a .i * mostTerms + j) 0) (a .t .0) (a .t2) _ _ (c .before .before .pick .ensures) (c .before .word-holds .ensures)
+    let a = c .before .before .before .before .before .before .before .before .before .before .args in
+    let j = c .before .before .before .before .before .before .before .before .before .loop .j in
+    let e = term-held (getD (a .terms .now) (a .i * mostTerms + j) 0) (a .t .0) (a .t2) _ _ _ (c .before .before .before .before .since .ensures) (c .before .before .second-value .ensures) (c .before .word-holds .ensures)
     ∙ not-true _ (c .if2 .taken) in
-    sym (one-fails (λ k. heldAt (getD (a .terms .now) (a .i * mostTerms + k) 0) (a .t .0) (a .t2)) j mostTerms (omega arith) e) ∙ condition-tested T (a .i)
+    sym (one-fails (λ k. heldAt (getD (a .terms .now) (a .i * mostTerms + k) 0) (a .t .0) (a .t2)) j mostTerms (omega arith) e) ∙ condition-tested T (a .t .0) (a .t2) (a .i)
 
 add-j : tie.Need-add-j Inv-loop μ-loop
 add-j c = omega arith
@@ -73,16 +76,16 @@ loop-less c = omega arith
 
 loop-again : tie.Need-loop-again Inv-loop μ-loop
 loop-again c =
-    let a = c .before .before .before .before .before .before .before .before .before .args in
-    let L = c .before .before .before .before .before .before .before .before .loop in (
+    let a = c .before .before .before .before .before .before .before .before .before .before .args in
+    let L = c .before .before .before .before .before .before .before .before .before .loop in (
       omega arith,
       one-more (L .inv .1)
-          (term-held (getD (a .terms .now) (a .i * mostTerms + L .j) 0) (a .t .0) (a .t2) _ _ (c .before .before .pick .ensures) (c .before .word-holds .ensures)
+          (term-held (getD (a .terms .now) (a .i * mostTerms + L .j) 0) (a .t .0) (a .t2) _ _ _ (c .before .before .before .before .since .ensures) (c .before .before .second-value .ensures) (c .before .word-holds .ensures)
           ∙ not-false _ (c .if2 .left)),
     )
 
 returns-3 : tie.Need-returns-3 Inv-loop μ-loop
-returns-3 c = λ clocks T. sym (all-pass mostTerms (c .before .loop .inv .1) (omega arith)) ∙ condition-tested T _
+returns-3 c = λ clocks T. sym (all-pass mostTerms (c .before .loop .inv .1) (omega arith)) ∙ condition-tested T _ _ _
 
 pub holds-spec : {M : Type 1} → statement M
 holds-spec =
@@ -96,11 +99,12 @@ holds-spec =
     mul-word-2
     element-copy-out-word
     returns
-    mul-first
-    array-copy-out-first
-    mul-pick
-    array-copy-out-pick
-    pick-requires
+    mul-since
+    array-copy-out-since
+    since-requires
+    mul-second-value
+    array-copy-out-second-value
+    second-value-requires
     word-holds-requires
     returns-2
     add-j

@@ -1,6 +1,6 @@
 -- The loop's invariant: no region so far is ready and has the message; at its start because they are fired. Assumes nothing.
 use mathlib.Core.Path.{_≡_, sym, _∙_}
-use mathlib.Core.Bool.{Bool, true, false, not, So, _&&_, and-false}
+use mathlib.Core.Bool.{Bool, false, not, So, _&&_, and-false}
 use mathlib.Core.Logic.{⊎-elim}
 use Prim.Native.Nat.{_-_}
 use native.Mathlib.Omega.{arith}

@@ -1,5 +1,5 @@
--- The loop's invariant: from where it stands, steps 3 and 4 come to the same as from the start, the region at hand is ready, and no clock
--- is reset after the moment. The measure: the unfired regions. Assumes nothing.
+-- The loop's invariant: from where it stands, steps 3 and 4 come to the same as from the start, and the region at hand is ready. The
+-- measure: the unfired regions. Assumes nothing.
 use mathlib.Core.Path.{_≡_}
 use Prim.Native.Nat.{ℕ}
 use native.Mathlib.Omega.{arith}
@@ -21,7 +21,7 @@ abbrev μ-loop : tie.MeasureT-loop
 μ-loop h keys above resets terms i t q₀ k₀ q k = unfired (planChart h keys above resets terms) (contains (q .fired))
 
 loop-holds : tie.Need-loop-holds Inv-loop μ-loop
-loop-holds c = way-starts (c .pre .1 .0) (c .pre .1 .1)
+loop-holds c = way-starts (c .pre .1)
 
 fire-requires : tie.Need-fire-requires Inv-loop μ-loop
 fire-requires c κs =
@@ -38,7 +38,7 @@ unfolding values
 returns c =
     let W = c .before .before .before .before .loop in
     let K = c .before .before .before .before .before .pre .0 in (
-      way-fails (W .inv) (c .before .holds .ensures _ (testable K (W .inv .past))) (c .if1 .taken),
+      way-fails (W .inv) (c .before .holds .ensures _ (testable K)) (c .if1 .taken),
       λ j e. let q : W .k ≡ j = cc in omega (arith, K .regions, W .inv .ready .region),
     )
 
@@ -57,7 +57,7 @@ returns-2 c =
     let F = c .before .before .before .before .before .before in
     let K = F .before .before .pre .0 in
     let f = found-plain K (F .fire .result .fired) _ (c .enum-told .given .1) (c .before .before .ready-plain .ensures) in (
-      way-rests (F .before .loop .inv) (c .before .before .before .before .holds .ensures _ (testable K (F .before .loop .inv .past))) (c .before .before .before .if1 .left) (F .fire .ensures) f,
+      way-rests (F .before .loop .inv) (c .before .before .before .before .holds .ensures _ (testable K)) (c .before .before .before .if1 .left) (F .fire .ensures) f,
       λ j e. absurd (let z : _≡_ {A = ℕ} 0 1 = cc in omega arith),
     )
 
@@ -65,7 +65,7 @@ loop-less : tie.Need-loop-less Inv-loop μ-loop
 unfolding values fire
 loop-less c =
     let F = c .before .before .before .before .before .before .before in
-    let T = testable (F .before .before .pre .0) (F .before .loop .inv .past) in
+    let T = testable (F .before .before .pre .0) in
     way-less (F .before .loop .inv) (c .before .before .before .before .before .holds .ensures _ T) (c .before .before .before .before .if1 .left) (F .fire .ensures)
 
 loop-again : tie.Need-loop-again Inv-loop μ-loop
@@ -74,7 +74,7 @@ loop-again c =
     let F = c .before .before .before .before .before .before .before in
     let K = F .before .before .pre .0 in
     let f = found-plain K (F .fire .result .fired) _ (c .before .f .given .1) (c .before .before .before .ready-plain .ensures) in
-    way-on (F .before .loop .inv) (c .before .before .before .before .before .holds .ensures _ (testable K (F .before .loop .inv .past))) (c .before .before .before .before .if1 .left) (F .fire .ensures) (K .accepted) f
+    way-on (F .before .loop .inv) (c .before .before .before .before .before .holds .ensures _ (testable K)) (c .before .before .before .before .if1 .left) (F .fire .ensures) (K .accepted) f
 
 pub take-region-spec : {M : Type 1} → statement M
 take-region-spec =
