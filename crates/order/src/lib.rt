@@ -8,9 +8,9 @@ ghost use Rattle.model.specs.Chart.{mostRegions, touchedAt};
 ghost use Rattle.order.specs.Order.{isOver, withOver, gathered, aboveSets, aboveOf, Decides};
 
 // Region a is over b: directly above it, or in the prechart with b in the main chart.
-fn is_over(lines: [u16; MOST_REGIONS], prechart: usize, a: usize, b: usize) -> bool
+fn is_over(lines: &[u16; MOST_REGIONS], prechart: usize, a: usize, b: usize) -> bool
     requires { ⌜ (a < mostRegions) × (b < mostRegions) ⌝ }
-    ensures { λ r. ⌜ r ≡ isOver (λ i. getD lines i 0) prechart a b ⌝ }
+    ensures { λ r. ⌜ r ≡ isOver (λ i. getD (now (lines .entry)) i 0) prechart a b ⌝ }
 {
     let x = lines[a];
     let y = lines[b];
@@ -20,27 +20,34 @@ fn is_over(lines: [u16; MOST_REGIONS], prechart: usize, a: usize, b: usize) -> b
 }
 
 // Region a and those above it come into the set if a is over b.
-fn with_over(
-    lines: [u16; MOST_REGIONS],
+fn with_over<'a>(
+    lines: &'a [u16; MOST_REGIONS],
     prechart: usize,
-    above: [u32; MOST_REGIONS],
+    above: &'a [u32; MOST_REGIONS],
     set: u32,
     a: usize,
     b: usize,
 ) -> u32
     requires { ⌜ (a < mostRegions) × (b < mostRegions) ⌝ }
-    ensures { λ r. ⌜ r ≡ withOver (λ i. getD lines i 0) prechart above set a b ⌝ }
+    ensures { λ r. ⌜ r ≡ withOver (λ i. getD (now (lines .entry)) i 0) prechart (now (above .entry)) set a b ⌝ }
 {
+    let more = bitset::join(bitset::insert(set, a as u32), above[a]);
     if is_over(lines, prechart, a, b) {
-        return bitset::join(bitset::insert(set, a as u32), above[a]);
+        more
+    } else {
+        set
     }
-    set
 }
 
 // The regions above b; those below b in number have their sets already.
-fn gather(lines: [u16; MOST_REGIONS], prechart: usize, above: [u32; MOST_REGIONS], b: usize) -> u32
+fn gather<'a>(
+    lines: &'a [u16; MOST_REGIONS],
+    prechart: usize,
+    above: &'a [u32; MOST_REGIONS],
+    b: usize,
+) -> u32
     requires { ⌜ b < mostRegions ⌝ }
-    ensures { λ r. ⌜ r ≡ gathered (λ i. getD lines i 0) prechart above b b ⌝ }
+    ensures { λ r. ⌜ r ≡ gathered (λ i. getD (now (lines .entry)) i 0) prechart (now (above .entry)) b b ⌝ }
 {
     let mut set: u32 = 0;
     let mut a: usize = 0;
@@ -59,7 +66,7 @@ fn sets_of(lines: [u16; MOST_REGIONS], prechart: usize, count: usize) -> [u32; M
     let mut above = [0u32; MOST_REGIONS];
     let mut b: usize = 0;
     while b < count {
-        above[b] = gather(lines, prechart, above, b);
+        above[b] = gather(&lines, prechart, &above, b);
         b += 1;
     }
     above

@@ -8,10 +8,10 @@ use Rattle.order.proofs.sets_of.Statement.{statement}
 use Rattle.order.proofs.sets_of.Tie as tie
 
 abbrev Inv-loop : tie.InvT-loop
-Inv-loop lines prechart count above₀ b₀ above b = (b ≤ count) × (above ≡ aboveSets (λ i. getD lines i 0) prechart b)
+Inv-loop prechart count lines above₀ b₀ above b = (b ≤ count) × (above ≡ aboveSets (λ i. getD lines i 0) prechart b)
 
 abbrev μ-loop : tie.MeasureT-loop
-μ-loop lines prechart count above₀ b₀ above b = count - b
+μ-loop prechart count lines above₀ b₀ above b = count - b
 
 loop-holds : tie.Need-loop-holds Inv-loop μ-loop
 unfolding aboveSets
@@ -34,7 +34,7 @@ loop-less c = omega arith
 
 loop-again : tie.Need-loop-again Inv-loop μ-loop
 unfolding aboveSets
-loop-again c = (omega arith, rw (add-one, c .gather .ensures, c .before .before .loop .inv .1))
+loop-again c = (omega arith, rw (add-one, c .gather .ensures, c .before .before .before .before .loop .inv .1))
 
 returns : tie.Need-returns Inv-loop μ-loop
 returns c = let e : c .before .loop .b ≡ c .before .before .args .count = omega arith in rw e at (c .before .loop .inv .1)
