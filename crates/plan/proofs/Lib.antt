@@ -1,3 +1,4 @@
 pub mod Words
+pub mod Slots
 pub mod Members
 pub mod Shows

@@ -7,7 +7,7 @@ use native.Mathlib.Omega.{arith}
 use native.Mathlib.Decide.{decLt}
 use borrow.Author.Tests.{lt-ltb, le-ltb, ltb-false, ne-eqb}
 use lib.Dec.{eqb, ltb}
-use lib.ListN.{getD}
+use lib.ListN.{length, getD, set, length-set}
 use Rattle.bitset.specs.Set.{contains}
 use Rattle.bitset.proofs.Laws.{contains-empty}
 use Rattle.model.specs.declared.Chart.{Chart}
@@ -15,7 +15,7 @@ use Rattle.model.specs.declared.Event.{Event}
 use Rattle.model.specs.declared.Event.the-variants.{Plain, Message}
 use Rattle.model.specs.declared.Region.{Region}
 use Rattle.model.specs.Chart.{zeroRegion, regionAt, termAt, isPlain, mostRegions, mostTerms}
-use Rattle.model.proofs.Filled.{Filled}
+use Rattle.model.proofs.Filled.{Filled, filled-next}
 use Rattle.order.specs.Order.{aboveOf}
 use Rattle.order.proofs.Laws.{sets-beyond}
 use Rattle.condition.specs.Condition.{conditionHolds}
@@ -65,6 +65,32 @@ above-shows c a b = by (ltb b (c .count)) refl
     by : (t : Bool) → ltb b (c .count) ≡ t → contains (getD (aboveOf c) b 0) a ≡ (t && contains (getD (aboveOf c) b 0) a)
     by true e = refl
     by false e = ap (λ (s : ℕ). contains s a) (sets-beyond c b (ltb-false _ _ e)) ∙ contains-empty a
+
+-- the words of one region more
+module _ (c : Chart) (i : ℕ) where
+  abbrev words-of : ℕ → ℕ
+  words-of k = wordAt (regionAt c (k / mostTerms)) (k % mostTerms)
+
+  one-word : (j k next : ℕ) {out : List ℕ} (v : ℕ) → j < mostTerms → k ≡ i * mostTerms + j → next ≡ k + 1 → Filled words-of k out → k < length out
+      → v ≡ wordAt (regionAt c i) j → Filled words-of next (set out k v)
+  one-word j k next v h a b F l e =
+      let d : k / mostTerms ≡ i = omega arith in
+      let m : k % mostTerms ≡ j = omega arith in
+      rw b (filled-next v F l (rw (d, m) e))
+
+  pub words-next : {out : List ℕ} (v₀ v₁ v₂ v₃ : ℕ) → Filled words-of (i * mostTerms) out → i * mostTerms + 3 < length out
+      → v₀ ≡ wordAt (regionAt c i) 0 → v₁ ≡ wordAt (regionAt c i) 1 → v₂ ≡ wordAt (regionAt c i) 2 → v₃ ≡ wordAt (regionAt c i) 3
+      → Filled words-of ((i + 1) * mostTerms)
+      (set (set (set (set out (i * mostTerms) v₀) (i * mostTerms + 1) v₁) (i * mostTerms + 2) v₂) (i * mostTerms + 3) v₃)
+  words-next {out} v₀ v₁ v₂ v₃ F l e₀ e₁ e₂ e₃ =
+      let k = i * mostTerms in
+      one-word 3 (k + 3) ((i + 1) * mostTerms) v₃ (omega arith) refl (omega arith)
+      (one-word 2 (k + 2) (k + 3) v₂ (omega arith) refl (omega arith)
+      (one-word 1 (k + 1) (k + 2) v₁ (omega arith) refl (omega arith)
+      (one-word 0 k (k + 1) v₀ (omega arith) (omega arith) refl F (omega arith) e₀)
+      (simp length-set (omega arith)) e₁)
+      (simp length-set (omega arith)) e₂)
+      (simp length-set (omega arith)) e₃
 
 module _ (c : Chart) (w : WellFormed c) (numbers : (i j : ℕ) → i < mostRegions → j < mostTerms → termAt (regionAt c i) j .n < bias)
     (terms : List ℕ) (F : Filled (λ k. wordAt (regionAt c (k / mostTerms)) (k % mostTerms)) (c .count * mostTerms) terms) where

@@ -22,7 +22,15 @@ use Rattle.condition.proofs.Signed.{compares-exactly, one-clock}
 use Rattle.rounds.specs.Base.{allBelow}
 use Rattle.chart_value.specs.WellFormed.{leftFits}
 use Rattle.stepping.specs.View.{secondPlace, upperPlace, lowerPlace, boundPlace, bias, clockCodes, firstOf, secondOf, holdsBy, InChart}
-use Rattle.plan.specs.Words.{sidesOf, biased, boundBy, firstClock, secondClock, wordOf, wordAt}
+use Rattle.plan.specs.Words.{sidesOf, biased, raisedBy, loweredBy, boundBy, firstClock, secondClock, wordOf, wordAt}
+
+-- the bound by how far it lies above the number, and how far below
+pub bound-parts : (e : Relation) (b : ℕ) → b + raisedBy e - loweredBy e ≡ boundBy e b
+bound-parts Less b = omega arith
+bound-parts AtMost b = omega arith
+bound-parts Equal b = omega arith
+bound-parts AtLeast b = omega arith
+bound-parts More b = omega arith
 
 -- a bound by its sides
 sided : (u l : Bool) → ℕ → ℕ → Bool

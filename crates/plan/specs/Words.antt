@@ -23,6 +23,21 @@ sidesOf More = 2
 abbrev pub biased : ℕ → ℕ
 biased n = cond (ltb n 0x8000_0000) (bias + n) n
 
+-- how far the bound lies above the number, and how far below
+abbrev pub raisedBy : Relation → ℕ
+raisedBy Less = 0
+raisedBy AtMost = 0
+raisedBy Equal = 0
+raisedBy AtLeast = 0
+raisedBy More = 1
+
+abbrev pub loweredBy : Relation → ℕ
+loweredBy Less = 1
+loweredBy AtMost = 0
+loweredBy Equal = 0
+loweredBy AtLeast = 0
+loweredBy More = 0
+
 -- the bound that a relation to this number is
 abbrev pub boundBy : Relation → ℕ → ℕ
 boundBy Less b = b - 1

@@ -18,7 +18,7 @@ use stepping::TERM_PLACES;
 use stepping::UPPER_PLACE;
 ghost use mathlib.Core.Path.{_≡_};
 ghost use mathlib.Core.Bool.{true, cond};
-ghost use Prim.Native.Nat.{ℕ, _<_};
+ghost use Prim.Native.Nat.{ℕ, _<_, _≤_};
 ghost use lib.Dec.{eqb};
 ghost use lib.ListN.{getD};
 ghost use Rattle.bitset.specs.Set.{contains, inserted};
@@ -26,7 +26,8 @@ ghost use Rattle.model.specs.Chart.{mostRegions, mostTerms};
 ghost use Rattle.chart_value.specs.WellFormed.{wellFormed};
 ghost use Rattle.chart_value.specs.View.{codeOf, keyOf, chartOf};
 ghost use Rattle.stepping.specs.View.{conditionBy, Words};
-ghost use Rattle.plan.specs.Words.{sidesOf, biased, boundBy, firstClock, secondClock, wordOf, wordAt};
+ghost use Rattle.plan.specs.Words.{sidesOf, biased, raisedBy, loweredBy, boundBy, firstClock, secondClock, wordOf, wordAt};
+ghost use Rattle.plan.specs.Slots.{slotCount, slotOf, Slotted};
 ghost use Rattle.plan.specs.Plan.{recordCode, Compiles};
 
 // A message's code: one more than label, source and destination at their places.
@@ -39,6 +40,11 @@ const NO_CLOCK: u64 = MOST_CLOCKS as u64;
 
 // n is negative from here on.
 const SIGN: u32 = 0x8000_0000;
+
+// A message's regions are found by its slot: the highest byte of its code's low word times SPREAD.
+pub const SLOTS: usize = 256;
+
+const SPREAD: u64 = 0x9E37_79B1;
 
 // A compiled chart: each region's key, the regions above it, the clocks that it resets, and four words of terms.
 pub struct Plan {
@@ -205,19 +211,41 @@ fn biased_number(n: u32) -> u64
     wide32(n)
 }
 
+// 1 where the bound lies above the number.
+fn raised(e: Relation) -> u64
+    ensures value { λ r. ⌜ r ≡ raisedBy e ⌝ }
+    ensures bound { λ r. ⌜ r < 2 ⌝ }
+{
+    match e {
+        Relation::Less => 0,
+        Relation::AtMost => 0,
+        Relation::Equal => 0,
+        Relation::AtLeast => 0,
+        Relation::More => 1,
+    }
+}
+
+// 1 where the bound lies below the number.
+fn lowered(e: Relation) -> u64
+    ensures value { λ r. ⌜ r ≡ loweredBy e ⌝ }
+    ensures bound { λ r. ⌜ r < 2 ⌝ }
+{
+    match e {
+        Relation::Less => 1,
+        Relation::AtMost => 0,
+        Relation::Equal => 0,
+        Relation::AtLeast => 0,
+        Relation::More => 0,
+    }
+}
+
 // The bound that a relation to this number is.
 fn bound_by(e: Relation, b: u64) -> u64
     requires { ⌜ (0 < b) × (b < 0x2_0000_0000) ⌝ }
     ensures value { λ r. ⌜ r ≡ boundBy e b ⌝ }
     ensures bound { λ r. ⌜ r < 0x4_0000_0000 ⌝ }
 {
-    match e {
-        Relation::Less => b - 1,
-        Relation::AtMost => b,
-        Relation::Equal => b,
-        Relation::AtLeast => b,
-        Relation::More => b + 1,
-    }
+    b + raised(e) - lowered(e)
 }
 
 // The clock of a term, or the first of two.
@@ -269,14 +297,42 @@ fn terms_of(c: Chart) -> [u64; TERM_PLACES]
     ensures conditions { λ r. ⌜ ((i : ℕ) (value : ℕ → ℕ) → conditionBy r i value ≡ chartOf c .condition i value) ⌝ }
     ensures words { λ r. ⌜ Words (c .clocks) r ⌝ }
 {
-    let places = c.count as usize * MOST_TERMS;
+    let count = c.count as usize;
     let mut terms = [0u64; TERM_PLACES];
-    let mut k: usize = 0;
-    while k < places {
-        terms[k] = word_at(c.regions[k / MOST_TERMS], k % MOST_TERMS);
-        k += 1;
+    let mut i: usize = 0;
+    while i < count {
+        let g = c.regions[i];
+        let k = i * MOST_TERMS;
+        terms[k] = word_at(g, 0);
+        terms[k + 1] = word_at(g, 1);
+        terms[k + 2] = word_at(g, 2);
+        terms[k + 3] = word_at(g, 3);
+        i += 1;
     }
     terms
+}
+
+// The slot of a message's code.
+pub fn slot_of(code: u64) -> usize
+    ensures value { λ r. ⌜ r ≡ slotOf code ⌝ }
+    ensures bound { λ r. ⌜ r < slotCount ⌝ }
+{
+    ((code % BIAS * SPREAD) % BIAS / 0x100_0000) as usize
+}
+
+// For each slot the set of the regions whose key has it.
+pub fn slots_of(count: usize, keys: &[u64; MOST_REGIONS]) -> [u32; SLOTS]
+    requires { ⌜ count ≤ mostRegions ⌝ }
+    ensures { λ r. ⌜ Slotted count (now (keys .entry)) r ⌝ }
+{
+    let mut slots = [0u32; SLOTS];
+    let mut i: usize = 0;
+    while i < count {
+        let k = slot_of(keys[i]);
+        slots[k] = bitset::insert(slots[k], i as u32);
+        i += 1;
+    }
+    slots
 }
 
 // The chart as numbers.

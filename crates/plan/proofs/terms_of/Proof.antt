@@ -5,36 +5,36 @@ use lib.ListN.{length, length-set}
 use native.Mathlib.Omega.{arith}
 use borrow.Author.Needs.{needs}
 use Rattle.model.specs.Chart.{mostRegions, mostTerms, regionAt}
-use Rattle.model.proofs.Filled.{Filled, filled-none, filled-next}
+use Rattle.model.proofs.Filled.{Filled, filled-none}
 use Rattle.chart_value.proofs.Facts.{wf-of}
 use Rattle.chart_value.proofs.Owned.{owned-at}
 use Rattle.plan.specs.Words.{wordAt}
-use Rattle.plan.proofs.Shows.{terms-show, words-are}
+use Rattle.plan.proofs.Shows.{words-next, terms-show, words-are}
 use Rattle.plan.proofs.terms_of.Statement.{statement}
 use Rattle.plan.proofs.terms_of.Tie as tie
 
 abbrev Inv-loop : tie.InvT-loop
-Inv-loop c places terms₀ k₀ terms k =
-    (c .count ≤ mostRegions) × (k ≤ c .count * mostTerms) × (length terms ≡ mostRegions * mostTerms)
-    × Filled (λ y. wordAt (regionAt c (y / mostTerms)) (y % mostTerms)) k terms
+Inv-loop c count terms₀ i₀ terms i =
+    (c .count ≤ mostRegions) × (i ≤ c .count) × (length terms ≡ mostRegions * mostTerms)
+    × Filled (λ y. wordAt (regionAt c (y / mostTerms)) (y % mostTerms)) (i * mostTerms) terms
 
 abbrev μ-loop : tie.MeasureT-loop
-μ-loop c places terms₀ k₀ terms k = mostRegions * mostTerms - k
+μ-loop c count terms₀ i₀ terms i = mostRegions - i
 
-cast-places : tie.Need-cast-places Inv-loop μ-loop
-cast-places c = search needs
-
-mul-places : tie.Need-mul-places Inv-loop μ-loop
-mul-places c = search needs
+cast-count : tie.Need-cast-count Inv-loop μ-loop
+cast-count c = search needs
 
 loop-holds : tie.Need-loop-holds Inv-loop μ-loop
 loop-holds c = (wf-of (c .args .t1) (c .pre) .room, omega arith, search needs, filled-none (mostRegions * mostTerms))
 
-mul-word-at : tie.Need-mul-word-at Inv-loop μ-loop
-mul-word-at c = search needs
+mul-g : tie.Need-mul-g Inv-loop μ-loop
+mul-g c = search needs
 
-element-copy-out-word-at : tie.Need-element-copy-out-word-at Inv-loop μ-loop
-element-copy-out-word-at c = search needs
+element-copy-out-g : tie.Need-element-copy-out-g Inv-loop μ-loop
+element-copy-out-g c = search needs
+
+mul-k : tie.Need-mul-k Inv-loop μ-loop
+mul-k c = search needs
 
 word-at-requires : tie.Need-word-at-requires Inv-loop μ-loop
 word-at-requires c κs = search needs
@@ -45,21 +45,65 @@ mul-terms c = search needs
 array-write-terms : tie.Need-array-write-terms Inv-loop μ-loop
 array-write-terms c = search needs
 
-add-k : tie.Need-add-k Inv-loop μ-loop
-add-k c = search needs
+word-at-requires-2 : tie.Need-word-at-requires-2 Inv-loop μ-loop
+word-at-requires-2 c κs = search needs
+
+add-terms : tie.Need-add-terms Inv-loop μ-loop
+add-terms c = search needs
+
+mul-terms-2 : tie.Need-mul-terms-2 Inv-loop μ-loop
+mul-terms-2 c = search needs
+
+array-write-terms-2 : tie.Need-array-write-terms-2 Inv-loop μ-loop
+array-write-terms-2 c = search needs
+
+word-at-requires-3 : tie.Need-word-at-requires-3 Inv-loop μ-loop
+word-at-requires-3 c κs = search needs
+
+add-terms-2 : tie.Need-add-terms-2 Inv-loop μ-loop
+add-terms-2 c = search needs
+
+mul-terms-3 : tie.Need-mul-terms-3 Inv-loop μ-loop
+mul-terms-3 c = search needs
+
+array-write-terms-3 : tie.Need-array-write-terms-3 Inv-loop μ-loop
+array-write-terms-3 c = search needs
+
+word-at-requires-4 : tie.Need-word-at-requires-4 Inv-loop μ-loop
+word-at-requires-4 c κs = search needs
+
+add-terms-3 : tie.Need-add-terms-3 Inv-loop μ-loop
+add-terms-3 c = search needs
+
+mul-terms-4 : tie.Need-mul-terms-4 Inv-loop μ-loop
+mul-terms-4 c = search needs
+
+array-write-terms-4 : tie.Need-array-write-terms-4 Inv-loop μ-loop
+array-write-terms-4 c = search needs
+
+add-i : tie.Need-add-i Inv-loop μ-loop
+add-i c = search needs
 
 loop-less : tie.Need-loop-less Inv-loop μ-loop
 loop-less c = search needs
 
 loop-again : tie.Need-loop-again Inv-loop μ-loop
-loop-again c = let I = c .before .before .before .loop .inv in
-    (I .0, omega arith, simp length-set (I .2), filled-next (c .word-at .result) (I .3) (omega arith) (c .word-at .ensures))
+loop-again c =
+    let l = c .before .before .before .before .before .before in
+    let I = l .loop .inv in (
+      I .0,
+      omega arith,
+      simp length-set (I .2),
+      words-next (l .before .args .t1) (l .loop .i) (c .before .before .before .word-at .result) (c .before .before .word-at2 .result) (c .before .word-at3 .result)
+          (c .word-at4 .result) (I .3) (omega arith) (c .before .before .before .word-at .ensures) (c .before .before .word-at2 .ensures)
+          (c .before .word-at3 .ensures) (c .word-at4 .ensures),
+    )
 
 returns : tie.Need-returns Inv-loop μ-loop
 returns c =
     let s = c .before .before in
     let l = c .before .loop in
-    let e : l .k ≡ s .args .t1 .count * mostTerms = omega arith in
+    let e : l .i ≡ s .args .t1 .count = omega arith in
     let W = wf-of (s .args .t1) (s .pre) in
     let F = rw e at (l .inv .3) in (
       terms-show (s .args .t1) W (λ i j h m. owned-at (s .args .t1) _ (s .good .0) i h .numbers j m) (l .terms) F,
@@ -72,15 +116,27 @@ terms-of-spec =
     (tie.spec
     Inv-loop
     μ-loop
-    cast-places
-    mul-places
+    cast-count
     loop-holds
-    mul-word-at
-    element-copy-out-word-at
+    mul-g
+    element-copy-out-g
+    mul-k
     word-at-requires
     mul-terms
     array-write-terms
-    add-k
+    word-at-requires-2
+    add-terms
+    mul-terms-2
+    array-write-terms-2
+    word-at-requires-3
+    add-terms-2
+    mul-terms-3
+    array-write-terms-3
+    word-at-requires-4
+    add-terms-3
+    mul-terms-4
+    array-write-terms-4
+    add-i
     loop-less
     loop-again
     returns)
