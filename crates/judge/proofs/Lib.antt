@@ -1,3 +1,4 @@
 pub mod Laws
 pub mod Fed
+pub mod Going
 pub mod Judging

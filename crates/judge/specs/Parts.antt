@@ -1,5 +1,5 @@
 -- The code of a record in its bytes, and the standing and the verdict of a stored monitor, for the functions that compute them.
-use mathlib.Core.Bool.{cond, not}
+use mathlib.Core.Bool.{Bool, true, false, cond, not}
 use mathlib.Core.List.{List}
 use Prim.Native.Nat.{ℕ, _+_, _*_}
 use lib.ListN.{getD}
@@ -9,12 +9,19 @@ use Rattle.log_reader.specs.Record.{messageByte}
 use Rattle.bitset.specs.Set.{contains}
 use Rattle.model.specs.declared.Monitor.{Monitor}
 use Rattle.rounds.specs.Base.{allBelow}
+use Rattle.judge.specs.declared.Checked.{Checked}
+use Rattle.judge.specs.declared.Checked.the-variants.{Fine, Refused}
 use Rattle.judge.specs.declared.Verdict.{Verdict}
 use Rattle.judge.specs.Judge.{broken, nothingFired, inPrechart, owed}
 
 -- the code of a message whose record stands at a place, 0 for any other record
 abbrev pub codeAt : List ℕ → ℕ → ℕ
 codeAt s at = cond (eqb (getD s at 0) messageByte) (word16 s (at + 3) * 65536 + word16 s (at + 1) + 1) 0
+
+-- the check found no fault
+abbrev pub isFine : Checked → Bool
+isFine (Fine n) = true
+isFine (Refused k offset) = false
 
 -- `standingOf`, with the number of prechart regions
 unfoldable pub standingBy : ℕ → Monitor → ℕ

@@ -1,4 +1,5 @@
 // Judging a whole log: it is checked first, then its records are fed.
+use log_reader::MESSAGE;
 use log_reader::Next;
 use log_reader::RecordRefusal;
 use model::Chart;
@@ -7,7 +8,7 @@ use model::Moment;
 use model::Monitor;
 use model::Record;
 ghost use mathlib.Core.Path.{_≡_};
-ghost use mathlib.Core.Bool.{true};
+ghost use mathlib.Core.Bool.{true, So};
 ghost use Prim.Native.Nat.{_≤_, _<_};
 ghost use lib.ListN.{length};
 ghost use Rattle.model.specs.Chart.{mostRegions};
@@ -19,7 +20,7 @@ ghost use Rattle.monitor.specs.Runs.{logged};
 ghost use Rattle.log_reader.specs.Records.{recordsIn};
 ghost use Rattle.judge.specs.Check.{logRefusalNumber, timeOf, takeRecord, stepAt, checkLog};
 ghost use Rattle.judge.specs.Judge.{zeroVerdict, said, judgeOf};
-ghost use Rattle.judge.specs.Parts.{codeAt, standingBy, verdictBy};
+ghost use Rattle.judge.specs.Parts.{codeAt, isFine, standingBy, verdictBy};
 
 // Why a log is refused.
 pub enum LogRefusal {
@@ -130,10 +131,8 @@ pub struct Judgement {
     pub verdict: Verdict,
 }
 
-const MESSAGE: u8 = 0x01;
-
-// The label's place in a message's code.
-const LABEL_PLACE: u64 = 65_536;
+// The label's place in a message's code; below it are the lines, which stand above the label in a record's bytes.
+const LABEL_PLACE: u32 = 0x1_0000;
 
 const BROKEN: u8 = 3;
 
@@ -143,8 +142,8 @@ const IN_PRECHART: u8 = 1;
 
 const OWED: u8 = 2;
 
-fn wide(x: u16) -> u64
-    ensures { λ r. ⌜ (r ≡ x) × (r < 65536) ⌝ }
+fn wide(x: u32) -> u64
+    ensures { λ r. ⌜ (r ≡ x) × (r < 0x1_0000_0000) ⌝ }
 {
     x as u64
 }
@@ -156,24 +155,25 @@ fn code_at(log: &[u8], at: usize) -> u64
     ensures { λ r. ⌜ r ≡ codeAt (now (log .entry)) at ⌝ }
 {
     if wire::byte_at(log, at) == MESSAGE {
-        let label = wide(wire::word16_at(log, at + 3));
-        let lines = wide(wire::word16_at(log, at + 1));
-        return label * LABEL_PLACE + lines + 1;
+        let word = wire::word32_at(log, at + 1);
+        return wide(word % LABEL_PLACE * LABEL_PLACE + word / LABEL_PLACE) + 1;
     }
     0
 }
 
-// The chart compiled once; each record of the log where it lies, fed to a fresh monitor. Behind a break nothing changes any more.
+// The chart compiled once; each record of a log without a fault where it lies, taken by a fresh monitor. What a feed would refuse the check
+// has refused, and behind a break nothing changes any more.
 fn feed_log(c: Chart, log: &[u8]) -> Monitor
     requires { ⌜ wellFormed c ≡ true ⌝ }
+    requires { ⌜ So (isFine (checkLog (now log))) ⌝ }
     ensures end { λ r. ⌜ monitorAt r ≡ after (chartOf c) (logged (recordsIn (now (log .entry)))) ⌝ }
 {
     let p = plan::compile(c);
     let h = p.head;
+    let slots = plan::slots_of(h.count, &p.keys);
     let mut m = model::zero_monitor();
     let mut at: usize = 0;
-    let mut left = log.len();
-    while 0 < left {
+    while at < log.len() {
         let next = log_reader::read_record(log, at);
         match next {
             Next::End => {
@@ -184,10 +184,11 @@ fn feed_log(c: Chart, log: &[u8]) -> Monitor
             }
             Next::Taken(e, place) => {
                 let code = code_at(log, at);
-                let s = stepping::feed_fit(
+                let s = stepping::accept(
                     h,
                     &p.keys,
                     &p.above,
+                    slots[plan::slot_of(code)],
                     &p.resets,
                     &p.terms,
                     m,
@@ -199,7 +200,6 @@ fn feed_log(c: Chart, log: &[u8]) -> Monitor
                     return m;
                 }
                 at = place;
-                left -= 1;
             }
         }
     }

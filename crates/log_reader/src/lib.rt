@@ -20,7 +20,7 @@ pub enum Next {
     Taken(Record, usize),
 }
 
-const MESSAGE: u8 = 0x01;
+pub const MESSAGE: u8 = 0x01;
 
 const TIME: u8 = 0x02;
 

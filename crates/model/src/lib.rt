@@ -1,6 +1,6 @@
 // The vocabulary: times, messages, terms, regions, charts, records and monitors, as values.
 ghost use mathlib.Core.Path.{_≡_};
-ghost use Prim.Native.Nat.{ℕ, _-_, _<_};
+ghost use Prim.Native.Nat.{ℕ, _-_, _<_, _≤_};
 ghost use Rattle.bitset.specs.Set.{contains};
 ghost use Rattle.model.specs.Chart.{zeroTerm, zeroRegion, zeroChart, isPlain, isBare, lineSet, touched, touches, mostLines};
 ghost use Rattle.model.specs.Monitor.{zeroMonitor};
@@ -27,13 +27,11 @@ pub struct Moment(pub u32);
 pub struct Length(pub u32);
 
 impl Moment {
-    // The length from an earlier moment to this one; 0 if the other is the later one.
+    // The length from an earlier moment to this one.
     pub fn since(self, earlier: Moment) -> Length
+        requires { ⌜ earlier .0 ≤ self .0 ⌝ }
         ensures { λ r. ⌜ r .0 ≡ self .0 - earlier .0 ⌝ }
     {
-        if self.0 < earlier.0 {
-            return Length(0);
-        }
         Length(self.0 - earlier.0)
     }
 }

@@ -1,17 +1,23 @@
 -- Feeding by its tests in their order. Assumes nothing.
 use mathlib.Core.Path.{_≡_, ap, _∙_}
-use mathlib.Core.Bool.{true, false}
-use Prim.Native.Nat.{ℕ}
+use mathlib.Core.Bool.{true, false, not}
+use mathlib.Core.List.{List}
+use Prim.Native.Nat.{ℕ, _≤_, _<_}
+use native.Mathlib.Omega.{arith}
+use Rattle.bitset.specs.Set.{contains}
+use Rattle.bitset.proofs.Laws.{contains-empty}
 use Rattle.model.specs.declared.Chart.{Chart}
 use Rattle.model.specs.declared.Monitor.{Monitor}
 use Rattle.model.specs.declared.Record.{Record}
 use Rattle.model.specs.declared.Record.the-variants.{Message, Time}
+use Rattle.model.specs.Chart.{mostRegions}
 use Rattle.chart_value.specs.WellFormed.{wellFormed}
 use Rattle.chart_value.specs.View.{chartOf}
 use Rattle.rounds.specs.Chart.{Chart as Abstract}
 use Rattle.rounds.specs.Machine as machine
 use Rattle.stepping.specs.declared.FeedRefusal.the-variants.{NotAChart, Unfit}
 use Rattle.stepping.specs.View.{monitorAt, recordOf}
+use Rattle.stepping.specs.Parts.{Covers}
 use Rattle.plan.specs.Plan.{recordCode}
 use Rattle.monitor.specs.Fit.{fits}
 use Rattle.monitor.specs.Feed.{logRecord, refuse, feedOf}
@@ -19,6 +25,10 @@ use Rattle.monitor.specs.Feed.{logRecord, refuse, feedOf}
 code-logged : (e : Record) → recordCode e ≡ logRecord e .code
 code-logged (Message m t) = λ i. logRecord (Message m t) .code
 code-logged (Time t) = λ i. 0
+
+-- the set of all numbers has every region
+pub all-covered : {count : ℕ} {keys : List ℕ} (code s : ℕ) → count ≤ mostRegions → ((i : ℕ) → i < 32 → contains s i ≡ not (contains 0 i)) → Covers count keys code s
+all-covered code s n h = record { has = λ i l e. h i (omega arith) ∙ ap not (contains-empty i) }
 
 module _ (c : Chart) (m : Monitor) (e : Record) (s : machine.Step) where
   pub fed-no-chart : wellFormed c ≡ false → s ≡ refuse NotAChart m → s ≡ feedOf c m e

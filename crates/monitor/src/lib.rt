@@ -180,6 +180,7 @@ pub fn feed(chart: Chart, monitor: Monitor, e: Record) -> Step
         h,
         &p.keys,
         &p.above,
+        bitset::others(0),
         &p.resets,
         &p.terms,
         monitor,

@@ -1,7 +1,7 @@
 -- Stored places and what they show: clocks reset, a region fired, the opening. Assumes nothing.
 use mathlib.Core.Path.{_≡_, refl, ap, _∙_, fun-ext}
 use mathlib.Core.Logic.{inl, inr}
-use mathlib.Core.Bool.{false, So, cond, _||_, or-comm}
+use mathlib.Core.Bool.{Bool, true, false, So, cond, _||_, or-comm}
 use mathlib.Core.List.{List}
 use Prim.Native.Nat.{ℕ, _+_, _≤_, _<_, _-_, _^_}
 use native.Mathlib.Decide.{decLt, ℕ-discrete}
@@ -17,7 +17,7 @@ use Rattle.model.specs.declared.Place.{Place}
 use Rattle.model.specs.Chart.{mostClocks}
 use Rattle.rounds.specs.Chart.{Chart}
 use Rattle.rounds.specs.Rows.{opened}
-use Rattle.rounds.specs.Machine.{opening}
+use Rattle.rounds.specs.Machine.{Place as AbstractPlace, opening}
 use Rattle.rounds.proofs.Facts.{split}
 use Rattle.stepping.specs.View.{placeAt, momentsOf}
 use Rattle.stepping.specs.Parts.{fireBy}
@@ -59,6 +59,15 @@ fires resets p i t f r e h =
     let k : contains f ≡ (λ j. eqb j i || contains (p .fired) j) = fun-ext (λ j. rw e (contains-inserted (p .fired) i j ∙ or-comm (contains (p .fired) j) (eqb j i))) in
     let m : momentsOf r ≡ (λ c. cond (contains (getD resets i 0) c) t (momentsOf (p .resets) c)) = fun-ext h in
     λ j. record { fired = k j; clocks = m j }
+
+-- a place whose moments have come has none to come once a region fires
+pub fired-early : (resets : List ℕ) (t : ℕ) (p r : Place) (i : ℕ) → placeAt r ≡ fireBy resets t p i → ((c : ℕ) → momentsOf (p .resets) c ≤ t)
+    → (c : ℕ) → momentsOf (r .resets) c ≤ t
+fired-early resets t p r i e h c = rw (ap (λ (q : AbstractPlace). q .clocks c) e) (early (contains (getD resets i 0) c))
+  where
+    early : (b : Bool) → cond b t (momentsOf (p .resets) c) ≤ t
+    early true = omega arith
+    early false = h c
 
 pub zeros : (c : ℕ) → momentsOf (replicate mostClocks (record { 0 = 0 })) c ≡ 0
 unfolding ticks

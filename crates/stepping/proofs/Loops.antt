@@ -47,15 +47,6 @@ one-passes t k (suc n) l h = elim (ℕ-discrete k n) [
   | no q ↦ rw (one-passes t k n (omega arith) h)
 ]
 
--- b: some number below k passes
-pub record SomeSoFar (t : ℕ → Bool) (k : ℕ) (b : Bool) : Type 0 where
-  pub is : someBelow k t ≡ b
-
-pub some-start : {t : ℕ → Bool} → SomeSoFar t 0 false
-some-start = record { is = refl }
-
-pub some-more : {t : ℕ → Bool} {k : ℕ} {b : Bool} → SomeSoFar t k b → SomeSoFar t (k + 1) (b || t k)
-some-more {t} {k} S = record { is = rw add-one (ap (λ (b : Bool). b || t k) (S .is)) }
-
-pub some-passes : {t : ℕ → Bool} {k : ℕ} {b : Bool} (n : ℕ) → SomeSoFar t k b → k ≡ n → someBelow n t ≡ b
-some-passes n S q = rw (← q) (S .is)
+pub none-some : {t : ℕ → Bool} (n : ℕ) → SoFar t false n → someBelow n t ≡ false
+none-some zero S = refl
+none-some (suc n) S = rw (none-some n (record { is = λ j l. S .is j (omega arith) }), S .is n (omega arith))

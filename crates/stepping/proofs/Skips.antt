@@ -1,7 +1,7 @@
--- The search for a ready plain region: what is skipped is not it, and the place is the first that is not skipped. Assumes nothing.
+-- The search for the first number that passes a test, by a set of numbers that are skipped. Assumes nothing.
 use mathlib.Core.Path.{_≡_, refl, sym, _∙_}
 use mathlib.Core.Bool.{Bool, true, false, not, So, _&&_, _||_, or-true, and-false}
-use mathlib.Core.Logic.{inl, inr}
+use mathlib.Core.Logic.{_⊎_, inl, inr}
 use mathlib.Core.List.{List}
 use Prim.Native.Nat.{ℕ, _≤_, _<_}
 use native.Mathlib.Decide.{decLt, ℕ-discrete}
@@ -12,7 +12,7 @@ use lib.ListN.{getD}
 use Rattle.bitset.specs.Set.{contains, inserted, union, isSubset}
 use Rattle.bitset.proofs.Laws.{contains-union, contains-inserted}
 use Rattle.rounds.proofs.Facts.{split, clash, or-cases}
-use Rattle.stepping.specs.Parts.{readyBy}
+use Rattle.stepping.specs.Parts.{readyBy, Covers}
 use Rattle.stepping.proofs.Loops.{SoFar}
 
 -- what is known of the first number that is no member
@@ -21,52 +21,34 @@ pub record Run (s r : ℕ) : Type 0 where
   pub gap : contains s r ≡ false
   pub few : r ≤ 32
 
-pub record Skips (plain : ℕ) (above : List ℕ) (fired s i : ℕ) : Type 0 where
-  pub not-ready : (j : ℕ) → j < 32 → So (contains s j) → (contains plain j && readyBy above fired j) ≡ false
-  pub plain-left : (j : ℕ) → j < 32 → contains s j ≡ false → So (contains plain j)
+pub run-of : {s r : ℕ} → ((j : ℕ) → j < r → So (contains s j)) × ((contains s r ≡ false) × (r ≤ 32)) → Run s r
+run-of h = record { before = h .0; gap = h .1 .0; few = h .1 .1 }
+
+-- of the numbers below n those that are skipped fail; those of the first set are skipped; the place is the first that is not
+pub record Skips (n : ℕ) (t : ℕ → Bool) (first s i : ℕ) : Type 0 where
+  pub fails : (j : ℕ) → j < n → So (contains s j) → t j ≡ false
+  pub all : (j : ℕ) → So (contains first j) → So (contains s j)
   pub at : Run s i
 
-fired-not : (a b : Bool) {f : Bool} → So f → (a && (not f && b)) ≡ false
-fired-not a b h = rw h (and-false a)
+pub skips-start : {n : ℕ} {t : ℕ → Bool} {s r : ℕ} → ((j : ℕ) → j < n → So (contains s j) → t j ≡ false) → Run s r → Skips n t s s r
+skips-start h R = record { fails = h; all = λ j m. m; at = R }
 
-double : (b : Bool) → not b ≡ false → b ≡ true
-double true e = refl
-double false e = sym e
+module _ {n : ℕ} {t : ℕ → Bool} {first s i : ℕ} (S : Skips n t first s i) where
+  pub not-first : contains first i ≡ false
+  not-first = elim (split (contains first i)) [ inl m ↦ clash (S .all i m) (S .at .gap) | inr m ↦ m ]
 
-either-false : (a b : Bool) → (a || b) ≡ false → b ≡ false
-either-false true b e = clash {b = true} refl e
-either-false false b e = e
-
-module _ {plain : ℕ} {above : List ℕ} {fired : ℕ} where
-  pub skips-start : (o s r : ℕ) → ((i : ℕ) → i < 32 → contains o i ≡ not (contains plain i)) → s ≡ union fired o → Run s r → Skips plain above fired s r
-  skips-start o s r h e R = record {
-    not-ready = λ j l m. elim (or-cases (contains fired j) (contains o j) (sym (contains-union fired o j) ∙ rw (← e) m)) [
-      | inl f ↦ fired-not (contains plain j) (isSubset (getD above j 0) fired) f
-      | inr p ↦ rw (plain-not (contains plain j) (sym (h j l) ∙ p))
-    ];
-    plain-left = λ j l m. double (contains plain j) (sym (h j l) ∙ either-false (contains fired j) (contains o j) (sym (contains-union fired o j) ∙ rw (← e) m));
-    at = R;
-  }
-    where
-      plain-not : (b : Bool) → not b ≡ true → b ≡ false
-      plain-not true x = sym x
-      plain-not false x = refl
-
-  module _ {s i : ℕ} (S : Skips plain above fired s i) (i<32 : i < 32) {t r : ℕ} (e : t ≡ inserted s i) where
-    pub skips-more : readyBy above fired i ≡ false → Run t r → Skips plain above fired t r
-    skips-more n R = record {
-      not-ready = λ j l m. elim (or-cases (contains s j) (eqb j i) (sym (contains-inserted s i j) ∙ rw (← e) m)) [
-        | inl f ↦ S .not-ready j l f
-        | inr q ↦ elim (ℕ-discrete j i) [ yes z ↦ rw (z, n) (and-false (contains plain i)) | no z ↦ clash q (ne-eqb j i z) ]
+  module _ {u r : ℕ} (e : u ≡ inserted s i) where
+    pub skips-more : t i ≡ false → Run u r → Skips n t first u r
+    skips-more f R = record {
+      fails = λ j l m. elim (or-cases (contains s j) (eqb j i) (sym (contains-inserted s i j) ∙ rw (← e) m)) [
+        | inl k ↦ S .fails j l k
+        | inr q ↦ elim (ℕ-discrete j i) [ yes z ↦ rw z f | no z ↦ clash q (ne-eqb j i z) ]
       ];
-      plain-left = λ j l m. elim (split (contains s j)) [
-        | inl f ↦ let z : contains t j ≡ true = rw e (contains-inserted s i j ∙ rw f) in clash z m
-        | inr f ↦ S .plain-left j l f
-      ];
+      all = λ j m. rw e (contains-inserted s i j ∙ rw (S .all j m));
       at = R;
     }
 
-    pub skips-grow : Run t r → i < r
+    pub skips-grow : Run u r → i < r
     skips-grow R = elim (decLt i r) [
       | yes l ↦ l
       | no l ↦ elim (ℕ-discrete r i) [
@@ -75,5 +57,70 @@ module _ {plain : ℕ} {above : List ℕ} {fired : ℕ} where
       ]
     ]
 
-  pub skipped : {s i : ℕ} → Skips plain above fired s i → SoFar (λ j. contains plain j && readyBy above fired j) false i
-  skipped S = record { is = λ j l. S .not-ready j (omega (arith, S .at .few)) (S .at .before j l) }
+  pub skipped : i ≤ n → SoFar t false i
+  skipped l = record { is = λ j m. S .fails j (omega arith) (S .at .before j m) }
+
+  pub all-skipped : n ≤ i → SoFar t false n
+  all-skipped l = record { is = λ j m. S .fails j m (S .at .before j (omega arith)) }
+
+fired-not : (a b : Bool) {f : Bool} → So f → (a && (not f && b)) ≡ false
+fired-not a b h = rw h (and-false a)
+
+opposite : (b : Bool) → not b ≡ true → b ≡ false
+opposite true x = sym x
+opposite false x = refl
+
+double : (b : Bool) → not b ≡ false → b ≡ true
+double true e = refl
+double false e = sym e
+
+neither : (a b : Bool) → (a || b) ≡ false → (a ≡ false) × (b ≡ false)
+neither true b e = clash {b = true} refl e
+neither false b e = (refl, e)
+
+-- s has the fired numbers and those that are not of p
+pub record Apart (fired p s : ℕ) : Type 0 where
+  pub inside : (j : ℕ) → j < 32 → So (contains s j) → So (contains fired j) ⊎ (contains p j ≡ false)
+  pub outside : (j : ℕ) → j < 32 → contains s j ≡ false → (contains fired j ≡ false) × (contains p j ≡ true)
+
+pub apart : (fired p o s : ℕ) → ((i : ℕ) → i < 32 → contains o i ≡ not (contains p i)) → s ≡ union fired o → Apart fired p s
+apart fired p o s h e = record {
+  inside = λ j l m. elim (or-cases (contains fired j) (contains o j) (sym (contains-union fired o j) ∙ rw (← e) m)) [
+    | inl f ↦ inl f
+    | inr q ↦ inr (opposite (contains p j) (sym (h j l) ∙ q))
+  ];
+  outside = λ j l m.
+      let q = neither (contains fired j) (contains o j) (sym (contains-union fired o j) ∙ rw (← e) m) in
+      (q .0, double (contains p j) (sym (h j l) ∙ q .1));
+}
+
+pub ready-is : (above : List ℕ) (fired i : ℕ) → contains fired i ≡ false → readyBy above fired i ≡ isSubset (getD above i 0) fired
+ready-is above fired i f = rw f
+
+pub unready : (above : List ℕ) (fired i : ℕ) → isSubset (getD above i 0) fired ≡ false → readyBy above fired i ≡ false
+unready above fired i e = rw e (and-false (not (contains fired i)))
+
+-- what the search for a plain region starts with
+pub plain-start : (above : List ℕ) {plain fired s n : ℕ} → n ≤ 32 → Apart fired plain s
+    → (j : ℕ) → j < n → So (contains s j) → (contains plain j && readyBy above fired j) ≡ false
+plain-start above {plain} {fired} k A j l m = elim (A .inside j (omega arith) m) [
+  | inl f ↦ fired-not (contains plain j) (isSubset (getD above j 0) fired) f
+  | inr q ↦ rw q
+]
+
+module _ {count : ℕ} {keys : List ℕ} {code among : ℕ} (W : Covers count keys code among) where
+  not-covered : (j : ℕ) → j < count → contains among j ≡ false → eqb (getD keys j 0) code ≡ false
+  not-covered j l q = elim (ℕ-discrete (getD keys j 0) code) [ yes z ↦ clash (W .has j l z) q | no z ↦ ne-eqb (getD keys j 0) code z ]
+
+  -- what the search for the ready region of a message starts with
+  pub message-start : (above : List ℕ) {fired s : ℕ} → count ≤ 32 → Apart fired among s
+      → (j : ℕ) → j < count → So (contains s j) → (eqb (getD keys j 0) code && readyBy above fired j) ≡ false
+  message-start above {fired} k A j l m = elim (A .inside j (omega arith) m) [
+    | inl f ↦ fired-not (eqb (getD keys j 0) code) (isSubset (getD above j 0) fired) f
+    | inr q ↦ rw (not-covered j l q)
+  ]
+
+  -- what the search for any region of a message starts with
+  pub known-start : (o : ℕ) → count ≤ 32 → ((i : ℕ) → i < 32 → contains o i ≡ not (contains among i))
+      → (j : ℕ) → j < count → So (contains o j) → eqb (getD keys j 0) code ≡ false
+  known-start o k h j l m = not-covered j l (opposite (contains among j) (sym (h j (omega arith)) ∙ m))

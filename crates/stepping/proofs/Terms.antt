@@ -1,20 +1,48 @@
 -- The test of a term's word by the clocks that it names is its test by every clock's value. Assumes nothing.
-use mathlib.Core.Path.{_≡_, sym, ap, ap₂, fun-ext}
+use mathlib.Core.Path.{_≡_, refl, sym, ap, ap₂, fun-ext}
 use mathlib.Core.Logic.{_⊎_, inl, inr}
-use mathlib.Core.Bool.{Bool, true, cond}
+use mathlib.Core.Bool.{Bool, true, false, not, cond, _&&_}
 use mathlib.Core.List.{List}
-use Prim.Native.Nat.{ℕ, _+_, _*_, _-_, _%_, _≤_, _<_}
+use Prim.Native.Nat.{ℕ, _+_, _*_, _-_, _/_, _%_, _≤_, _<_}
 use native.Mathlib.Decide.{ℕ-discrete}
 use native.Mathlib.Omega.{arith}
 use borrow.Author.Tests.{lt-ltb, le-ltb}
-use lib.Dec.{ltb}
+use lib.Dec.{eqb, ltb}
 use lib.ListN.{getD}
 use Rattle.model.specs.declared.Moment.{Moment}
 use Rattle.model.specs.Chart.{mostClocks, mostTerms}
 use Rattle.rounds.specs.Base.{allBelow}
 use Rattle.stepping.specs.declared.Head.{Head}
-use Rattle.stepping.specs.View.{bias, boundOf, firstOf, secondOf, bounded, holdsBy, conditionBy, InChart, Compiled, momentsOf}
+use Rattle.stepping.specs.View.{bias, lowerPlace, upperPlace, boundOf, firstOf, secondOf, bounded, holdsBy, conditionBy, InChart, Compiled, momentsOf}
 use Rattle.stepping.specs.Parts.{valueAt, Testable}
+
+-- the sums of a word's test, by the side that they fall on
+pub below-bound : (w x y : ℕ) → x < y → not (eqb (w / lowerPlace % 2) 1) ≡ bounded w x y
+below-bound w x y l = rw (lt-ltb x y l, le-ltb y x (omega arith)) (by (eqb (w / upperPlace % 2) 1) (eqb (w / lowerPlace % 2) 1))
+  where
+    by : (u v : Bool) → not v ≡ (not (u && false) && not (v && true))
+    by true true = refl
+    by true false = refl
+    by false true = refl
+    by false false = refl
+
+pub above-bound : (w x y : ℕ) → y < x → not (eqb (w / upperPlace % 2) 1) ≡ bounded w x y
+above-bound w x y l = rw (lt-ltb y x l, le-ltb x y (omega arith)) (by (eqb (w / upperPlace % 2) 1) (eqb (w / lowerPlace % 2) 1))
+  where
+    by : (u v : Bool) → not u ≡ (not (u && true) && not (v && false))
+    by true true = refl
+    by true false = refl
+    by false true = refl
+    by false false = refl
+
+pub at-bound : (w x y : ℕ) → y ≤ x → x ≤ y → true ≡ bounded w x y
+at-bound w x y l m = rw (le-ltb y x m, le-ltb x y l) (by (eqb (w / upperPlace % 2) 1) (eqb (w / lowerPlace % 2) 1))
+  where
+    by : (u v : Bool) → true ≡ (not (u && false) && not (v && false))
+    by true true = refl
+    by true false = refl
+    by false true = refl
+    by false false = refl
 
 -- the word's term holds, by the moments
 unfoldable pub heldAt : ℕ → ℕ → List Moment → Bool

@@ -1,8 +1,9 @@
 -- What the inner functions give, over the numbers.
-use mathlib.Core.Bool.{Bool, cond, not, _&&_, _||_}
+use mathlib.Core.Path.{_≡_}
+use mathlib.Core.Bool.{Bool, So, cond, not, _&&_, _||_}
 use mathlib.Core.List.{List}
 use mathlib.Core.Option.{Option, none, some}
-use Prim.Native.Nat.{ℕ, _-_, _≤_}
+use Prim.Native.Nat.{ℕ, _-_, _≤_, _<_}
 use lib.Dec.{eqb, ltb}
 use lib.ListN.{getD}
 use Rattle.bitset.specs.Set.{contains, isSubset}
@@ -30,6 +31,10 @@ readyBy above fired i = not (contains fired i) && isSubset (getD above i 0) fire
 abbrev pub foundOf : Found → Option ℕ
 foundOf (At i) = some i
 foundOf Nothing = none
+
+-- every region that has the message is in the set
+pub record Covers (count : ℕ) (keys : List ℕ) (code among : ℕ) : Type 0 where
+  pub has : (i : ℕ) → i < count → getD keys i 0 ≡ code → So (contains among i)
 
 -- what the regions have for a message: a ready region, only regions that aren't ready, or no region has it
 unfoldable pub soughtBy : List ℕ → List ℕ → ℕ → ℕ → ℕ → Sought

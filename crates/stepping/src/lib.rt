@@ -23,7 +23,7 @@ ghost use Rattle.rounds.specs.Machine.{stuck, opening as opened, goOn, keepRoun
 ghost use Rattle.stepping.specs.declared.Rest.the-variants.{Fails as FailsAt};
 ghost use Rattle.stepping.specs.Answers.{feedRefusalNumber, answerNumber, answerOf, HandsBack};
 ghost use Rattle.stepping.specs.View.{bias, boundOf, bounded, momentsOf, conditionBy, planChart, placeAt, recordOf, monitorAt, stepOf, Compiled};
-ghost use Rattle.stepping.specs.Parts.{readyBy, foundOf, soughtBy, valueAt, Testable, fireBy, takenAt, moveOf};
+ghost use Rattle.stepping.specs.Parts.{readyBy, foundOf, Covers, soughtBy, valueAt, Testable, fireBy, takenAt, moveOf};
 
 pub const TERM_PLACES: usize = MOST_REGIONS * MOST_TERMS;
 
@@ -107,14 +107,6 @@ pub fn answer_number(a: Answer) -> u8
     }
 }
 
-// Region i isn't fired, and those above it are.
-fn is_ready(above: &[u32; MOST_REGIONS], fired: u32, i: usize) -> bool
-    requires { ⌜ i < mostRegions ⌝ }
-    ensures { λ r. ⌜ r ≡ readyBy (now (above .entry)) fired i ⌝ }
-{
-    !bitset::member(fired, i as u32) & bitset::subset(above[i], fired)
-}
-
 // What a search for a region finds.
 pub enum Found {
     At(usize),
@@ -129,7 +121,7 @@ pub fn ready_plain(plain: u32, above: &[u32; MOST_REGIONS], count: usize, fired:
     let mut skip = bitset::join(fired, bitset::others(plain));
     let mut i = bitset::run(skip) as usize;
     while i < count {
-        if is_ready(above, fired, i) {
+        if bitset::subset(above[i], fired) {
             return Found::At(i);
         }
         skip = bitset::insert(skip, i as u32);
@@ -145,55 +137,65 @@ enum Sought {
     Foreign,
 }
 
-// The ready region that has the message. Those that are fired from the first on need not be looked at.
+// The ready region that has the message, of those among which every region that has it is.
 fn ready_for(
     keys: &[u64; MOST_REGIONS],
     above: &[u32; MOST_REGIONS],
+    among: u32,
     count: usize,
     fired: u32,
     code: u64,
 ) -> Found
     requires { ⌜ count ≤ mostRegions ⌝ }
+    requires { ⌜ Covers count (now keys) code among ⌝ }
     ensures { λ r. ⌜ foundOf r ≡ first count (λ i. eqb (getD (now (keys .entry)) i 0) code && readyBy (now (above .entry)) fired i) ⌝ }
 {
-    let mut i = bitset::run(fired) as usize;
+    let mut skip = bitset::join(fired, bitset::others(among));
+    let mut i = bitset::run(skip) as usize;
     while i < count {
-        if keys[i] == code && is_ready(above, fired, i) {
+        if keys[i] == code && bitset::subset(above[i], fired) {
             return Found::At(i);
         }
-        i += 1;
+        skip = bitset::insert(skip, i as u32);
+        i = bitset::run(skip) as usize;
     }
     Found::Nothing
 }
 
 // Some region has the message.
-fn is_known(keys: &[u64; MOST_REGIONS], count: usize, code: u64) -> bool
+fn is_known(keys: &[u64; MOST_REGIONS], among: u32, count: usize, code: u64) -> bool
     requires { ⌜ count ≤ mostRegions ⌝ }
+    requires { ⌜ Covers count (now keys) code among ⌝ }
     ensures { λ r. ⌜ r ≡ someBelow count (λ i. eqb (getD (now (keys .entry)) i 0) code) ⌝ }
 {
-    let mut known = false;
-    let mut i: usize = 0;
+    let mut skip = bitset::others(among);
+    let mut i = bitset::run(skip) as usize;
     while i < count {
-        known = known | (keys[i] == code);
-        i += 1;
+        if keys[i] == code {
+            return true;
+        }
+        skip = bitset::insert(skip, i as u32);
+        i = bitset::run(skip) as usize;
     }
-    known
+    false
 }
 
 // What the regions have for the message.
 fn seek(
     keys: &[u64; MOST_REGIONS],
     above: &[u32; MOST_REGIONS],
+    among: u32,
     count: usize,
     fired: u32,
     code: u64,
 ) -> Sought
     requires { ⌜ count ≤ mostRegions ⌝ }
+    requires { ⌜ Covers count (now keys) code among ⌝ }
     ensures { λ r. ⌜ r ≡ soughtBy (now (keys .entry)) (now (above .entry)) count fired code ⌝ }
 {
-    let f = ready_for(keys, above, count, fired, code);
+    let f = ready_for(keys, above, among, count, fired, code);
     let Found::At(i) = f else {
-        if is_known(keys, count, code) {
+        if is_known(keys, among, count, code) {
             return Sought::Unready;
         }
         return Sought::Foreign;
@@ -216,19 +218,24 @@ fn ticks(x: Length) -> u64
     x.0 as u64
 }
 
-// The word's term holds, given the values of its clocks.
+// The word's term holds, given the values of its clocks: the side that the sums fall on is not one that it bounds.
 fn word_holds(word: u64, first: Length, second: Length) -> bool
     ensures { λ r. ⌜ r ≡ bounded word (bias + first .0) (boundOf word + second .0) ⌝ }
 {
     let x = BIAS + ticks(first);
     let y = word / BOUND_PLACE + ticks(second);
-    let upper = word / UPPER_PLACE % 2 == 1;
-    let lower = word / LOWER_PLACE % 2 == 1;
-    !(upper & (y < x)) & !(lower & (x < y))
+    if x < y {
+        return word / LOWER_PLACE % 2 != 1;
+    }
+    if y < x {
+        return word / UPPER_PLACE % 2 != 1;
+    }
+    true
 }
 
 // The value at moment t of a term's second clock, reset at m; a term of one clock has none, and 0 for it.
 fn second_value(b: usize, m: Moment, t: Moment) -> Length
+    requires { ⌜ m .0 ≤ t .0 ⌝ }
     ensures { λ r. ⌜ r .0 ≡ cond (ltb b mostClocks) (t .0 - m .0) 0 ⌝ }
 {
     if b < CLOCK_PLACES {
@@ -241,6 +248,7 @@ fn second_value(b: usize, m: Moment, t: Moment) -> Length
 // would copy it for each clock.
 fn holds(terms: &[u64; TERM_PLACES], resets: [Moment; CLOCK_PLACES], i: usize, t: Moment) -> bool
     requires { ⌜ i < mostRegions ⌝ }
+    requires { ⌜ ((c : ℕ) → momentsOf resets c ≤ t .0) ⌝ }
     ensures { λ r. ⌜ ((clocks : ℕ) → Testable clocks (now (terms .entry)) → r ≡ conditionBy (now (terms .entry)) i (valueAt clocks (t .0) resets)) ⌝ }
 {
     let mut j: usize = 0;
@@ -319,13 +327,13 @@ fn take_region<'a>(
 ) -> Settled
     requires { ⌜ Compiled h (now keys) (now above) (now resets) (now terms) ⌝ }
     requires { ⌜ Ready (planChart h (now keys) (now above) (now resets) (now terms)) (contains (p .fired)) i ⌝ }
+    requires { ⌜ ((c : ℕ) → momentsOf (p .resets) c ≤ t .0) ⌝ }
     ensures place { λ r. ⌜ moveOf r ≡ takenAt (planChart h (now (keys .entry)) (now (above .entry)) (now (resets .entry)) (now (terms .entry))) (t .0) (placeAt p) i ⌝ }
     ensures region { λ r. ⌜ ((j : ℕ) → r .rest ≡ FailsAt j → j < mostRegions) ⌝ }
 {
     let mut q = p;
     let mut k = i;
     loop {
-        let next = fire(resets, q, k, t);
         let clocks = q.resets;
         if !holds(terms, clocks, k, t) {
             return Settled {
@@ -333,7 +341,7 @@ fn take_region<'a>(
                 place: q,
             };
         }
-        q = next;
+        q = fire(resets, q, k, t);
         let f = ready_plain(h.plain, above, h.count, q.fired);
         let Found::At(j) = f else {
             return Settled {
@@ -504,11 +512,12 @@ fn conclude(h: Head, m: Monitor, t: Moment, s: Settled) -> Step
     }
 }
 
-// A record that is neither refused nor behind a break.
-fn accept<'a>(
+// A record that is neither refused nor behind a break; code 0 is a record of time. Every region that has its message is in `among`.
+pub fn accept<'a>(
     h: Head,
     keys: &'a [u64; MOST_REGIONS],
     above: &'a [u32; MOST_REGIONS],
+    among: u32,
     resets: &'a [u32; MOST_REGIONS],
     terms: &'a [u64; TERM_PLACES],
     m: Monitor,
@@ -517,13 +526,15 @@ fn accept<'a>(
 ) -> Step
     requires { ⌜ Compiled h (now keys) (now above) (now resets) (now terms) ⌝ }
     requires { ⌜ (m .records < mostRecords) × (m .kept + m .dropped ≤ m .records) ⌝ }
+    requires { ⌜ ((c : ℕ) → momentsOf (m .at .resets) c ≤ t .0) ⌝ }
+    requires { ⌜ Covers (h .count) (now keys) code among ⌝ }
     ensures { λ r. ⌜ stepOf r ≡ accepted (planChart h (now (keys .entry)) (now (above .entry)) (now (resets .entry)) (now (terms .entry))) (monitorAt m) (recordOf code (t .0)) ⌝ }
 {
     let at = m.at;
     if code == 0 {
         return go_on(m, t, Answer::Quiet, at);
     }
-    let sought = seek(keys, above, h.count, at.fired, code);
+    let sought = seek(keys, above, among, h.count, at.fired, code);
     match sought {
         Sought::Foreign => go_on(m, t, Answer::Quiet, at),
         Sought::Unready => unplaced(h, m, t),
@@ -539,6 +550,7 @@ pub fn feed_fit<'a>(
     h: Head,
     keys: &'a [u64; MOST_REGIONS],
     above: &'a [u32; MOST_REGIONS],
+    among: u32,
     resets: &'a [u32; MOST_REGIONS],
     terms: &'a [u64; TERM_PLACES],
     m: Monitor,
@@ -547,6 +559,7 @@ pub fn feed_fit<'a>(
 ) -> Step
     requires { ⌜ Compiled h (now keys) (now above) (now resets) (now terms) ⌝ }
     requires { ⌜ Fit (planChart h (now keys) (now above) (now resets) (now terms)) (monitorAt m) ⌝ }
+    requires { ⌜ Covers (h .count) (now keys) code among ⌝ }
     ensures step { λ r. ⌜ stepOf r ≡ fed (planChart h (now (keys .entry)) (now (above .entry)) (now (resets .entry)) (now (terms .entry))) (monitorAt m) (recordOf code (t .0)) ⌝ }
     ensures back { λ r. ⌜ HandsBack m r ⌝ }
 {
@@ -569,5 +582,5 @@ pub fn feed_fit<'a>(
             next: m,
         };
     }
-    accept(h, keys, above, resets, terms, m, code, t)
+    accept(h, keys, above, among, resets, terms, m, code, t)
 }

@@ -1,6 +1,6 @@
 // Numbers in a slice of bytes, most significant byte first. A byte past the end reads as 0.
 ghost use mathlib.Core.Path.{_≡_};
-ghost use Prim.Native.Nat.{_<_};
+ghost use Prim.Native.Nat.{_<_, _+_, _%_};
 ghost use lib.ListN.{getD};
 ghost use Rattle.wire.specs.Bytes.{word16, word32};
 
@@ -40,6 +40,7 @@ pub fn word16_at(s: &[u8], i: usize) -> u16
 pub fn word32_at(s: &[u8], i: usize) -> u32
     ensures value { λ r. ⌜ r ≡ word32 (now (s .entry)) i ⌝ }
     ensures unchanged { λ r. ⌜ now (s .exit) ≡ now (s .entry) ⌝ }
+    ensures low { λ r. ⌜ r % 65536 ≡ word16 (now (s .entry)) (i + 2) ⌝ }
 {
     if i < s.len() {
         let high = wide32(word16_at(s, i));

@@ -1,8 +1,9 @@
 -- `judge::judge` meets its contract: the tests in their order, then the verdict. Assumes nothing.
-use mathlib.Core.Path.{refl, sym, _∙_}
+use mathlib.Core.Path.{refl, sym, ap, _∙_}
 use borrow.Author.Tests.{not-true, not-false}
 use Rattle.judge.proofs.Judging.{half-fits, judged-no-chart, judged-refused, judged-fine}
 use borrow.Author.Needs.{needs}
+use Rattle.judge.specs.Parts.{isFine}
 use Rattle.judge.proofs.judge.Statement.{statement}
 use Rattle.judge.proofs.judge.Tie as tie
 
@@ -28,7 +29,10 @@ enum-told : tie.Need-enum-told
 enum-told c = search needs
 
 feed-log-requires : tie.Need-feed-log-requires
-feed-log-requires c κs = sym (c .before .before .before .before .well-formed .ensures .0) ∙ not-false _ (c .before .before .before .if1 .left)
+feed-log-requires c κs = (
+  sym (c .before .before .before .before .well-formed .ensures .0) ∙ not-false _ (c .before .before .before .if1 .left),
+  ap isFine (sym (c .before .before .check-log .ensures .0) ∙ c .enum-told .given .1),
+)
 
 cast-verdict-of : tie.Need-cast-verdict-of
 cast-verdict-of c = search needs

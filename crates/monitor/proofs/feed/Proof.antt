@@ -1,7 +1,7 @@
 -- `monitor::feed` meets its contract: the tests in their order, then the step of the compiled chart. Assumes nothing.
 use mathlib.Core.Path.{sym, _∙_}
 use borrow.Author.Tests.{not-true, not-false}
-use Rattle.monitor.proofs.Feeding.{fed-no-chart, fed-unfit, fed-on}
+use Rattle.monitor.proofs.Feeding.{all-covered, fed-no-chart, fed-unfit, fed-on}
 use borrow.Author.Needs.{needs}
 use Rattle.monitor.proofs.feed.Statement.{statement}
 use Rattle.monitor.proofs.feed.Tie as tie
@@ -40,13 +40,18 @@ record-code-requires c κs = search needs
 time-of-requires : tie.Need-time-of-requires
 time-of-requires c κs = search needs
 
+others-requires : tie.Need-others-requires
+others-requires c κs = search needs
+
 feed-fit-requires : tie.Need-feed-fit-requires
-feed-fit-requires c κs = (c .before .before .before .before .before .before .before .before .before .before .before .before .before .before .before .compile .ensures .compiled, c .before .before .before .before .before .before .before .before .is-fit .ensures .1 .0 (not-false _ (c .before .before .before .before .before .before .before .if2 .left)))
+feed-fit-requires c κs =
+    let K = c .before .before .before .before .before .before .before .before .before .before .before .before .before .before .before .before .compile .ensures .compiled in
+    (K, (c .before .before .before .before .before .before .before .before .before .is-fit .ensures .1 .0 (not-false _ (c .before .before .before .before .before .before .before .before .if2 .left)), all-covered _ _ (K .regions) (c .before .before .others .ensures)))
 
 returns-3 : tie.Need-returns-3
 returns-3 c = (
-  fed-on _ _ _ _ (sym (c .before .before .before .before .before .before .before .before .before .before .before .before .before .before .before .before .before .before .well-formed .ensures .0) ∙ not-false _ (c .before .before .before .before .before .before .before .before .before .before .before .before .before .before .before .before .before .if1 .left)) _ (c .before .before .before .before .before .before .before .before .before .before .before .before .before .before .before .before .compile .ensures .shows)
-      (sym (c .before .before .before .before .before .before .before .before .before .is-fit .ensures .0) ∙ not-false _ (c .before .before .before .before .before .before .before .before .if2 .left)) _ _ (c .before .before .before .before .before .before .before .record-code .ensures) (c .before .before .before .before .before .before .time-of .ensures) (c .feed-fit .ensures .0),
+  fed-on _ _ _ _ (sym (c .before .before .before .before .before .before .before .before .before .before .before .before .before .before .before .before .before .before .before .well-formed .ensures .0) ∙ not-false _ (c .before .before .before .before .before .before .before .before .before .before .before .before .before .before .before .before .before .before .if1 .left)) _ (c .before .before .before .before .before .before .before .before .before .before .before .before .before .before .before .before .before .compile .ensures .shows)
+      (sym (c .before .before .before .before .before .before .before .before .before .before .is-fit .ensures .0) ∙ not-false _ (c .before .before .before .before .before .before .before .before .before .if2 .left)) _ _ (c .before .before .before .before .before .before .before .before .record-code .ensures) (c .before .before .before .before .before .before .before .time-of .ensures) (c .feed-fit .ensures .0),
   c .feed-fit .ensures .1,
 )
 
@@ -63,5 +68,6 @@ feed-spec =
     returns-2
     record-code-requires
     time-of-requires
+    others-requires
     feed-fit-requires
     returns-3)

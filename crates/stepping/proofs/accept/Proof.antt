@@ -16,7 +16,7 @@ unfolding accept chartMessage
 returns c = rw (eq-eqb _ _ (c .before .if1 .taken)) (c .go-on .ensures _ (c .before .before .before .args .code))
 
 seek-requires : tie.Need-seek-requires
-seek-requires c κs = search needs
+seek-requires c κs = let S = c .before .before in (S .pre .0 .regions, S .pre .1 .1 .1)
 
 enum-told : tie.Need-enum-told
 enum-told c = search needs
@@ -37,13 +37,13 @@ take-region-requires : tie.Need-take-region-requires
 take-region-requires c κs =
     let F = c .before .before .before in
     let S = F .before .before .before in
-    (S .pre .0, sought-ready (S .pre .0) (S .args .m) (S .args .code) (S .args .t .0) (F .seek .ensures) (c .before .sought .given .1))
+    (S .pre .0, (sought-ready (S .pre .0) (S .args .m) (S .args .code) (S .args .t .0) (F .seek .ensures) (c .before .sought .given .1), S .pre .1 .1 .0))
 
 conclude-requires : tie.Need-conclude-requires
 conclude-requires c κs =
     let S = c .before .before .before .before .before .before .before in
     let K = S .pre .0 in
-    ((K .regions, omega (arith, K .regions, K .accepted .has-main), K .clocks), (S .pre .1, c .take-region .ensures .1))
+    ((K .regions, omega (arith, K .regions, K .accepted .has-main), K .clocks), (S .pre .1 .0, c .take-region .ensures .1))
 
 returns-2 : tie.Need-returns-2
 unfolding afterScan

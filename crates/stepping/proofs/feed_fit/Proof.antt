@@ -1,4 +1,5 @@
 -- By the tests in their order. Assumes nothing.
+use native.Mathlib.Omega.{arith}
 use borrow.Author.Needs.{needs}
 use borrow.Author.Tests.{eq-eqb, ne-eqb, lt-ltb, le-ltb, le-leb, lt-leb}
 use mathlib.Core.Path.{refl, ap}
@@ -23,7 +24,10 @@ returns-3 c = (
 )
 
 accept-requires : tie.Need-accept-requires
-accept-requires c κs = search needs
+accept-requires c κs =
+    let P = c .before .before .before .before .before .before .before .before .pre in
+    let F = P .1 .0 in
+    (P .0, ((omega (arith, c .if3 .left), F .counts), ((λ x. omega (arith, F .moments x, c .before .before .if2 .left)), P .1 .1)))
 
 returns-4 : tie.Need-returns-4
 unfolding feed

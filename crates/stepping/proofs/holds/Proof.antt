@@ -46,7 +46,7 @@ array-copy-out-since : tie.Need-array-copy-out-since Inv-loop μ-loop
 array-copy-out-since c = search needs
 
 since-requires : tie.Need-since-requires Inv-loop μ-loop
-since-requires c κs = search needs
+since-requires c κs = c .before .before .before .before .before .pre .1 _
 
 mul-second-value : tie.Need-mul-second-value Inv-loop μ-loop
 mul-second-value c = search needs
@@ -55,7 +55,7 @@ array-copy-out-second-value : tie.Need-array-copy-out-second-value Inv-loop μ-l
 array-copy-out-second-value c = search needs
 
 second-value-requires : tie.Need-second-value-requires Inv-loop μ-loop
-second-value-requires c κs = search needs
+second-value-requires c κs = c .before .before .before .before .before .before .before .pre .1 _
 
 word-holds-requires : tie.Need-word-holds-requires Inv-loop μ-loop
 word-holds-requires c κs = search needs

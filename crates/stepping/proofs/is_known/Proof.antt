@@ -1,40 +1,69 @@
-use borrow.Author.Needs.{needs}
--- The loop's invariant: `known` says whether a region so far has the message. Assumes nothing.
+-- The loop's invariant: what is skipped has another message, and the place is the first that is not skipped. Assumes nothing.
 use mathlib.Core.Path.{sym}
-use Prim.Native.Nat.{_≤_, _-_}
+use Prim.Native.Nat.{_-_}
 use native.Mathlib.Omega.{arith}
 use lib.Dec.{eqb}
 use lib.ListN.{getD}
-use Rattle.stepping.proofs.Loops.{SomeSoFar, some-start, some-more, some-passes}
+use borrow.Author.Needs.{needs}
+use borrow.Author.Tests.{eq-eqb, ne-eqb}
+use Rattle.stepping.proofs.Loops.{one-passes, none-some}
+use Rattle.stepping.proofs.Skips.{run-of, Skips, skips-start, skips-more, skips-grow, all-skipped, known-start}
 use Rattle.stepping.proofs.is_known.Statement.{statement}
 use Rattle.stepping.proofs.is_known.Tie as tie
 
 abbrev Inv-loop : tie.InvT-loop
-Inv-loop keys count code known₀ i₀ known i = (i ≤ count) × SomeSoFar (λ k. eqb (getD keys k 0) code) i known
+Inv-loop keys among count code skip₀ i₀ skip i = Skips count (λ k. eqb (getD keys k 0) code) skip₀ skip i
 
 abbrev μ-loop : tie.MeasureT-loop
-μ-loop keys count code known₀ i₀ known i = count - i
+μ-loop keys among count code skip₀ i₀ skip i = count - i
+
+others-requires : tie.Need-others-requires Inv-loop μ-loop
+others-requires c κs = search needs
+
+run-requires : tie.Need-run-requires Inv-loop μ-loop
+run-requires c κs = search needs
+
+cast-i : tie.Need-cast-i Inv-loop μ-loop
+cast-i c = search needs
 
 loop-holds : tie.Need-loop-holds Inv-loop μ-loop
-loop-holds c = (omega arith, some-start)
+loop-holds c =
+    let a = c .before .before in
+    skips-start (known-start (a .pre .1) _ (a .pre .0) (c .before .others .ensures)) (run-of (c .run .ensures))
 
-mul-known : tie.Need-mul-known Inv-loop μ-loop
-mul-known c = search needs
+mul-if1 : tie.Need-mul-if1 Inv-loop μ-loop
+mul-if1 c = search needs
 
-element-copy-out-known : tie.Need-element-copy-out-known Inv-loop μ-loop
-element-copy-out-known c = search needs
-
-add-i : tie.Need-add-i Inv-loop μ-loop
-add-i c = search needs
-
-loop-less : tie.Need-loop-less Inv-loop μ-loop
-loop-less c = search needs
-
-loop-again : tie.Need-loop-again Inv-loop μ-loop
-loop-again c = (omega arith, some-more (c .before .before .loop .inv .1))
+element-copy-out-if1 : tie.Need-element-copy-out-if1 Inv-loop μ-loop
+element-copy-out-if1 c = search needs
 
 returns : tie.Need-returns Inv-loop μ-loop
-returns c = sym (some-passes (c .before .before .args .count) (c .before .loop .inv .1) (omega arith))
+returns c =
+    let a = c .before .before .before .before .before .before .args in
+    sym (one-passes (λ k. eqb (getD (a .keys .now) k 0) (a .code)) (c .before .before .before .loop .i) (a .count) (c .before .before .loop-test .taken) (eq-eqb _ _ (c .if1 .taken)))
+
+cast-insert : tie.Need-cast-insert Inv-loop μ-loop
+cast-insert c = search needs
+
+insert-requires : tie.Need-insert-requires Inv-loop μ-loop
+insert-requires c κs = search needs
+
+run-requires-2 : tie.Need-run-requires-2 Inv-loop μ-loop
+run-requires-2 c κs = search needs
+
+cast-i-2 : tie.Need-cast-i-2 Inv-loop μ-loop
+cast-i-2 c = search needs
+
+loop-less : tie.Need-loop-less Inv-loop μ-loop
+loop-less c =
+    let g = skips-grow (c .before .before .before .before .before .loop .inv) (c .before .insert .ensures) (run-of (c .run2 .ensures)) in
+    omega (arith, g, c .before .before .before .before .loop-test .taken)
+
+loop-again : tie.Need-loop-again Inv-loop μ-loop
+loop-again c = skips-more (c .before .before .before .before .before .loop .inv) (c .before .insert .ensures) (ne-eqb _ _ (c .before .before .if1 .left)) (run-of (c .run2 .ensures))
+
+returns-2 : tie.Need-returns-2 Inv-loop μ-loop
+returns-2 c = sym (none-some (c .before .before .before .before .args .count) (all-skipped (c .before .loop .inv) (omega arith)))
 
 pub is-known-spec : {M : Type 1} → statement M
 is-known-spec =
@@ -42,10 +71,17 @@ is-known-spec =
     (tie.spec
     Inv-loop
     μ-loop
+    others-requires
+    run-requires
+    cast-i
     loop-holds
-    mul-known
-    element-copy-out-known
-    add-i
+    mul-if1
+    element-copy-out-if1
+    returns
+    cast-insert
+    insert-requires
+    run-requires-2
+    cast-i-2
     loop-less
     loop-again
-    returns)
+    returns-2)

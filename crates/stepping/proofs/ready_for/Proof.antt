@@ -1,28 +1,31 @@
--- The loop's invariant: no region so far is ready and has the message; at its start because they are fired. Assumes nothing.
-use mathlib.Core.Path.{_≡_, sym, _∙_}
-use mathlib.Core.Bool.{Bool, false, not, So, _&&_, and-false}
+-- The loop's invariant: what is skipped is not ready or has another message, and the place is the first that is not skipped. Assumes nothing.
+use mathlib.Core.Path.{sym, _∙_}
+use mathlib.Core.Bool.{_&&_}
 use mathlib.Core.Logic.{⊎-elim}
-use Prim.Native.Nat.{_-_}
+use Prim.Native.Nat.{_-_, _<_}
 use native.Mathlib.Omega.{arith}
 use lib.Dec.{eqb}
 use lib.ListN.{getD}
 use borrow.Author.Needs.{needs}
 use borrow.Author.Tests.{eq-eqb, ne-eqb}
-use Rattle.bitset.specs.Set.{isSubset}
 use Rattle.rounds.proofs.Facts.{and-of}
 use Rattle.stepping.specs.Parts.{readyBy}
-use Rattle.stepping.proofs.Loops.{SoFar, one-more, none-passes, first-passes}
+use Rattle.stepping.proofs.Loops.{none-passes, first-passes}
+use Rattle.stepping.proofs.Skips.{run-of, Skips, skips-start, not-first, skips-more, skips-grow, skipped, all-skipped, apart, ready-is, unready, message-start}
 use Rattle.stepping.proofs.ready_for.Statement.{statement}
 use Rattle.stepping.proofs.ready_for.Tie as tie
 
-fired-not : (a b : Bool) {f : Bool} → So f → (a && (not f && b)) ≡ false
-fired-not a b h = rw h (and-false a)
-
 abbrev Inv-loop : tie.InvT-loop
-Inv-loop keys above count fired code i₀ i = SoFar (λ k. eqb (getD keys k 0) code && readyBy above fired k) false i
+Inv-loop keys above among count fired code skip₀ i₀ skip i = Skips count (λ k. eqb (getD keys k 0) code && readyBy above fired k) skip₀ skip i
 
 abbrev μ-loop : tie.MeasureT-loop
-μ-loop keys above count fired code i₀ i = count - i
+μ-loop keys above among count fired code skip₀ i₀ skip i = count - i
+
+others-requires : tie.Need-others-requires Inv-loop μ-loop
+others-requires c κs = search needs
+
+join-requires : tie.Need-join-requires Inv-loop μ-loop
+join-requires c κs = search needs
 
 run-requires : tie.Need-run-requires Inv-loop μ-loop
 run-requires c κs = search needs
@@ -32,8 +35,8 @@ cast-i c = search needs
 
 loop-holds : tie.Need-loop-holds Inv-loop μ-loop
 loop-holds c =
-    let a = c .before .args in
-    record { is = λ j l. fired-not (eqb (getD (a .keys .now) j 0) (a .code)) (isSubset (getD (a .above .now) j 0) (a .fired)) (c .run .ensures .0 j l) }
+    let a = c .before .before .before in
+    skips-start (message-start (a .pre .1) (a .args .above .now) (a .pre .0) (apart _ _ _ _ (c .before .before .others .ensures) (c .before .join .ensures))) (run-of (c .run .ensures))
 
 mul-if1 : tie.Need-mul-if1 Inv-loop μ-loop
 mul-if1 c = search needs
@@ -41,27 +44,51 @@ mul-if1 c = search needs
 element-copy-out-if1 : tie.Need-element-copy-out-if1 Inv-loop μ-loop
 element-copy-out-if1 c = search needs
 
-is-ready-requires : tie.Need-is-ready-requires Inv-loop μ-loop
-is-ready-requires c κs = search needs
+mul-subset : tie.Need-mul-subset Inv-loop μ-loop
+mul-subset c = search needs
+
+element-copy-out-subset : tie.Need-element-copy-out-subset Inv-loop μ-loop
+element-copy-out-subset c = search needs
+
+subset-requires : tie.Need-subset-requires Inv-loop μ-loop
+subset-requires c κs = search needs
 
 returns : tie.Need-returns Inv-loop μ-loop
 returns c =
-    let e = and-of (eq-eqb _ _ (c .before .before .if1 .taken)) (sym (c .before .is-ready .ensures) ∙ c .if2 .taken) in
-    sym (first-passes (c .before .before .before .before .before .before .before .args .count) (c .before .before .before .before .before .loop .inv) e (c .before .before .before .before .loop-test .taken))
+    let a = c .before .before .before .before .before .before .before .before .before .before .args in
+    let L = c .before .before .before .before .before .before .loop in
+    let l = c .before .before .before .before .before .loop-test .taken in
+    let n = apart _ _ _ _ (c .before .before .before .before .before .before .before .before .before .others .ensures) (c .before .before .before .before .before .before .before .before .join .ensures) .outside (L .i) (omega (arith, c .before .before .before .before .before .before .before .before .before .before .pre .0)) (not-first (L .inv)) in
+    let e = and-of (eq-eqb _ _ (c .before .before .before .if1 .taken)) (ready-is (a .above .now) (a .fired) (L .i) (n .0) ∙ sym (c .before .subset .ensures) ∙ c .if2 .taken) in
+    sym (first-passes (a .count) (skipped (L .inv) (omega arith)) e l)
 
-add-i : tie.Need-add-i Inv-loop μ-loop
-add-i c = search needs
+cast-insert : tie.Need-cast-insert Inv-loop μ-loop
+cast-insert c = search needs
+
+insert-requires : tie.Need-insert-requires Inv-loop μ-loop
+insert-requires c κs = search needs
+
+run-requires-2 : tie.Need-run-requires-2 Inv-loop μ-loop
+run-requires-2 c κs = search needs
+
+cast-i-2 : tie.Need-cast-i-2 Inv-loop μ-loop
+cast-i-2 c = search needs
 
 loop-less : tie.Need-loop-less Inv-loop μ-loop
-loop-less c = search needs
+loop-less c =
+    let g = skips-grow (c .before .before .before .before .before .loop .inv) (c .before .insert .ensures) (run-of (c .run2 .ensures)) in
+    omega (arith, g, c .before .before .before .before .loop-test .taken)
 
 loop-again : tie.Need-loop-again Inv-loop μ-loop
 loop-again c =
-    one-more (c .before .before .before .loop .inv)
-    (⊎-elim (λ w. rw (eq-eqb _ _ (w .0 .taken)) (sym (w .1 .ensures) ∙ w .2 .left)) (λ w. rw (ne-eqb _ _ (w .left))) (c .if1 .came))
+    let a = c .before .before .before .before .before .before .before .before .before .args in
+    let L = c .before .before .before .before .before .loop in
+    skips-more (L .inv) (c .before .insert .ensures)
+    (⊎-elim (λ w. rw (eq-eqb _ _ (w .0 .taken)) (unready (a .above .now) (a .fired) (L .i) (sym (w .2 .ensures) ∙ w .3 .left))) (λ w. rw (ne-eqb _ _ (w .left))) (c .before .before .if1 .came))
+    (run-of (c .run2 .ensures))
 
 returns-2 : tie.Need-returns-2 Inv-loop μ-loop
-returns-2 c = sym (none-passes (c .before .before .before .args .count) (c .before .loop .inv) (omega arith))
+returns-2 c = sym (none-passes (c .before .before .before .before .before .args .count) (all-skipped (c .before .loop .inv) (omega arith)) (omega arith))
 
 pub ready-for-spec : {M : Type 1} → statement M
 ready-for-spec =
@@ -69,14 +96,21 @@ ready-for-spec =
     (tie.spec
     Inv-loop
     μ-loop
+    others-requires
+    join-requires
     run-requires
     cast-i
     loop-holds
     mul-if1
     element-copy-out-if1
-    is-ready-requires
+    mul-subset
+    element-copy-out-subset
+    subset-requires
     returns
-    add-i
+    cast-insert
+    insert-requires
+    run-requires-2
+    cast-i-2
     loop-less
     loop-again
     returns-2)

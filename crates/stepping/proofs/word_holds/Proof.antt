@@ -1,5 +1,8 @@
--- The two sums, by what the calls give. Assumes nothing.
+-- By the side that the sums fall on. Assumes nothing.
+use native.Mathlib.Omega.{arith}
 use borrow.Author.Needs.{needs}
+use borrow.Author.Tests.{lt-ltb, le-ltb}
+use Rattle.stepping.proofs.Terms.{below-bound, above-bound, at-bound}
 use Rattle.stepping.proofs.word_holds.Statement.{statement}
 use Rattle.stepping.proofs.word_holds.Tie as tie
 
@@ -16,7 +19,15 @@ add-y : tie.Need-add-y
 add-y c = search needs
 
 returns : tie.Need-returns
-returns c = rw (c .ticks2 .ensures .0, c .before .ticks .ensures .0)
+returns c = below-bound (c .before .before .before .args .word) _ _ (rw (c .before .ticks2 .ensures .0, c .before .before .ticks .ensures .0) at (c .if1 .taken))
+
+returns-2 : tie.Need-returns-2
+returns-2 c = above-bound (c .before .before .before .before .args .word) _ _ (rw (c .before .before .ticks2 .ensures .0, c .before .before .before .ticks .ensures .0) at (c .if2 .taken))
+
+returns-3 : tie.Need-returns-3
+returns-3 c = at-bound (c .before .before .before .before .args .word) _ _
+    (rw (c .before .before .ticks2 .ensures .0, c .before .before .before .ticks .ensures .0) at (c .before .if1 .left))
+    (rw (c .before .before .ticks2 .ensures .0, c .before .before .before .ticks .ensures .0) at (c .if2 .left))
 
 pub word-holds-spec : {M : Type 1} → statement M
-word-holds-spec = tie.close (tie.spec ticks-requires add-x ticks-requires-2 add-y returns)
+word-holds-spec = tie.close (tie.spec ticks-requires add-x ticks-requires-2 add-y returns returns-2 returns-3)

@@ -1,5 +1,6 @@
 use mathlib.Core.Path.{refl, sym}
-use Rattle.wire.proofs.Past.{past32}
+use Rattle.wire.proofs.Past.{past16, past32}
+use native.Mathlib.Omega.{arith}
 use borrow.Author.Needs.{needs}
 use Rattle.wire.proofs.word32_at.Statement.{statement}
 use Rattle.wire.proofs.word32_at.Tie as tie
@@ -29,7 +30,9 @@ returns : tie.Need-returns
 returns c = search needs
 
 returns-2 : tie.Need-returns-2
-returns-2 c = (sym (past32 (c .before .before .args .s .now) _ (c .if1 .left)), refl)
+returns-2 c =
+    let s = c .before .before .args .s .now in
+    (sym (past32 s _ (c .if1 .left)), (refl, sym (past16 s _ (omega (arith, c .if1 .left)))))
 
 pub word32-at-spec : {M : Type 1} → statement M
 word32-at-spec =

@@ -1,0 +1,144 @@
+-- The records of a log that was checked are taken as they are fed: none is refused, and the check goes on as the monitor does. Assumes nothing.
+use mathlib.Core.Path.{_≡_, refl, sym, ap, subst, _∙_}
+use mathlib.Core.Bool.{Bool, true, false, cond, not, So, _&&_}
+use mathlib.Core.List.{List}
+use Prim.Native.Nat.{ℕ, suc, _+_, _-_, _≤_, _<_}
+use native.Mathlib.Decide.{ℕ-discrete}
+use native.Mathlib.Omega.{arith}
+use lib.Dec.{leb, ltb}
+use lib.ListN.{length, getD}
+use borrow.Author.Tests.{eq-eqb, ltb-false, leb-false}
+use Rattle.bitset.specs.Set.{contains}
+use Rattle.model.specs.declared.Moment.{Moment}
+use Rattle.model.specs.declared.Monitor.{Monitor}
+use Rattle.model.specs.declared.Record.{Record}
+use Rattle.model.specs.Monitor.{zeroMonitor}
+use Rattle.rounds.specs.Chart.{Chart as Abstract}
+use Rattle.rounds.specs.Rows.{LogRecord, chartMessage}
+use Rattle.rounds.specs.Feeds.{mostRecords, noReadyRegion, conditionFails, entered, moved, quiet}
+use Rattle.rounds.specs.Machine.{Monitor as AbstractMonitor, Step as AbstractStep, Move, stuck, fails, rests, place, full, prechartDone, goOn, keepRound, dropRound, breakRound, conclude, accept, feed, after}
+use Rattle.rounds.proofs.Facts.{clash}
+use Rattle.log_reader.specs.declared.Next.the-variants.{End, Taken}
+use Rattle.log_reader.specs.Record.{nextAt}
+use Rattle.log_reader.specs.Records.{recordsIn}
+use Rattle.log_reader.proofs.Places.{at-end, taken-past}
+use Rattle.stepping.specs.declared.Step.{Step}
+use Rattle.stepping.specs.View.{monitorAt, stepOf, recordOf}
+use Rattle.stepping.specs.Parts.{Covers}
+use Rattle.plan.specs.Plan.{recordCode}
+use Rattle.plan.specs.Slots.{slotOf, Slotted}
+use Rattle.monitor.specs.Runs.{logged}
+use Rattle.judge.specs.declared.LogRefusal.the-variants.{TimeFalls, TooManyRecords}
+use Rattle.judge.specs.declared.Checked.the-variants.{Refused}
+use Rattle.judge.specs.declared.CheckStep.the-variants.{Over}
+use Rattle.judge.specs.Check.{checkLog, stepAt, stepBy, takeRecord, timeOf}
+use Rattle.judge.specs.Parts.{isFine}
+use Rattle.judge.proofs.Laws.{Left, left-first, left-step, left-going}
+use Rattle.judge.proofs.Fed.{SoFar, at-start, fed-one, fed-none, fed-end}
+
+-- every region that has a message is in its code's slot
+pub slot-covers : {count : ℕ} {keys slots : List ℕ} → Slotted count keys slots → (code : ℕ) → Covers count keys code (getD slots (slotOf code) 0)
+slot-covers {slots = slots} S code = record { has = λ i l e. subst (λ (k : ℕ). So (contains (getD slots (slotOf k) 0) i)) e (S .has i l) }
+
+-- a record that the check lets pass
+record Passed (s : List ℕ) (last : Moment) (n : ℕ) (e : Record) (place : ℕ) : Type 0 where
+  later : ltb (timeOf e .0) (last .0) ≡ false
+  few : leb mostRecords n ≡ false
+  rest : Left s place (timeOf e) (n + 1)
+
+passed : (s : List ℕ) (at : ℕ) (last : Moment) (n : ℕ) → Left s at last n → So (isFine (checkLog s)) → (e : Record) (place : ℕ) → nextAt s at ≡ Taken e place
+    → Passed s last n e place
+unfolding stepAt
+passed s at last n l f e place q = by (ltb (timeOf e .0) (last .0)) (leb mostRecords n) refl refl
+  where
+    step : stepAt s at last n ≡ takeRecord (timeOf e) place at last n
+    step = ap (stepBy at last n) q
+
+    by : (a b : Bool) → ltb (timeOf e .0) (last .0) ≡ a → leb mostRecords n ≡ b → Passed s last n e place
+    by true b x y = clash f (sym (ap isFine (left-step s at last n l (Over (Refused TimeFalls at)) (step ∙ rw x))))
+    by false true x y = clash f (sym (ap isFine (left-step s at last n l (Over (Refused TooManyRecords at)) (step ∙ rw (x, y)))))
+    by false false x y = record { later = x; few = y; rest = left-going s at last n l place (timeOf e) (n + 1) (step ∙ rw (x, y)) }
+
+module _ (C : Abstract) (m : AbstractMonitor) (e : LogRecord) where
+  -- the record is counted, and now is its time
+  record Counted (x : AbstractStep) : Type 0 where
+    now : x .next .now ≡ e .time
+    records : x .next .records ≡ suc (m .records)
+
+  either-counted : (b : Bool) (x y : AbstractStep) → Counted x → Counted y → Counted (cond b x y)
+  either-counted true x y p q = p
+  either-counted false x y p q = q
+
+  conclude-counted : (v : Move) → Counted (conclude C m e v)
+  unfolding conclude goOn keepRound dropRound breakRound
+  conclude-counted stuck = either-counted (prechartDone C (m .at .fired)) (breakRound C m e noReadyRegion (m .at)) (dropRound C m e) (record { now = refl; records = refl }) (record { now = refl; records = refl })
+  conclude-counted (fails i p) = either-counted (C .hot i) (breakRound C m e conditionFails p) (dropRound C m e) (record { now = refl; records = refl }) (record { now = refl; records = refl })
+  conclude-counted (rests p) =
+      either-counted (full C (p .fired)) (keepRound C m e) (goOn C m e (cond (not (prechartDone C (m .at .fired)) && prechartDone C (p .fired)) entered moved) p)
+      (record { now = refl; records = refl }) (record { now = refl; records = refl })
+
+  accept-counted : Counted (accept C m e)
+  unfolding accept goOn
+  accept-counted = either-counted (chartMessage C e) (conclude C m e (place C (m .at) e)) (goOn C m e quiet (m .at)) (conclude-counted (place C (m .at) e)) (record { now = refl; records = refl })
+
+  accept-fed : m .break ≡ 0 → ltb (e .time) (m .now) ≡ false → leb mostRecords (m .records) ≡ false → accept C m e ≡ feed C m e
+  unfolding feed
+  accept-fed b t n = rw (eq-eqb (m .break) 0 b, t, n)
+
+-- the records taken before a place, the check as far, and no break
+pub record Going (C : Abstract) (s : List ℕ) (m : Monitor) (at : ℕ) : Type 0 where
+  pub left : ℕ
+  pub room : length s ≤ at + left
+  pub taken : SoFar C s m at left
+  pub checked : Left s at (m .now) (m .records)
+  pub whole : m .«break_record» ≡ 0
+
+pub going-start : {C : Abstract} {s : List ℕ} (m : Monitor) → m ≡ zeroMonitor → Going C s m 0
+going-start {s = s} m e = record {
+  left = length s;
+  room = omega arith;
+  taken = at-start m e;
+  checked = subst (λ (x : Monitor). Left s 0 (x .now) (x .records)) (sym e) (left-first s);
+  whole = ap (λ (x : Monitor). x .«break_record») e;
+}
+
+module _ {C : Abstract} {s : List ℕ} {m : Monitor} {at : ℕ} (G : Going C s m at) where
+  pub some-left : at < length s → 0 < G .left
+  some-left l = omega (arith, G .room)
+
+  pub going-end : (D : Abstract) → C ≡ D → length s ≤ at → monitorAt m ≡ after D (logged (recordsIn s))
+  going-end D shows h = elim (ℕ-discrete (G .left) 0) [
+    | yes z ↦ fed-end (G .taken) D shows z
+    | no z ↦ fed-none (G .taken) D shows (omega arith) (at-end s at h)
+  ]
+
+  module _ (f : So (isFine (checkLog s))) (e : Record) (to : ℕ) (q : nextAt s at ≡ Taken e to) where
+    here : Passed s (m .now) (m .records) e to
+    here = passed s at (m .now) (m .records) (G .checked) f e to q
+
+    pub taken-later : m .now .0 ≤ timeOf e .0
+    taken-later = ltb-false _ _ (here .later)
+
+    pub taken-few : m .records < mostRecords
+    taken-few = leb-false _ _ (here .few)
+
+    module _ (r : Step) (code t : ℕ) (p : code ≡ recordCode e) (u : t ≡ timeOf e .0) (a : stepOf r ≡ accept C (monitorAt m) (recordOf code t)) where
+      pub taken-one : SoFar C s (r .next) to (G .left - 1)
+      taken-one =
+          let l : at < length s = omega (arith, taken-past s at e to q) in
+          let b = accept-fed C (monitorAt m) (recordOf code t) (G .whole) (rw u (here .later)) (here .few) in
+          fed-one (G .taken) (some-left l) e to q r code t p u (a ∙ b)
+
+      pub going-on : r .next .«break_record» ≡ 0 → Going C s (r .next) to
+      going-on z =
+          let A = accept-counted C (monitorAt m) (recordOf code t) in
+          let x : r .next .now .0 ≡ timeOf e .0 = ap (λ (w : AbstractStep). w .next .now) a ∙ A .now ∙ u in
+          let y : r .next .records ≡ m .records + 1 = ap (λ (w : AbstractStep). w .next .records) a ∙ A .records ∙ omega arith in
+          let v : r .next .now ≡ timeOf e = λ i. record { 0 = x i } in
+          record {
+            left = G .left - 1;
+            room = omega (arith, G .room, taken-past s at e to q);
+            taken = taken-one;
+            checked = subst (λ (w : Moment). Left s to w (r .next .records)) (sym v) (subst (λ (k : ℕ). Left s to (timeOf e) k) (sym y) (here .rest));
+            whole = z;
+          }
