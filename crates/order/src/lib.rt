@@ -14,9 +14,13 @@ fn is_over(lines: &[u16; MOST_REGIONS], prechart: usize, a: usize, b: usize) -> 
 {
     let x = lines[a];
     let y = lines[b];
-    let halves = (a < prechart) & (prechart <= b);
-    let half = (b < prechart) | (prechart <= a);
-    halves | ((a < b) & (half & ((x & y) != 0)))
+    if prechart <= b {
+        if a < prechart {
+            return true;
+        }
+        return (a < b) & ((x & y) != 0);
+    }
+    (a < b) & ((x & y) != 0)
 }
 
 // Region a and those above it come into the set if a is over b.
