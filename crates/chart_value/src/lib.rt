@@ -13,7 +13,8 @@ use model::Term;
 ghost use mathlib.Core.Path.{_≡_};
 ghost use mathlib.Core.Bool.{true};
 ghost use mathlib.Core.Logic.{_↔_};
-ghost use Rattle.chart_value.specs.WellFormed.{isZeroLeft, isLess, isZeroTerm, leftFits, termPlaced, termsFit, eventFits, regionFits, isZeroEvent, isZeroRegion, regionPlaced, headingFits, countsFit, wellFormed};
+ghost use Rattle.model.specs.Chart.{mostTerms, termAt};
+ghost use Rattle.chart_value.specs.WellFormed.{allBelow, isZeroLeft, isLess, isZeroTerm, leftFits, termPlaced, termsFit, eventFits, regionFits, isZeroEvent, isZeroRegion, regionPlaced, headingFits, countsFit, wellFormed};
 ghost use Rattle.chart_value.specs.Given.{Given};
 ghost use Rattle.chart_value.specs.Guards.{NeverFire};
 ghost use Rattle.chart_value.specs.View.{Shown, CodesTell};
@@ -106,6 +107,20 @@ fn region_fits(lines: u8, clocks: u8, main: bool, opening: bool, before: u16, g:
     event & (terms & (resets & (!bare & (!g.hot | (main & (g.term_count != 0))))))
 }
 
+// No place has a term.
+fn terms_zero(g: Region) -> bool
+    ensures { λ r. ⌜ r ≡ allBelow mostTerms (λ j. isZeroTerm (termAt g j)) ⌝ }
+{
+    let mut ok = true;
+    let mut j: usize = 0;
+    while j < MOST_TERMS {
+        let t = g.terms[j];
+        ok = ok & is_zero_term(t);
+        j += 1;
+    }
+    ok
+}
+
 fn is_zero_event(e: Event) -> bool
     ensures { λ r. ⌜ r ≡ isZeroEvent e ⌝ }
 {
@@ -120,7 +135,7 @@ fn is_zero_region(g: Region) -> bool
 {
     let e = g.event;
     let event = is_zero_event(e);
-    let terms = terms_fit(0, g);
+    let terms = terms_zero(g);
     event & ((g.term_count == 0) & (!g.hot & ((g.resets == 0) & terms)))
 }
 
