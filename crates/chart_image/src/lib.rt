@@ -5,12 +5,10 @@ use model::Left;
 use model::MOST_REGIONS;
 use model::Message;
 use model::Region;
-use model::Relation;
 use model::Term;
 ghost use mathlib.Core.Path.{_≡_};
 ghost use Prim.Native.Nat.{_+_, _≤_};
 ghost use Rattle.model.specs.Chart.{mostRegions};
-ghost use Rattle.chart_step.specs.Reading.{relationOf};
 ghost use Rattle.chart_image.specs.ChartImage.{chartSize, leftOf, termIn, termFits, eventIn, regionIn, headFits, regionFits, regionsIn, isImage, chartValue};
 
 // The bytes of a chart's image: the heading, then the regions.
@@ -35,19 +33,6 @@ fn left_of(kind: u8, first: u8, second: u8) -> Left
     Left::Difference(first, second)
 }
 
-// A relation, by its code from 0 to 4.
-fn relation_of(code: u8) -> Relation
-    ensures { λ r. ⌜ r ≡ relationOf code ⌝ }
-{
-    match code {
-        0 => Relation::Less,
-        1 => Relation::AtMost,
-        2 => Relation::Equal,
-        3 => Relation::AtLeast,
-        _ => Relation::More,
-    }
-}
-
 // The term whose eight bytes start at a place.
 fn term_at(s: &[u8], at: usize) -> Term
     requires { ⌜ at ≤ chartSize ⌝ }
@@ -58,7 +43,7 @@ fn term_at(s: &[u8], at: usize) -> Term
         wire::byte_at(s, at + 1),
         wire::byte_at(s, at + 2),
     );
-    let relation = relation_of(wire::byte_at(s, at + 3));
+    let relation = chart_step::relation_of(wire::byte_at(s, at + 3));
     Term {
         left,
         relation,

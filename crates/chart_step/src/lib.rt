@@ -268,8 +268,8 @@ fn plain_step(r: Reading, at: usize, next: usize, lines: u16) -> Step
     decide(f, r, going(begun(r, at, Event::Plain(lines)), next))
 }
 
-// 30, 31: a term.
-fn relation_of(b: u8) -> Relation
+// A relation, by its code from 0 to 4.
+pub fn relation_of(b: u8) -> Relation
     ensures { λ o. ⌜ o ≡ relationOf b ⌝ }
 {
     match b {
@@ -281,6 +281,7 @@ fn relation_of(b: u8) -> Relation
     }
 }
 
+// 30, 31: a term.
 fn with_term(r: Reading, left: Left, relation: u8, n: u32) -> Reading
     ensures { λ o. ⌜ o ≡ withTerm r left relation n ⌝ }
 {
