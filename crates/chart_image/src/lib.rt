@@ -125,13 +125,16 @@ fn region_fits(s: &[u8], at: usize) -> bool
 fn is_image(s: &[u8]) -> bool
     ensures { λ r. ⌜ r ≡ isImage (now (s .entry)) ⌝ }
 {
+    if s.len() != CHART_SIZE {
+        return false;
+    }
     let mut ok = true;
     let mut i: usize = 0;
     while i < MOST_REGIONS {
         ok = ok & region_fits(s, HEADING_SIZE + i * REGION_SIZE);
         i += 1;
     }
-    (s.len() == CHART_SIZE) & ok
+    ok
 }
 
 // The 32 regions.

@@ -1,7 +1,8 @@
--- `chart_image::is_image` meets its contract: the regions before i fit; at the end these are all. Assumes nothing.
+-- `chart_image::is_image` meets its contract: of the right length, the regions before i fit; at the end these are all. Assumes nothing.
 use Prim.Native.Nat.{_≤_, _-_}
 use mathlib.Core.Path.{_≡_}
 use native.Mathlib.Omega.{arith}
+use borrow.Author.Tests.{eq-eqb, ne-eqb}
 use Rattle.model.specs.Chart.{mostRegions}
 use Rattle.monitor.proofs.Loops.{AllSoFar, all-start, all-next, all-below}
 use Rattle.chart_image.specs.ChartImage.{regionPlace, regionFits, isImage}
@@ -13,6 +14,10 @@ Inv-loop s ok₀ i₀ ok i = (i ≤ mostRegions) × AllSoFar (λ k. regionFits s
 
 abbrev μ-loop : tie.MeasureT-loop
 μ-loop s ok₀ i₀ ok i = mostRegions - i
+
+returns : tie.Need-returns Inv-loop μ-loop
+unfolding isImage
+returns c = rw (ne-eqb _ _ (c .if1 .taken))
 
 loop-holds : tie.Need-loop-holds Inv-loop μ-loop
 loop-holds c = (omega arith, all-start)
@@ -35,11 +40,12 @@ loop-less c = omega arith
 loop-again : tie.Need-loop-again Inv-loop μ-loop
 loop-again c = (omega arith, all-next (c .before .before .loop .inv .1) (c .region-fits .ensures))
 
-returns : tie.Need-returns Inv-loop μ-loop
+returns-2 : tie.Need-returns-2 Inv-loop μ-loop
 unfolding isImage
-returns c = let l = c .before .loop in
+returns-2 c =
+    let l = c .before .loop in
     let e : l .i ≡ mostRegions = omega arith in
-    rw (all-below mostRegions (l .inv .1) e)
+    rw (eq-eqb _ _ (c .before .before .if1 .left), all-below mostRegions (l .inv .1) e)
 
 pub is-image-spec : {M : Type 1} → statement M
 is-image-spec =
@@ -47,6 +53,7 @@ is-image-spec =
     (tie.spec
     Inv-loop
     μ-loop
+    returns
     loop-holds
     mul-region-fits
     add-region-fits
@@ -54,4 +61,4 @@ is-image-spec =
     add-i
     loop-less
     loop-again
-    returns)
+    returns-2)
