@@ -1,11 +1,6 @@
 -- `lscmon::main` is safe: what `respond` counts lies in the buffer.
-use mathlib.Core.Path.{sym, subst}
-use Prim.Native.Nat.{_≤_}
-use lib.ListN.{length}
-use lib.Seq.{length-take-le}
-use Rattle.respond.specs.Respond.{countOf}
-use Rattle.respond.specs.declared.Response.{Response}
 use borrow.Author.Needs.{needs}
+use Rattle.respond.proofs.Counted.{counted, counted-size}
 use Rattle.lscmon.proofs.main.Statement.{statement}
 use Rattle.lscmon.proofs.main.Tie as tie
 
@@ -33,13 +28,12 @@ enum-known-response c = search needs
 array-share-prefix-out : tie.Need-array-share-prefix-out
 array-share-prefix-out c =
     let r = c .before .before .before .before .respond in
-    subst (λ (x : Response). countOf x ≤ length (r .last .1 .0)) (c .before .response .given .1) (r .ensures .1 .1 .0)
+    counted (r .last .1 .0) (c .before .response .given .1) (r .ensures .1 .1 .0)
 
 slice-aggregate-write-all : tie.Need-slice-aggregate-write-all
 slice-aggregate-write-all c =
     let r = c .before .before .before .before .before .respond in
-    sym (length-take-le _ (r .last .1 .0)
-    (subst (λ (x : Response). countOf x ≤ length (r .last .1 .0)) (c .before .before .response .given .1) (r .ensures .1 .1 .0)))
+    counted-size (r .last .1 .0) (c .before .before .response .given .1) (r .ensures .1 .1 .0)
 
 write-all-requires : tie.Need-write-all-requires
 write-all-requires c κs = search needs
