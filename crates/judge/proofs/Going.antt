@@ -12,6 +12,7 @@ use Rattle.bitset.specs.Set.{contains}
 use Rattle.model.specs.declared.Moment.{Moment}
 use Rattle.model.specs.declared.Monitor.{Monitor}
 use Rattle.model.specs.declared.Record.{Record}
+use Rattle.model.specs.Chart.{mostRegions}
 use Rattle.model.specs.Monitor.{zeroMonitor}
 use Rattle.rounds.specs.Chart.{Chart as Abstract}
 use Rattle.rounds.specs.Rows.{LogRecord, chartMessage}
@@ -37,8 +38,11 @@ use Rattle.judge.proofs.Laws.{Left, left-first, left-step, left-going}
 use Rattle.judge.proofs.Fed.{SoFar, at-start, fed-one, fed-none, fed-end}
 
 -- every region that has a message is in its code's slot
-pub slot-covers : {count : ℕ} {keys slots : List ℕ} → Slotted count keys slots → (code : ℕ) → Covers count keys code (getD slots (slotOf code) 0)
-slot-covers {slots = slots} S code = record { has = λ i l e. subst (λ (k : ℕ). So (contains (getD slots (slotOf k) 0) i)) e (S .has i l) }
+pub slot-covers : {count : ℕ} {keys slots : List ℕ} → Slotted count keys slots → count ≤ mostRegions → (code : ℕ) → Covers count keys code (getD slots (slotOf code) 0)
+slot-covers {slots = slots} S n code = record {
+  within = record { few = n; own = λ i m. S .own i (slotOf code) m };
+  has = λ i l e. subst (λ (k : ℕ). So (contains (getD slots (slotOf k) 0) i)) e (S .has i l);
+}
 
 -- a record that the check lets pass
 record Passed (s : List ℕ) (last : Moment) (n : ℕ) (e : Record) (place : ℕ) : Type 0 where

@@ -7,6 +7,7 @@ use model::MOST_RECORDS;
 use model::Moment;
 use model::Monitor;
 use model::Record;
+use plan::LABEL_PLACE;
 ghost use mathlib.Core.Path.{_≡_};
 ghost use mathlib.Core.Bool.{true, So};
 ghost use Prim.Native.Nat.{_≤_, _<_};
@@ -131,8 +132,8 @@ pub struct Judgement {
     pub verdict: Verdict,
 }
 
-// The label's place in a message's code; below it are the lines, which stand above the label in a record's bytes.
-const LABEL_PLACE: u32 = 0x1_0000;
+// In a message's code the label stands above the lines, in a record's bytes below them.
+const HALF: u32 = LABEL_PLACE as u32;
 
 const BROKEN: u8 = 3;
 
@@ -156,7 +157,7 @@ fn code_at(log: &[u8], at: usize) -> u64
 {
     if wire::byte_at(log, at) == MESSAGE {
         let word = wire::word32_at(log, at + 1);
-        return wide(word % LABEL_PLACE * LABEL_PLACE + word / LABEL_PLACE) + 1;
+        return wide(word % HALF * HALF + word / HALF) + 1;
     }
     0
 }

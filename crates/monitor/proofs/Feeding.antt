@@ -1,11 +1,12 @@
 -- Feeding by its tests in their order. Assumes nothing.
-use mathlib.Core.Path.{_≡_, ap, _∙_}
-use mathlib.Core.Bool.{true, false, not}
+use mathlib.Core.Path.{_≡_, sym, ap, _∙_}
+use mathlib.Core.Bool.{true, false}
 use mathlib.Core.List.{List}
-use Prim.Native.Nat.{ℕ, _≤_, _<_}
-use native.Mathlib.Omega.{arith}
+use Prim.Native.Nat.{ℕ, _-_, _^_, _≤_}
+use borrow.Author.Tests.{lt-ltb, ltb-true}
+use lib.Dec.{ltb}
 use Rattle.bitset.specs.Set.{contains}
-use Rattle.bitset.proofs.Laws.{contains-empty}
+use Rattle.bitset.proofs.Laws.{contains-below}
 use Rattle.model.specs.declared.Chart.{Chart}
 use Rattle.model.specs.declared.Monitor.{Monitor}
 use Rattle.model.specs.declared.Record.{Record}
@@ -26,9 +27,15 @@ code-logged : (e : Record) → recordCode e ≡ logRecord e .code
 code-logged (Message m t) = λ i. logRecord (Message m t) .code
 code-logged (Time t) = λ i. 0
 
--- the set of all numbers has every region
-pub all-covered : {count : ℕ} {keys : List ℕ} (code s : ℕ) → count ≤ mostRegions → ((i : ℕ) → i < 32 → contains s i ≡ not (contains 0 i)) → Covers count keys code s
-all-covered code s n h = record { has = λ i l e. h i (omega arith) ∙ ap not (contains-empty i) }
+-- the set of all numbers below the count has every region
+pub all-covered : {count : ℕ} {keys : List ℕ} (code s : ℕ) → count ≤ mostRegions → s ≡ 2 ^ count - 1 → Covers count keys code s
+all-covered {count} code s n e = record {
+  within = record { few = n; own = λ i m. ltb-true i count (sym (member i) ∙ m) };
+  has = λ i l k. member i ∙ lt-ltb i count l;
+}
+  where
+    member : (i : ℕ) → contains s i ≡ ltb i count
+    member i = ap (λ (x : ℕ). contains x i) e ∙ contains-below count i
 
 module _ (c : Chart) (m : Monitor) (e : Record) (s : machine.Step) where
   pub fed-no-chart : wellFormed c ≡ false → s ≡ refuse NotAChart m → s ≡ feedOf c m e

@@ -116,7 +116,7 @@ pub fn is_fit<'a>(
     let fired = at.fired;
     let moments = at.resets;
     let count = h.count;
-    let rests = is_nothing(stepping::ready_plain(h.plain, above, count, fired));
+    let rests = is_nothing(stepping::ready_plain(h.plain, above, fired));
     let settled = (m.break_record != 0) | rests;
     let counted = counts_fit(m) & break_fits(m.records, m.break_record, m.reason);
     let set = bitset::within(count as u32, fired)
@@ -180,7 +180,7 @@ pub fn feed(chart: Chart, monitor: Monitor, e: Record) -> Step
         h,
         &p.keys,
         &p.above,
-        bitset::others(0),
+        stepping::below(h.count),
         &p.resets,
         &p.terms,
         monitor,

@@ -1,7 +1,7 @@
 -- A set that is gathered from the front: the numbers below a bound that pass a test. Assumes nothing.
 use mathlib.Core.Path.{_≡_, refl, sym, ap, _∙_}
-use mathlib.Core.Bool.{Bool, true, false, cond, _||_}
-use Prim.Native.Nat.{ℕ, _+_, _≤_}
+use mathlib.Core.Bool.{Bool, true, false, So, cond, _||_}
+use Prim.Native.Nat.{ℕ, _+_, _≤_, _<_}
 use native.Mathlib.Omega.{arith}
 use native.Mathlib.Decide.{decLt, ℕ-discrete}
 use borrow.Author.Tests.{lt-ltb, le-ltb, eq-eqb, ne-eqb}
@@ -9,10 +9,17 @@ use lib.Dec.{eqb, ltb}
 use Rattle.bitset.specs.Set.{contains, inserted}
 use Rattle.bitset.proofs.Bools.{or-right}
 use Rattle.bitset.proofs.Laws.{contains-empty, contains-inserted}
+use Rattle.rounds.proofs.Facts.{clash}
 
 -- the test's answer below k, and nothing from there on
 pub record Gathered (t : ℕ → Bool) (k set : ℕ) : Type 0 where
   pub has : (y : ℕ) → contains set y ≡ cond (ltb y k) (t y) false
+
+pub gathered-below : {t : ℕ → Bool} {k set : ℕ} → Gathered t k set → (y : ℕ) → So (contains set y) → y < k
+gathered-below {t} {k} G y m = elim (decLt y k) [
+  | yes h ↦ h
+  | no h ↦ let g : k ≤ y = omega arith in clash m (G .has y ∙ ap (λ (b : Bool). cond b (t y) false) (le-ltb y k g))
+]
 
 pub gathered-none : {t : ℕ → Bool} → Gathered t 0 0
 gathered-none {t} = record { has = λ y. contains-empty y ∙ ap (λ (b : Bool). cond b (t y) false) (sym (le-ltb y 0 (omega arith))) }

@@ -1,6 +1,6 @@
 -- What is compiled part by part shows the chart. Assumes nothing.
 use mathlib.Core.Path.{_≡_, refl, sym, ap, subst, _∙_}
-use mathlib.Core.Bool.{Bool, true, false, cond, _&&_}
+use mathlib.Core.Bool.{Bool, true, false, cond, _&&_, So}
 use mathlib.Core.List.{List}
 use Prim.Native.Nat.{ℕ, _+_, _*_, _/_, _%_, _≤_, _<_}
 use native.Mathlib.Omega.{arith}
@@ -163,6 +163,7 @@ module _ (c : Chart) (w : WellFormed c) (numbers : (i j : ℕ) → i < mostRegio
 module _ (c : Chart) (p : Plan) (w : WellFormed c) (accepted : Accepted (chartOf c))
     (heading : (p .head .count ≡ c .count) × (p .head .prechart ≡ c .prechart) × (p .head .clocks ≡ c .clocks))
     (plain : (i : ℕ) → i < c .count → contains (p .head .plain) i ≡ eqb (chartOf c .key i) 0)
+    (own-plain : (i : ℕ) → So (contains (p .head .plain) i) → i < c .count)
     (hot : (i : ℕ) → contains (p .head .hot) i ≡ chartOf c .hot i)
     (keys : (i : ℕ) → getD (p .keys) i 0 ≡ chartOf c .key i)
     (above : p .above ≡ aboveOf c)
@@ -192,6 +193,7 @@ module _ (c : Chart) (p : Plan) (w : WellFormed c) (accepted : Accepted (chartOf
       regions = rw (heading .0) (w .room);
       clocks = rw (heading .2) (w .clocks);
       plain = λ i h. plain i (rw (heading .0) at h) ∙ ap (λ (k : ℕ). eqb k 0) (sym (keys i));
+      within = record { few = rw (heading .0) (w .room); own = λ i m. rw (heading .0) (own-plain i m) };
       words = rw (heading .2) words;
       accepted = subst Accepted (sym shows) accepted;
     };

@@ -16,6 +16,7 @@ slotCount = 256
 unfoldable pub slotOf : ℕ → ℕ
 slotOf code = (code % bias * spread) % bias / 16777216
 
--- each region's number is a member of its key's slot
+-- each region's number is a member of its key's slot, and nothing else is a member of a slot than regions' numbers
 pub record Slotted (count : ℕ) (keys slots : List ℕ) : Type 0 where
   pub has : (i : ℕ) → i < count → So (contains (getD slots (slotOf (getD keys i 0)) 0) i)
+  pub own : (i k : ℕ) → So (contains (getD slots k 0) i) → i < count

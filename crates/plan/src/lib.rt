@@ -17,7 +17,7 @@ use stepping::SECOND_PLACE;
 use stepping::TERM_PLACES;
 use stepping::UPPER_PLACE;
 ghost use mathlib.Core.Path.{_≡_};
-ghost use mathlib.Core.Bool.{true, cond};
+ghost use mathlib.Core.Bool.{true, cond, So};
 ghost use Prim.Native.Nat.{ℕ, _<_, _≤_};
 ghost use lib.Dec.{eqb};
 ghost use lib.ListN.{getD};
@@ -31,7 +31,7 @@ ghost use Rattle.plan.specs.Slots.{slotCount, slotOf, Slotted};
 ghost use Rattle.plan.specs.Plan.{recordCode, Compiles};
 
 // A message's code: one more than label, source and destination at their places.
-const LABEL_PLACE: u64 = 0x1_0000;
+pub const LABEL_PLACE: u64 = 0x1_0000;
 
 const SOURCE_PLACE: u64 = 0x100;
 
@@ -172,7 +172,8 @@ fn hot_of(c: Chart) -> u32
 // The set of the plain regions.
 fn plain_of(c: Chart) -> u32
     requires { ⌜ wellFormed c ≡ true ⌝ }
-    ensures { λ r. ⌜ ((i : ℕ) → i < c .count → contains r i ≡ eqb (chartOf c .key i) 0) ⌝ }
+    ensures plain { λ r. ⌜ ((i : ℕ) → i < c .count → contains r i ≡ eqb (chartOf c .key i) 0) ⌝ }
+    ensures own { λ r. ⌜ ((i : ℕ) → So (contains r i) → i < c .count) ⌝ }
 {
     let count = c.count as usize;
     let mut plain: u32 = 0;

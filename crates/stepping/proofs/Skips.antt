@@ -24,6 +24,16 @@ pub record Run (s r : ℕ) : Type 0 where
 pub run-of : {s r : ℕ} → ((j : ℕ) → j < r → So (contains s j)) × ((contains s r ≡ false) × (r ≤ 32)) → Run s r
 run-of h = record { before = h .0; gap = h .1 .0; few = h .1 .1 }
 
+-- a number more is skipped, and the place moves on
+pub run-grows : {s i u r : ℕ} → Run s i → u ≡ inserted s i → Run u r → i < r
+run-grows {s} {i} {u} {r} A e R = elim (decLt i r) [
+  | yes l ↦ l
+  | no l ↦ elim (ℕ-discrete r i) [
+    | yes z ↦ clash (rw (e, z) (contains-inserted s i i ∙ rw (eq-eqb i i refl) (or-true (contains s i)))) (R .gap)
+    | no z ↦ clash (rw e (contains-inserted s i r ∙ rw (A .before r (omega arith)))) (R .gap)
+  ]
+]
+
 -- of the numbers below n those that are skipped fail; those of the first set are skipped; the place is the first that is not
 pub record Skips (n : ℕ) (t : ℕ → Bool) (first s i : ℕ) : Type 0 where
   pub fails : (j : ℕ) → j < n → So (contains s j) → t j ≡ false
@@ -47,15 +57,6 @@ module _ {n : ℕ} {t : ℕ → Bool} {first s i : ℕ} (S : Skips n t first s i
       all = λ j m. rw e (contains-inserted s i j ∙ rw (S .all j m));
       at = R;
     }
-
-    pub skips-grow : Run u r → i < r
-    skips-grow R = elim (decLt i r) [
-      | yes l ↦ l
-      | no l ↦ elim (ℕ-discrete r i) [
-        | yes z ↦ clash (rw (e, z) (contains-inserted s i i ∙ rw (eq-eqb i i refl) (or-true (contains s i)))) (R .gap)
-        | no z ↦ clash (rw e (contains-inserted s i r ∙ rw (S .at .before r (omega arith)))) (R .gap)
-      ]
-    ]
 
   pub skipped : i ≤ n → SoFar t false i
   skipped l = record { is = λ j m. S .fails j (omega arith) (S .at .before j m) }
@@ -113,14 +114,18 @@ module _ {count : ℕ} {keys : List ℕ} {code among : ℕ} (W : Covers count ke
   not-covered j l q = elim (ℕ-discrete (getD keys j 0) code) [ yes z ↦ clash (W .has j l z) q | no z ↦ ne-eqb (getD keys j 0) code z ]
 
   -- what the search for the ready region of a message starts with
-  pub message-start : (above : List ℕ) {fired s : ℕ} → count ≤ 32 → Apart fired among s
+  pub message-start : (above : List ℕ) {fired s : ℕ} → Apart fired among s
       → (j : ℕ) → j < count → So (contains s j) → (eqb (getD keys j 0) code && readyBy above fired j) ≡ false
-  message-start above {fired} k A j l m = elim (A .inside j (omega arith) m) [
+  message-start above {fired} A j l m = elim (A .inside j (omega (arith, W .within .few)) m) [
     | inl f ↦ fired-not (eqb (getD keys j 0) code) (isSubset (getD above j 0) fired) f
     | inr q ↦ rw (not-covered j l q)
   ]
 
   -- what the search for any region of a message starts with
-  pub known-start : (o : ℕ) → count ≤ 32 → ((i : ℕ) → i < 32 → contains o i ≡ not (contains among i))
+  pub known-start : (o : ℕ) → ((i : ℕ) → i < 32 → contains o i ≡ not (contains among i))
       → (j : ℕ) → j < count → So (contains o j) → eqb (getD keys j 0) code ≡ false
-  known-start o k h j l m = not-covered j l (opposite (contains among j) (sym (h j (omega arith)) ∙ m))
+  known-start o h j l m = not-covered j l (opposite (contains among j) (sym (h j (omega (arith, W .within .few))) ∙ m))
+
+  -- what is not skipped by it is among the regions
+  pub known-left : (o : ℕ) → ((i : ℕ) → i < 32 → contains o i ≡ not (contains among i)) → (j : ℕ) → j < 32 → contains o j ≡ false → j < count
+  known-left o h j l m = W .within .own j (double (contains among j) (sym (h j l) ∙ m))

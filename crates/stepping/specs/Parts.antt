@@ -21,7 +21,7 @@ use Rattle.stepping.specs.declared.Found.{Found}
 use Rattle.stepping.specs.declared.Found.the-variants.{At, Nothing}
 use Rattle.stepping.specs.declared.Sought.{Sought}
 use Rattle.stepping.specs.declared.Sought.the-variants.{Ready, Unready, Foreign}
-use Rattle.stepping.specs.View.{Words, momentsOf, placeAt}
+use Rattle.stepping.specs.View.{Words, Within, momentsOf, placeAt}
 
 -- region i isn't fired, and those above it are: `above` has the set of regions above each region
 abbrev pub readyBy : List ℕ → ℕ → ℕ → Bool
@@ -32,8 +32,9 @@ abbrev pub foundOf : Found → Option ℕ
 foundOf (At i) = some i
 foundOf Nothing = none
 
--- every region that has the message is in the set
+-- every region that has the message is in the set, and nothing but regions is
 pub record Covers (count : ℕ) (keys : List ℕ) (code among : ℕ) : Type 0 where
+  pub within : Within count among
   pub has : (i : ℕ) → i < count → getD keys i 0 ≡ code → So (contains among i)
 
 -- what the regions have for a message: a ready region, only regions that aren't ready, or no region has it

@@ -1,7 +1,7 @@
 -- What the numbers stand for: a compiled chart as an abstract chart, a stored monitor as its monitor.
 use mathlib.Core.Path.{_≡_}
 use mathlib.Core.Logic.{_⊎_}
-use mathlib.Core.Bool.{Bool, cond, not, _&&_}
+use mathlib.Core.Bool.{Bool, So, cond, not, _&&_}
 use mathlib.Core.List.{List}
 use Prim.Native.Nat.{ℕ, _+_, _*_, _/_, _%_, _≤_, _<_}
 use lib.Dec.{eqb, ltb}
@@ -91,12 +91,18 @@ pub record Words (clocks : ℕ) (terms : List ℕ) : Type 0 where
   -- behind a region's last term are zeros
   pub ends : (i j k : ℕ) → j ≤ k → k < mostTerms → getD terms (i * mostTerms + j) 0 ≡ 0 → getD terms (i * mostTerms + k) 0 ≡ 0
 
+-- every member of the set is a region, of at most 32
+pub record Within (count set : ℕ) : Type 0 where
+  pub few : count ≤ mostRegions
+  pub own : (i : ℕ) → So (contains set i) → i < count
+
 -- what compiling an accepted chart gives
 pub record Compiled (h : Head) (keys above resets terms : List ℕ) : Type 0 where
   pub regions : h .count ≤ mostRegions
   pub clocks : h .clocks ≤ mostClocks
   -- the set of plain regions
   pub plain : (i : ℕ) → i < h .count → contains (h .plain) i ≡ eqb (getD keys i 0) 0
+  pub within : Within (h .count) (h .plain)
   pub words : Words (h .clocks) terms
   pub accepted : Accepted (planChart h keys above resets terms)
 

@@ -22,7 +22,7 @@ ghost use Rattle.rounds.specs.Feeds.{mostRecords, entered, moved};
 ghost use Rattle.rounds.specs.Machine.{stuck, opening as opened, goOn, keepRound, dropRound, breakRound, conclude as concluded, accept as accepted, feed as fed, Fit};
 ghost use Rattle.stepping.specs.declared.Rest.the-variants.{Fails as FailsAt};
 ghost use Rattle.stepping.specs.Answers.{feedRefusalNumber, answerNumber, answerOf, HandsBack};
-ghost use Rattle.stepping.specs.View.{bias, boundOf, bounded, momentsOf, conditionBy, planChart, placeAt, recordOf, monitorAt, stepOf, Compiled};
+ghost use Rattle.stepping.specs.View.{bias, boundOf, bounded, Within, momentsOf, conditionBy, planChart, placeAt, recordOf, monitorAt, stepOf, Compiled};
 ghost use Rattle.stepping.specs.Parts.{readyBy, foundOf, Covers, soughtBy, valueAt, Testable, fireBy, takenAt, moveOf};
 
 pub const TERM_PLACES: usize = MOST_REGIONS * MOST_TERMS;
@@ -114,13 +114,12 @@ pub enum Found {
 }
 
 // The lowest plain region that is ready: of those that are neither fired nor found unready, the first, and then the next.
-pub fn ready_plain(plain: u32, above: &[u32; MOST_REGIONS], count: usize, fired: u32) -> Found
-    requires { ⌜ count ≤ mostRegions ⌝ }
-    ensures { λ r. ⌜ foundOf r ≡ first count (λ i. contains plain i && readyBy (now (above .entry)) fired i) ⌝ }
+pub fn ready_plain(plain: u32, above: &[u32; MOST_REGIONS], fired: u32) -> Found
+    ensures { λ r. ⌜ ((count : ℕ) → Within count plain → foundOf r ≡ first count (λ i. contains plain i && readyBy (now (above .entry)) fired i)) ⌝ }
 {
     let mut skip = bitset::join(fired, bitset::others(plain));
     let mut i = bitset::run(skip) as usize;
-    while i < count {
+    while i < MOST_REGIONS {
         if bitset::subset(above[i], fired) {
             return Found::At(i);
         }
@@ -142,17 +141,14 @@ fn ready_for(
     keys: &[u64; MOST_REGIONS],
     above: &[u32; MOST_REGIONS],
     among: u32,
-    count: usize,
     fired: u32,
     code: u64,
 ) -> Found
-    requires { ⌜ count ≤ mostRegions ⌝ }
-    requires { ⌜ Covers count (now keys) code among ⌝ }
-    ensures { λ r. ⌜ foundOf r ≡ first count (λ i. eqb (getD (now (keys .entry)) i 0) code && readyBy (now (above .entry)) fired i) ⌝ }
+    ensures { λ r. ⌜ ((count : ℕ) → Covers count (now (keys .entry)) code among → foundOf r ≡ first count (λ i. eqb (getD (now (keys .entry)) i 0) code && readyBy (now (above .entry)) fired i)) ⌝ }
 {
     let mut skip = bitset::join(fired, bitset::others(among));
     let mut i = bitset::run(skip) as usize;
-    while i < count {
+    while i < MOST_REGIONS {
         if keys[i] == code && bitset::subset(above[i], fired) {
             return Found::At(i);
         }
@@ -163,14 +159,12 @@ fn ready_for(
 }
 
 // Some region has the message.
-fn is_known(keys: &[u64; MOST_REGIONS], among: u32, count: usize, code: u64) -> bool
-    requires { ⌜ count ≤ mostRegions ⌝ }
-    requires { ⌜ Covers count (now keys) code among ⌝ }
-    ensures { λ r. ⌜ r ≡ someBelow count (λ i. eqb (getD (now (keys .entry)) i 0) code) ⌝ }
+fn is_known(keys: &[u64; MOST_REGIONS], among: u32, code: u64) -> bool
+    ensures { λ r. ⌜ ((count : ℕ) → Covers count (now (keys .entry)) code among → r ≡ someBelow count (λ i. eqb (getD (now (keys .entry)) i 0) code)) ⌝ }
 {
     let mut skip = bitset::others(among);
     let mut i = bitset::run(skip) as usize;
-    while i < count {
+    while i < MOST_REGIONS {
         if keys[i] == code {
             return true;
         }
@@ -185,17 +179,14 @@ fn seek(
     keys: &[u64; MOST_REGIONS],
     above: &[u32; MOST_REGIONS],
     among: u32,
-    count: usize,
     fired: u32,
     code: u64,
 ) -> Sought
-    requires { ⌜ count ≤ mostRegions ⌝ }
-    requires { ⌜ Covers count (now keys) code among ⌝ }
-    ensures { λ r. ⌜ r ≡ soughtBy (now (keys .entry)) (now (above .entry)) count fired code ⌝ }
+    ensures { λ r. ⌜ ((count : ℕ) → Covers count (now (keys .entry)) code among → r ≡ soughtBy (now (keys .entry)) (now (above .entry)) count fired code) ⌝ }
 {
-    let f = ready_for(keys, above, among, count, fired, code);
+    let f = ready_for(keys, above, among, fired, code);
     let Found::At(i) = f else {
-        if is_known(keys, among, count, code) {
+        if is_known(keys, among, code) {
             return Sought::Unready;
         }
         return Sought::Foreign;
@@ -342,7 +333,7 @@ fn take_region<'a>(
             };
         }
         q = fire(resets, q, k, t);
-        let f = ready_plain(h.plain, above, h.count, q.fired);
+        let f = ready_plain(h.plain, above, q.fired);
         let Found::At(j) = f else {
             return Settled {
                 rest: Rest::Rests,
@@ -354,7 +345,7 @@ fn take_region<'a>(
 }
 
 // The set of all numbers below n.
-fn below(n: usize) -> u32
+pub fn below(n: usize) -> u32
     requires { ⌜ n ≤ mostRegions ⌝ }
     ensures { λ r. ⌜ r ≡ 2 ^ n - 1 ⌝ }
 {
@@ -534,7 +525,7 @@ pub fn accept<'a>(
     if code == 0 {
         return go_on(m, t, Answer::Quiet, at);
     }
-    let sought = seek(keys, above, among, h.count, at.fired, code);
+    let sought = seek(keys, above, among, at.fired, code);
     match sought {
         Sought::Foreign => go_on(m, t, Answer::Quiet, at),
         Sought::Unready => unplaced(h, m, t),

@@ -76,7 +76,7 @@ accept-requires c κs =
     let e = sym (c .before .before .before .before .before .before .before .before .before .before .before .read-record .ensures .0) ∙ c .before .before .before .before .before .before .before .before .before .next .given .1 in
     let f = c .before .before .before .before .before .before .before .before .before .before .before .before .before .before .before .before .before .before .before .before .before .pre .1 in
     let u = ap (λ (x : Moment). x .0) (c .time-of .ensures) in
-    (K, ((taken-few G f _ _ e, F .counts), ((λ x. omega (arith, F .moments x, taken-later G f _ _ e, u)), rw (c .before .before .before .slot-of .ensures .0) (slot-covers (c .before .before .before .before .before .before .before .before .before .before .before .before .before .before .before .slots-of .ensures) (c .before .before .before .before .before .before .before .code-at .result)))))
+    (K, ((taken-few G f _ _ e, F .counts), ((λ x. omega (arith, F .moments x, taken-later G f _ _ e, u)), rw (c .before .before .before .slot-of .ensures .0) (slot-covers (c .before .before .before .before .before .before .before .before .before .before .before .before .before .before .before .slots-of .ensures) (K .regions) (c .before .before .before .before .before .before .before .code-at .result)))))
 
 returns-3 : tie.Need-returns-3 Inv-loop μ-loop
 returns-3 c =

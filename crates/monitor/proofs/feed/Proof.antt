@@ -40,13 +40,13 @@ record-code-requires c κs = search needs
 time-of-requires : tie.Need-time-of-requires
 time-of-requires c κs = search needs
 
-others-requires : tie.Need-others-requires
-others-requires c κs = search needs
+below-requires : tie.Need-below-requires
+below-requires c κs = c .before .before .before .before .before .before .before .before .before .before .before .before .before .compile .ensures .compiled .regions
 
 feed-fit-requires : tie.Need-feed-fit-requires
 feed-fit-requires c κs =
     let K = c .before .before .before .before .before .before .before .before .before .before .before .before .before .before .before .before .compile .ensures .compiled in
-    (K, (c .before .before .before .before .before .before .before .before .before .is-fit .ensures .1 .0 (not-false _ (c .before .before .before .before .before .before .before .before .if2 .left)), all-covered _ _ (K .regions) (c .before .before .others .ensures)))
+    (K, (c .before .before .before .before .before .before .before .before .before .is-fit .ensures .1 .0 (not-false _ (c .before .before .before .before .before .before .before .before .if2 .left)), all-covered _ _ (K .regions) (c .before .before .below .ensures)))
 
 returns-3 : tie.Need-returns-3
 returns-3 c = (
@@ -68,6 +68,6 @@ feed-spec =
     returns-2
     record-code-requires
     time-of-requires
-    others-requires
+    below-requires
     feed-fit-requires
     returns-3)

@@ -37,7 +37,7 @@ returns c =
     let m = c .before .before .before .before .before .before .before .before .before .before .before .args .m in
     fit-test K m (c .before .moments-fit .ensures .1) _
     (tested K m _ _ _ _ _ _ _ (c .before .before .before .before .before .before .before .before .ready-plain .result) (c .closed-upward .ensures) (c .before .before .before .within .ensures) (c .before .before .all-fired .ensures)
-    (c .before .before .before .before .before .before .before .before .ready-plain .ensures) (c .before .before .before .before .before .before .before .is-nothing .ensures) (c .before .moments-fit .ensures .0) (c .before .before .before .before .before .counts-fit .ensures)
+    (c .before .before .before .before .before .before .before .before .ready-plain .ensures _ (K .within)) (c .before .before .before .before .before .before .before .is-nothing .ensures) (c .before .moments-fit .ensures .0) (c .before .before .before .before .before .counts-fit .ensures)
     (c .before .before .before .before .break-fits .ensures))
 
 pub is-fit-spec : {M : Type 1} → statement M

@@ -5,7 +5,7 @@ use native.Mathlib.Omega.{arith}
 use borrow.Author.Needs.{needs}
 use Rattle.model.specs.Chart.{mostRegions, regionAt, isPlain}
 use Rattle.chart_value.proofs.Facts.{wf-of}
-use Rattle.plan.proofs.Members.{Gathered, gathered-none, gathered-next}
+use Rattle.plan.proofs.Members.{Gathered, gathered-below, gathered-none, gathered-next}
 use Rattle.plan.proofs.Shows.{plain-shows}
 use Rattle.plan.proofs.plain_of.Statement.{statement}
 use Rattle.plan.proofs.plain_of.Tie as tie
@@ -48,7 +48,8 @@ returns : tie.Need-returns Inv-loop μ-loop
 returns c =
     let l = c .before .loop in
     let e : l .i ≡ c .before .before .args .t1 .count = omega arith in
-    plain-shows (c .before .before .args .t1) (l .plain) (rw e at (l .inv .2))
+    let G = rw e at (l .inv .2) in
+    (plain-shows (c .before .before .args .t1) (l .plain) G, gathered-below G)
 
 pub plain-of-spec : {M : Type 1} → statement M
 plain-of-spec =

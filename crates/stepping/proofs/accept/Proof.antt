@@ -16,7 +16,7 @@ unfolding accept chartMessage
 returns c = rw (eq-eqb _ _ (c .before .if1 .taken)) (c .go-on .ensures _ (c .before .before .before .args .code))
 
 seek-requires : tie.Need-seek-requires
-seek-requires c κs = let S = c .before .before in (S .pre .0 .regions, S .pre .1 .1 .1)
+seek-requires c κs = search needs
 
 enum-told : tie.Need-enum-told
 enum-told c = search needs
@@ -37,7 +37,7 @@ take-region-requires : tie.Need-take-region-requires
 take-region-requires c κs =
     let F = c .before .before .before in
     let S = F .before .before .before in
-    (S .pre .0, (sought-ready (S .pre .0) (S .args .m) (S .args .code) (S .args .t .0) (F .seek .ensures) (c .before .sought .given .1), S .pre .1 .1 .0))
+    (S .pre .0, (sought-ready (S .pre .0) (S .args .m) (S .args .code) (S .args .t .0) (F .seek .ensures _ (S .pre .1 .1 .1)) (c .before .sought .given .1), S .pre .1 .1 .0))
 
 conclude-requires : tie.Need-conclude-requires
 conclude-requires c κs =
@@ -51,7 +51,7 @@ returns-2 c =
     let F = c .before .before .before in
     let S = F .before .before .before in
     let e = accept-scan (S .pre .0) (S .args .m) (S .args .code) (S .args .t .0) (ne-eqb _ _ (F .before .if1 .left)) in
-    rw (e, ← F .seek .ensures, c .before .enum-told .given .1) (c .go-on2 .ensures _ (S .args .code))
+    rw (e, ← F .seek .ensures _ (S .pre .1 .1 .1), c .before .enum-told .given .1) (c .go-on2 .ensures _ (S .args .code))
 
 returns-3 : tie.Need-returns-3
 unfolding afterScan
@@ -59,7 +59,7 @@ returns-3 c =
     let F = c .before .before .before in
     let S = F .before .before .before in
     let e = accept-scan (S .pre .0) (S .args .m) (S .args .code) (S .args .t .0) (ne-eqb _ _ (F .before .if1 .left)) in
-    rw (e, ← F .seek .ensures, c .before .enum-told2 .given .1)
+    rw (e, ← F .seek .ensures _ (S .pre .1 .1 .1), c .before .enum-told2 .given .1)
     (c .unplaced .ensures (S .args .keys .now) (S .args .above .now) (S .args .resets .now) (S .args .terms .now) (S .args .code))
 
 returns-4 : tie.Need-returns-4
@@ -68,7 +68,7 @@ returns-4 c =
     let F = c .before .before .before .before .before in
     let S = F .before .before .before in
     let e = accept-scan (S .pre .0) (S .args .m) (S .args .code) (S .args .t .0) (ne-eqb _ _ (F .before .if1 .left)) in
-    rw (e, ← F .seek .ensures, c .before .before .before .sought .given .1, ← c .before .take-region .ensures .0)
+    rw (e, ← F .seek .ensures _ (S .pre .1 .1 .1), c .before .before .before .sought .given .1, ← c .before .take-region .ensures .0)
     (c .conclude .ensures (S .args .keys .now) (S .args .above .now) (S .args .resets .now) (S .args .terms .now) (S .args .code))
 
 pub accept-spec : {M : Type 1} → statement M

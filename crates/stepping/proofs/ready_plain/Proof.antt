@@ -1,22 +1,25 @@
 -- The loop's invariant: what is skipped is not ready and plain, and the place is the first that is not skipped. Assumes nothing.
 use mathlib.Core.Path.{sym, _∙_}
 use mathlib.Core.Bool.{_&&_, and-false}
-use Prim.Native.Nat.{_-_}
+use Prim.Native.Nat.{ℕ, _-_}
 use native.Mathlib.Omega.{arith}
 use borrow.Author.Needs.{needs}
 use Rattle.bitset.specs.Set.{contains}
 use Rattle.rounds.proofs.Facts.{and-of}
+use Rattle.model.specs.Chart.{mostRegions}
+use Rattle.stepping.specs.View.{Within}
 use Rattle.stepping.specs.Parts.{readyBy}
 use Rattle.stepping.proofs.Loops.{none-passes, first-passes}
-use Rattle.stepping.proofs.Skips.{run-of, Skips, skips-start, not-first, skips-more, skips-grow, skipped, all-skipped, apart, ready-is, unready, plain-start}
+use Rattle.stepping.proofs.Skips.{Run, run-of, run-grows, Skips, skips-start, not-first, skips-more, skipped, all-skipped, apart, ready-is, unready, plain-start}
 use Rattle.stepping.proofs.ready_plain.Statement.{statement}
 use Rattle.stepping.proofs.ready_plain.Tie as tie
 
 abbrev Inv-loop : tie.InvT-loop
-Inv-loop plain above count fired skip₀ i₀ skip i = Skips count (λ k. contains plain k && readyBy above fired k) skip₀ skip i
+Inv-loop plain above fired skip₀ i₀ skip i =
+    Run skip i × ((n : ℕ) → Within n plain → Skips n (λ k. contains plain k && readyBy above fired k) skip₀ skip i)
 
 abbrev μ-loop : tie.MeasureT-loop
-μ-loop plain above count fired skip₀ i₀ skip i = count - i
+μ-loop plain above fired skip₀ i₀ skip i = mostRegions - i
 
 others-requires : tie.Need-others-requires Inv-loop μ-loop
 others-requires c κs = search needs
@@ -31,7 +34,9 @@ cast-i : tie.Need-cast-i Inv-loop μ-loop
 cast-i c = search needs
 
 loop-holds : tie.Need-loop-holds Inv-loop μ-loop
-loop-holds c = skips-start (plain-start (c .before .before .before .args .above .now) (c .before .before .before .pre) (apart _ _ _ _ (c .before .before .others .ensures) (c .before .join .ensures))) (run-of (c .run .ensures))
+loop-holds c =
+    let R = run-of (c .run .ensures) in
+    (R, λ n W. skips-start (plain-start (c .before .before .before .args .above .now) (W .few) (apart _ _ _ _ (c .before .before .others .ensures) (c .before .join .ensures))) R)
 
 mul-subset : tie.Need-mul-subset Inv-loop μ-loop
 mul-subset c = search needs
@@ -43,12 +48,14 @@ subset-requires : tie.Need-subset-requires Inv-loop μ-loop
 subset-requires c κs = search needs
 
 returns : tie.Need-returns Inv-loop μ-loop
-returns c =
+returns c = λ n W.
     let a = c .before .before .before .before .before .before .before .before .args in
     let L = c .before .before .before .before .loop in
-    let n = apart _ _ _ _ (c .before .before .before .before .before .before .before .others .ensures) (c .before .before .before .before .before .before .join .ensures) .outside (L .i) (omega (arith, c .before .before .before .before .before .before .before .before .pre, c .before .before .before .loop-test .taken)) (not-first (L .inv)) in
-    let e = and-of (n .1) (ready-is (a .above .now) (a .fired) (L .i) (n .0) ∙ sym (c .before .subset .ensures) ∙ c .if1 .taken) in
-    sym (first-passes (a .count) (skipped (L .inv) (omega (arith, c .before .before .before .loop-test .taken))) e (c .before .before .before .loop-test .taken))
+    let S = L .inv .1 n W in
+    let q = apart _ _ _ _ (c .before .before .before .before .before .before .before .others .ensures) (c .before .before .before .before .before .before .join .ensures) .outside (L .i) (omega (arith, c .before .before .before .loop-test .taken)) (not-first S) in
+    let l = W .own (L .i) (q .1) in
+    let e = and-of (q .1) (ready-is (a .above .now) (a .fired) (L .i) (q .0) ∙ sym (c .before .subset .ensures) ∙ c .if1 .taken) in
+    sym (first-passes n (skipped S (omega (arith, l))) e l)
 
 cast-insert : tie.Need-cast-insert Inv-loop μ-loop
 cast-insert c = search needs
@@ -64,19 +71,22 @@ cast-i-2 c = search needs
 
 loop-less : tie.Need-loop-less Inv-loop μ-loop
 loop-less c =
-    let g = skips-grow (c .before .before .before .before .before .before .loop .inv) (c .before .insert .ensures) (run-of (c .run2 .ensures)) in
+    let g = run-grows (c .before .before .before .before .before .before .loop .inv .0) (c .before .insert .ensures) (run-of (c .run2 .ensures)) in
     omega (arith, g, c .before .before .before .before .before .loop-test .taken)
 
 loop-again : tie.Need-loop-again Inv-loop μ-loop
 loop-again c =
     let a = c .before .before .before .before .before .before .before .before .before .before .args in
     let L = c .before .before .before .before .before .before .loop in
-    skips-more (L .inv) (c .before .insert .ensures)
-    (rw (unready (a .above .now) (a .fired) (L .i) (sym (c .before .before .before .subset .ensures) ∙ c .before .before .if1 .left)) (and-false (contains (a .plain) (L .i))))
-    (run-of (c .run2 .ensures))
+    let R = run-of (c .run2 .ensures) in (
+      R,
+      λ n W. skips-more (L .inv .1 n W) (c .before .insert .ensures)
+          (rw (unready (a .above .now) (a .fired) (L .i) (sym (c .before .before .before .subset .ensures) ∙ c .before .before .if1 .left)) (and-false (contains (a .plain) (L .i))))
+          R,
+    )
 
 returns-2 : tie.Need-returns-2 Inv-loop μ-loop
-returns-2 c = sym (none-passes (c .before .before .before .before .before .args .count) (all-skipped (c .before .loop .inv) (omega arith)) (omega arith))
+returns-2 c = λ n W. sym (none-passes n (all-skipped (c .before .loop .inv .1 n W) (omega (arith, W .few, c .loop-test .left))) (omega arith))
 
 pub ready-plain-spec : {M : Type 1} → statement M
 ready-plain-spec =

@@ -46,7 +46,7 @@ fire-requires c κs =
     (omega (arith, K .regions, c .before .before .before .loop .inv .0 .ready .region), λ x s. omega (arith, K .clocks, K .accepted .own-clocks _ x s))
 
 ready-plain-requires : tie.Need-ready-plain-requires Inv-loop μ-loop
-ready-plain-requires c κs = c .before .before .before .before .before .pre .0 .regions
+ready-plain-requires c κs = search needs
 
 enum-known-f : tie.Need-enum-known-f Inv-loop μ-loop
 enum-known-f c = search needs
@@ -59,7 +59,7 @@ unfolding values fire
 returns-2 c =
     let F = c .before .before .before in
     let K = c .before .before .before .before .before .before .before .before .pre .0 in
-    let f = found-plain K (F .fire .result .fired) _ (c .enum-told .given .1) (c .before .before .ready-plain .ensures) in (
+    let f = found-plain K (F .fire .result .fired) _ (c .enum-told .given .1) (c .before .before .ready-plain .ensures _ (K .within)) in (
       way-rests (c .before .before .before .before .before .before .before .loop .inv .0) (c .before .before .before .before .before .holds .ensures _ (testable K)) (c .before .before .before .before .if1 .left) (F .fire .ensures) f,
       λ j e. absurd (let z : _≡_ {A = ℕ} 0 1 = cc in omega arith),
     )
@@ -76,7 +76,7 @@ loop-again c =
     let F = c .before .before .before .before in
     let W = c .before .before .before .before .before .before .before .before .loop in
     let K = c .before .before .before .before .before .before .before .before .before .pre .0 in
-    let f = found-plain K (F .fire .result .fired) _ (c .before .f .given .1) (c .before .before .before .ready-plain .ensures) in (
+    let f = found-plain K (F .fire .result .fired) _ (c .before .f .given .1) (c .before .before .before .ready-plain .ensures _ (K .within)) in (
       way-on (W .inv .0) (c .before .before .before .before .before .before .holds .ensures _ (testable K)) (c .before .before .before .before .before .if1 .left) (F .fire .ensures) (K .accepted) f,
       fired-early (c .before .before .before .before .before .before .before .before .before .args .resets .now) _ (W .q) (F .fire .result) (W .k) (F .fire .ensures) (W .inv .1),
     )
