@@ -9,7 +9,7 @@ use lsc_reference::value::{ChartValue, RecordValue};
 use std::hint::black_box;
 
 /// Counted rounds of every measurement.
-pub const ROUNDS: usize = 11;
+pub const ROUNDS: usize = 31;
 /// Records of the long logs.
 pub const LONG: usize = 1_000_000;
 /// Records of the lists fed one by one.
