@@ -9,10 +9,10 @@ use native.Mathlib.Numerals.{one-add}
 use native.Mathlib.Omega.{arith}
 use borrow.Author.Tests.{lt-ltb, ltb-true, le-ltb, eqb-true, eq-eqb, ne-eqb}
 use lib.Dec.{eqb, ltb, leb·suc-suc, eqb·zero-suc, eqb·suc-zero, eqb·suc-suc}
-use lib.Pow.{pow-lt, pow-mono, pow-pos, shr-shr, low}
+use lib.Pow.{pow-mono, pow-pos, shr-shr, low}
 use lib.Arith.{lt-one, bin-ind}
 use lib.Count.{trailingZeros, under}
-use lib.Bits.{or-lt, and-le-l, bitAnd, bitOr, and-shr, or-shr, and-step, or-step, shifted-even}
+use lib.Bits.{and-le-l, bitAnd, bitOr, and-shr, or-shr, and-step, or-step, shifted-even}
 use Rattle.bitset.specs.Set.{contains, single, inserted, union, isSubset, within}
 
 -- a digit is 0 or 1
@@ -118,14 +118,6 @@ members-subset k a b ha h =
     absorbs : (x y : Bool) → (x ≡ true → y ≡ true) → (x && y) ≡ x
     absorbs true y f = f refl
     absorbs false y f = refl
-
-pub inserted-lt : (k s j : ℕ) → s < 2 ^ k → j < k → inserted s j < 2 ^ k
-unfolding inserted single
-inserted-lt k s j hs hj = or-lt k s (single j) hs (pow-lt hj)
-
-pub union-lt : (k a b : ℕ) → a < 2 ^ k → b < 2 ^ k → union a b < 2 ^ k
-unfolding union
-union-lt = or-lt
 
 -- the set of all numbers below n
 pub contains-below : (n i : ℕ) → contains (2 ^ n - 1) i ≡ ltb i n

@@ -19,7 +19,7 @@ use Rattle.rounds.specs.Rows.{LogRecord, chartMessage}
 use Rattle.rounds.specs.Feeds.{mostRecords, noReadyRegion, conditionFails, entered, moved, quiet}
 use Rattle.rounds.specs.Machine.{Monitor as AbstractMonitor, Step as AbstractStep, Move, stuck, fails, rests, place, full, prechartDone, goOn, keepRound, dropRound, breakRound, conclude, accept, feed, after}
 use Rattle.rounds.proofs.Facts.{clash}
-use Rattle.log_reader.specs.declared.Next.the-variants.{End, Taken}
+use Rattle.log_reader.specs.declared.Next.the-variants.{Taken}
 use Rattle.log_reader.specs.Record.{nextAt}
 use Rattle.log_reader.specs.Records.{recordsIn}
 use Rattle.log_reader.proofs.Places.{at-end, taken-past}

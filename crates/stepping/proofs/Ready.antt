@@ -2,7 +2,6 @@
 use mathlib.Core.Path.{_≡_, refl, sym, ap, ap₂, _∙_}
 use mathlib.Core.Logic.{inl, inr}
 use mathlib.Core.Bool.{Bool, true, false, not, So, _&&_, _||_}
-use mathlib.Core.Option.{none}
 use mathlib.Core.List.{List}
 use Prim.Native.Nat.{ℕ, zero, suc, _<_, _-_, _^_}
 use native.Mathlib.Nat.{pow-suc}
@@ -15,18 +14,11 @@ use Rattle.bitset.proofs.Laws.{subset-members, members-subset, contains-below}
 use Rattle.rounds.specs.Base.{first, allBelow}
 use Rattle.rounds.specs.Rows.{plain}
 use Rattle.rounds.specs.Machine.{ready, readyPlain}
-use Rattle.rounds.proofs.Facts.{split, clash, and-left, and-right, first-is-none, all-of, all-at}
+use Rattle.rounds.proofs.Facts.{split, all-of, all-at}
 use Rattle.stepping.specs.declared.Head.{Head}
 use Rattle.stepping.specs.declared.Found.{Found}
 use Rattle.stepping.specs.View.{planChart, Compiled}
 use Rattle.stepping.specs.Parts.{readyBy, foundOf}
-
--- where every plain region is fired, none is ready
-pub all-fired : (n plain fired : ℕ) (above : List ℕ) → isSubset plain fired ≡ true
-    → first n (λ i. contains plain i && readyBy above fired i) ≡ none
-all-fired n plain fired above h = first-is-none n _ (λ i l p.
-    let q = subset-members plain fired h i (and-left (contains plain i) _ p) in
-    clash (and-left (not (contains fired i)) _ (and-right (contains plain i) _ p)) (rw q))
 
 so-same : (x y : Bool) → (So x → So y) → (So y → So x) → x ≡ y
 so-same true y f g = sym (f refl)

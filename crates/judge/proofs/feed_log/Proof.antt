@@ -1,5 +1,5 @@
 -- `judge::feed_log` meets its contract: the records taken so far, and those left, are the log's. Assumes nothing.
-use mathlib.Core.Path.{_≡_, sym, ap, _∙_}
+use mathlib.Core.Path.{sym, ap, _∙_}
 use Prim.Native.Nat.{_-_}
 use native.Mathlib.Omega.{arith}
 use borrow.Author.Needs.{needs}
@@ -7,7 +7,6 @@ use lib.ListN.{length}
 use Rattle.model.specs.declared.Moment.{Moment}
 use Rattle.stepping.specs.View.{planChart}
 use Rattle.log_reader.proofs.Places.{taken-past}
-use Rattle.judge.specs.Check.{timeOf}
 use Rattle.judge.proofs.Fed.{code-of, fit-here, fed-none, fed-bad, fed-broken}
 use Rattle.judge.proofs.Going.{slot-covers, Going, going-start, some-left, going-end, taken-later, taken-few, taken-one, going-on}
 use Rattle.judge.proofs.feed_log.Statement.{statement}

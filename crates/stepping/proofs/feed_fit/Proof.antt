@@ -1,6 +1,5 @@
 -- By the tests in their order. Assumes nothing.
 use native.Mathlib.Omega.{arith}
-use borrow.Author.Needs.{needs}
 use borrow.Author.Tests.{eq-eqb, ne-eqb, lt-ltb, le-ltb, le-leb, lt-leb}
 use mathlib.Core.Path.{refl, ap}
 use Rattle.rounds.specs.Machine.{Step, feed}

@@ -1,7 +1,5 @@
 -- By the side that the sums fall on. Assumes nothing.
-use native.Mathlib.Omega.{arith}
 use borrow.Author.Needs.{needs}
-use borrow.Author.Tests.{lt-ltb, le-ltb}
 use Rattle.stepping.proofs.Terms.{below-bound, above-bound, at-bound}
 use Rattle.stepping.proofs.word_holds.Statement.{statement}
 use Rattle.stepping.proofs.word_holds.Tie as tie
