@@ -8,7 +8,7 @@ use native.Mathlib.Omega.{arith}
 use lib.Dec.{eqb, leb, ltb}
 use lib.ListN.{length, getD}
 use Rattle.wire.specs.Bytes.{word16}
-use borrow.Author.Tests.{eqb-true, eqb-false, ne-eqb}
+use borrow.Author.Tests.{eqb-true, eqb-false, ne-eqb, not-true}
 use Rattle.bitset.specs.Set.{contains}
 use Rattle.bitset.proofs.Laws.{contains-empty, some-member}
 use Rattle.model.specs.declared.Monitor.{Monitor}
@@ -138,14 +138,10 @@ none-fired n fired w = elim (split (eqb fired 0)) [
   | inr e ↦ elim (split (allBelow n (λ i. not (contains fired i)))) [
     | inl p ↦
         let m = some-member fired (eqb-false _ _ e) in
-        clash (m .1) (opposite (contains fired (m .0)) (all-at n _ p (m .0) (w (m .0) (m .1))))
+        clash (m .1) (not-true (contains fired (m .0)) (all-at n _ p (m .0) (w (m .0) (m .1))))
     | inr p ↦ e ∙ sym p
   ]
 ]
-  where
-    opposite : (b : Bool) → So (not b) → b ≡ false
-    opposite true e = sym e
-    opposite false e = refl
 
 -- the verdict of a stored monitor is that of what it shows
 pub verdict-same : (C : Abstract) (p : ℕ) (m : Monitor) → p ≡ C .prechart → Fit C (monitorAt m) → verdictBy p m ≡ verdictOf C (monitorAt m)

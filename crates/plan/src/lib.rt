@@ -46,6 +46,8 @@ pub const SLOTS: usize = 256;
 
 const SPREAD: u64 = 0x9E37_79B1;
 
+const HIGHEST_BYTE: u64 = 0x100_0000;
+
 // A compiled chart: each region's key, the regions above it, the clocks that it resets, and four words of terms.
 pub struct Plan {
     pub head: Head,
@@ -318,7 +320,7 @@ pub fn slot_of(code: u64) -> usize
     ensures value { λ r. ⌜ r ≡ slotOf code ⌝ }
     ensures bound { λ r. ⌜ r < slotCount ⌝ }
 {
-    ((code % BIAS * SPREAD) % BIAS / 0x100_0000) as usize
+    ((code % BIAS * SPREAD) % BIAS / HIGHEST_BYTE) as usize
 }
 
 // For each slot the set of the regions whose key has it.

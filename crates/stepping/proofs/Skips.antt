@@ -1,15 +1,16 @@
 -- The search for the first number that passes a test, by a set of numbers that are skipped. Assumes nothing.
 use mathlib.Core.Path.{_≡_, refl, sym, _∙_}
-use mathlib.Core.Bool.{Bool, true, false, not, So, _&&_, _||_, or-true, and-false}
+use mathlib.Core.Bool.{Bool, true, false, not, So, _&&_, or-true, and-false}
 use mathlib.Core.Logic.{_⊎_, inl, inr}
 use mathlib.Core.List.{List}
 use Prim.Native.Nat.{ℕ, _≤_, _<_}
 use native.Mathlib.Decide.{decLt, ℕ-discrete}
 use native.Mathlib.Omega.{arith}
-use borrow.Author.Tests.{eq-eqb, ne-eqb}
+use borrow.Author.Tests.{eq-eqb, ne-eqb, not-true, not-false}
 use lib.Dec.{eqb}
 use lib.ListN.{getD}
 use Rattle.bitset.specs.Set.{contains, inserted, union, isSubset}
+use Rattle.bitset.proofs.Bools.{neither}
 use Rattle.bitset.proofs.Laws.{contains-union, contains-inserted}
 use Rattle.rounds.proofs.Facts.{split, clash, or-cases}
 use Rattle.stepping.specs.Parts.{readyBy, Covers}
@@ -67,18 +68,6 @@ module _ {n : ℕ} {t : ℕ → Bool} {first s i : ℕ} (S : Skips n t first s i
 fired-not : (a b : Bool) {f : Bool} → So f → (a && (not f && b)) ≡ false
 fired-not a b h = rw h (and-false a)
 
-opposite : (b : Bool) → not b ≡ true → b ≡ false
-opposite true x = sym x
-opposite false x = refl
-
-double : (b : Bool) → not b ≡ false → b ≡ true
-double true e = refl
-double false e = sym e
-
-neither : (a b : Bool) → (a || b) ≡ false → (a ≡ false) × (b ≡ false)
-neither true b e = clash {b = true} refl e
-neither false b e = (refl, e)
-
 -- s has the fired numbers and those that are not of p
 pub record Apart (fired p s : ℕ) : Type 0 where
   pub inside : (j : ℕ) → j < 32 → So (contains s j) → So (contains fired j) ⊎ (contains p j ≡ false)
@@ -88,11 +77,11 @@ pub apart : (fired p o s : ℕ) → ((i : ℕ) → i < 32 → contains o i ≡ n
 apart fired p o s h e = record {
   inside = λ j l m. elim (or-cases (contains fired j) (contains o j) (sym (contains-union fired o j) ∙ rw (← e) m)) [
     | inl f ↦ inl f
-    | inr q ↦ inr (opposite (contains p j) (sym (h j l) ∙ q))
+    | inr q ↦ inr (not-true (contains p j) (sym (h j l) ∙ q))
   ];
   outside = λ j l m.
       let q = neither (contains fired j) (contains o j) (sym (contains-union fired o j) ∙ rw (← e) m) in
-      (q .0, double (contains p j) (sym (h j l) ∙ q .1));
+      (q .0, not-false (contains p j) (sym (h j l) ∙ q .1));
 }
 
 pub ready-is : (above : List ℕ) (fired i : ℕ) → contains fired i ≡ false → readyBy above fired i ≡ isSubset (getD above i 0) fired
@@ -124,8 +113,8 @@ module _ {count : ℕ} {keys : List ℕ} {code among : ℕ} (W : Covers count ke
   -- what the search for any region of a message starts with
   pub known-start : (o : ℕ) → ((i : ℕ) → i < 32 → contains o i ≡ not (contains among i))
       → (j : ℕ) → j < count → So (contains o j) → eqb (getD keys j 0) code ≡ false
-  known-start o h j l m = not-covered j l (opposite (contains among j) (sym (h j (omega (arith, W .within .few))) ∙ m))
+  known-start o h j l m = not-covered j l (not-true (contains among j) (sym (h j (omega (arith, W .within .few))) ∙ m))
 
   -- what is not skipped by it is among the regions
   pub known-left : (o : ℕ) → ((i : ℕ) → i < 32 → contains o i ≡ not (contains among i)) → (j : ℕ) → j < 32 → contains o j ≡ false → j < count
-  known-left o h j l m = W .within .own j (double (contains among j) (sym (h j l) ∙ m))
+  known-left o h j l m = W .within .own j (not-false (contains among j) (sym (h j l) ∙ m))

@@ -1,7 +1,7 @@
 -- The test of a term's word by the clocks that it names is its test by every clock's value. Assumes nothing.
-use mathlib.Core.Path.{_≡_, refl, sym, ap, ap₂, fun-ext}
+use mathlib.Core.Path.{_≡_, sym, ap, ap₂, fun-ext}
 use mathlib.Core.Logic.{_⊎_, inl, inr}
-use mathlib.Core.Bool.{Bool, true, false, not, cond, _&&_}
+use mathlib.Core.Bool.{Bool, true, not, cond, and-true, and-false}
 use mathlib.Core.List.{List}
 use Prim.Native.Nat.{ℕ, _+_, _*_, _-_, _/_, _%_, _≤_, _<_}
 use native.Mathlib.Decide.{ℕ-discrete}
@@ -16,33 +16,22 @@ use Rattle.stepping.specs.declared.Head.{Head}
 use Rattle.stepping.specs.View.{bias, lowerPlace, upperPlace, boundOf, firstOf, secondOf, bounded, holdsBy, conditionBy, InChart, Compiled, momentsOf}
 use Rattle.stepping.specs.Parts.{valueAt, Testable}
 
--- the sums of a word's test, by the side that they fall on
-pub below-bound : (w x y : ℕ) → x < y → not (eqb (w / lowerPlace % 2) 1) ≡ bounded w x y
-below-bound w x y l = rw (lt-ltb x y l, le-ltb y x (omega arith)) (by (eqb (w / upperPlace % 2) 1) (eqb (w / lowerPlace % 2) 1))
-  where
-    by : (u v : Bool) → not v ≡ (not (u && false) && not (v && true))
-    by true true = refl
-    by true false = refl
-    by false true = refl
-    by false false = refl
+-- the test of a word, by the side that its sums fall on
+module _ (w x y : ℕ) where
+  abbrev upper : Bool
+  upper = eqb (w / upperPlace % 2) 1
 
-pub above-bound : (w x y : ℕ) → y < x → not (eqb (w / upperPlace % 2) 1) ≡ bounded w x y
-above-bound w x y l = rw (lt-ltb y x l, le-ltb x y (omega arith)) (by (eqb (w / upperPlace % 2) 1) (eqb (w / lowerPlace % 2) 1))
-  where
-    by : (u v : Bool) → not u ≡ (not (u && true) && not (v && false))
-    by true true = refl
-    by true false = refl
-    by false true = refl
-    by false false = refl
+  abbrev lower : Bool
+  lower = eqb (w / lowerPlace % 2) 1
 
-pub at-bound : (w x y : ℕ) → y ≤ x → x ≤ y → true ≡ bounded w x y
-at-bound w x y l m = rw (le-ltb y x m, le-ltb x y l) (by (eqb (w / upperPlace % 2) 1) (eqb (w / lowerPlace % 2) 1))
-  where
-    by : (u v : Bool) → true ≡ (not (u && false) && not (v && false))
-    by true true = refl
-    by true false = refl
-    by false true = refl
-    by false false = refl
+  pub below-bound : x < y → not (eqb (w / lowerPlace % 2) 1) ≡ bounded w x y
+  below-bound l = rw (lt-ltb x y l, le-ltb y x (omega arith), and-false upper, and-true lower)
+
+  pub above-bound : y < x → not (eqb (w / upperPlace % 2) 1) ≡ bounded w x y
+  above-bound l = rw (lt-ltb y x l, le-ltb x y (omega arith), and-true upper, and-false lower) (sym (and-true (not upper)))
+
+  pub at-bound : y ≤ x → x ≤ y → true ≡ bounded w x y
+  at-bound l m = rw (le-ltb y x m, le-ltb x y l, and-false upper, and-false lower)
 
 -- the word's term holds, by the moments
 unfoldable pub heldAt : ℕ → ℕ → List Moment → Bool
