@@ -1,13 +1,13 @@
 -- A chart that some accepted bytes give shows an accepted abstract chart. Assumes nothing.
 use mathlib.Core.Path.{_≡_, refl, sym, ap, _∙_}
 use mathlib.Core.Logic.{_≢_, _⊎_, inl, inr, _↔_}
-use mathlib.Core.Bool.{Bool, true, false, So, cond}
+use mathlib.Core.Bool.{Bool, true, false, So, cond, not, _&&_, _||_, false≢true}
 use mathlib.Core.List.{List}
 use Prim.Native.Nat.{ℕ, _≤_, _<_}
 use native.Mathlib.Omega.{arith}
 use native.Mathlib.Decide.{decLt}
-use lib.Dec.{ltb}
-use borrow.Author.Tests.{ltb-true, lt-ltb, le-ltb}
+use lib.Dec.{ltb, leb, eqb}
+use borrow.Author.Tests.{ltb-true, lt-ltb, le-ltb, lt-leb}
 use Rattle.bitset.specs.Set.{contains}
 use Rattle.bitset.proofs.Bools.{both, and-both}
 use Rattle.bitset.proofs.Laws.{member-lt, contains-empty}
@@ -33,6 +33,10 @@ codes-tell m n a b c d e =
     let y : m .destination ≡ n .destination = omega arith in
     let z : m .label ≡ n .label = omega arith in
     λ i. record { source = x i; destination = y i; label = z i }
+
+cold : (hot main term : Bool) → main ≡ false → (not hot || (main && term)) ≡ true → hot ≡ false
+cold true main term m e = absurd (false≢true (rw m at e))
+cold false main term m e = refl
 
 module _ (c : Chart) (w : WellFormed c) where
   order : (a b : ℕ) → So (chartOf c .above a b) ↔ ((b < c .count) × AboveIn c a b)
@@ -68,6 +72,12 @@ module _ (c : Chart) (w : WellFormed c) where
   plain-key i h (event.Plain l) e q = plain-below c w i l h e
   plain-key i h (event.Message m) e q = absurd (omega arith)
 
+  cold-prechart : (i : ℕ) → i < c .prechart → regionOf c i .hot ≡ false
+  cold-prechart i h =
+      let k : i < c .count = omega (arith, w .main) in
+      ap (λ (g : Region). g .hot) (inside i k)
+      ∙ cold (regionAt c i .hot) (leb (c .prechart) i) (not (eqb (regionAt c i .«term_count») 0)) (lt-leb (c .prechart) i h) (fits-at c w i k .hot)
+
   own-clocks : (i k : ℕ) → So (contains (regionOf c i .resets) k) → k < c .clocks
   own-clocks i k e = by (decLt i (c .count))
     where
@@ -94,6 +104,7 @@ module _ (c : Chart) (w : WellFormed c) where
         plain-below = λ i h q.
             let r = plain-key i h (regionAt c i .event) refl (rw (inside i h) at q) in (r .0, order (r .0) i .1 (h, r .1));
         has-main = w .main;
+        cold-prechart = cold-prechart;
         own-clocks = own-clocks;
       }
     where

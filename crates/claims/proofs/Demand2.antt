@@ -13,10 +13,10 @@ use Rattle.rounds.specs.Base.{Snoc, _▸_}
 use Rattle.rounds.specs.Chart.{Accepted}
 use Rattle.rounds.specs.Rows.{chartMessages}
 use Rattle.rounds.specs.Feeds.{Answer as Told}
-use Rattle.rounds.specs.Machine.{Monitor as AbstractMonitor, Step as AbstractStep, answers}
-use Rattle.runs.specs.Paper.{Letter, IsCut, configAt, lastOf, Consumes}
+use Rattle.rounds.specs.Machine.{Monitor as AbstractMonitor, Step as AbstractStep, answers, Fit}
+use Rattle.runs.specs.Paper.{IsCut, configAt, lastOf}
 use Rattle.runs.specs.Taken.{Taken, statusOf, Read}
-use Rattle.runs.specs.Demand2.{Demand2, CompletedBy}
+use Rattle.runs.specs.Demand2.{Demand2, CompletedBy, Reaches, Decided}
 use Rattle.runs.proofs.Demand2.{demand-2}
 use Rattle.monitor.specs.Feed.{logRecord}
 use Rattle.monitor.specs.Runs.{logged}
@@ -34,6 +34,8 @@ module _ (c : Chart) (wf : wellFormed c ≡ true) (A : Accepted (chartOf c)) whe
     record-taken = λ m e r P q.
         subst (λ (x : AbstractStep). Taken (chartOf c) (statusOf (chartOf c) (monitorAt m)) (logRecord e) (statusOf (chartOf c) (x .next)) (x .answer))
         (sym (q ∙ fed-fit c wf A m e (P .fit))) (D .given (monitorAt m) (logRecord e) P);
+    record-fit = λ m e r P q.
+        subst (λ (x : AbstractStep). Fit (chartOf c) (x .next)) (sym (q ∙ fed-fit c wf A m e (P .fit))) (D .stays-fit (monitorAt m) (logRecord e) P);
     record-only = λ m e r P q y a T.
         let p = sym (q ∙ fed-fit c wf A m e (P .fit)) in
         let o = D .only (monitorAt m) (logRecord e) P y a T in
@@ -45,16 +47,22 @@ module _ (c : Chart) (wf : wellFormed c ≡ true) (A : Accepted (chartOf c)) whe
     cut = λ {es} {told} {m} q.
         subst (λ (x : AbstractMonitor). IsCut (chartOf c) (x .at .fired)) (sym (goes c wf A q .monitor)) (D .monitor-is-cut (logged es));
     round = λ {es} {told} {m} q M o s l.
-        subst (λ (x : AbstractMonitor). (w : Snoc Letter) × Consumes (chartOf c) o (chartMessages (chartOf c) s) w (configAt (chartOf c) (lastOf o (chartMessages (chartOf c) s)) (x .at)))
-        (sym (goes c wf A q .monitor)) (D .round-is-run M o s l);
+        subst (λ (x : AbstractMonitor). Reaches (chartOf c) o s (configAt (chartOf c) (lastOf o (chartMessages (chartOf c) s)) (x .at)))
+        (sym (goes c wf A q .monitor)) (D .round-is-prompt M o s l);
+    decided = λ {es} {told} {m} q M o s l e r h n.
+        let p = step-after c wf A (goes c wf A q) e r h in
+        subst (λ (x : AbstractStep). Decided (chartOf c) o s (logRecord e) (x .answer)) (sym p) (D .decided M o s (logRecord e) l n);
     entered-satisfies = λ {es} {told} {m} q M o s l e r h a.
         let p = step-after c wf A (goes c wf A q) e r h in
-        subst (λ (x : AbstractStep). (w : Snoc Letter) × Consumes (chartOf c) o (chartMessages (chartOf c) (s ▸ logRecord e)) w (configAt (chartOf c) (logRecord e .time) (x .next .at))
-        × CompletedBy (chartOf c) (chartOf c .prechart) w) (sym p)
+        subst (λ (x : AbstractStep). (P : Reaches (chartOf c) o (s ▸ logRecord e) (configAt (chartOf c) (logRecord e .time) (x .next .at)))
+        × CompletedBy (chartOf c) (chartOf c .prechart) (P .letters)) (sym p)
         (D .entered-satisfies M o s (logRecord e) l (sym (ap (λ (x : AbstractStep). x .answer) p) ∙ a));
     kept-satisfies = λ {es} {told} {m} q M o s l e r h a.
         let p = step-after c wf A (goes c wf A q) e r h in
         D .kept-satisfies M o s (logRecord e) l (sym (ap (λ (x : AbstractStep). x .answer) p) ∙ a);
+    broken-violates = λ {es} {told} {m} q M o s l e r h n k a.
+        let p = step-after c wf A (goes c wf A q) e r h in
+        D .broken-violates M o s (logRecord e) l n k (sym (ap (λ (x : AbstractStep). x .answer) p) ∙ a);
   }
 
 -- of every chart that is read

@@ -1,37 +1,56 @@
--- Whole rounds after a list of feeds: the running one is a run to the monitor's configuration; where a record is answered entered or
--- kept, the round's word satisfies the prechart or the chart. Times never fall, so that the rows are chains. Assumes nothing.
-use mathlib.Core.Path.{_≡_, refl, sym, ap, _∙_}
-use mathlib.Core.Logic.{_≢_, inl, inr}
+-- Whole rounds after a list of feeds: the running one is a prompt run to the monitor's configuration; what the next record is answered, the
+-- prompt runs over the round's word decide; where it is entered, kept or broken, the word satisfies the prechart or the chart, or violates
+-- it. Times never fall, so that the rows are prompt runs. Assumes nothing.
+use mathlib.Core.Path.{_≡_, refl, sym, ap, ap₂, _∙_}
+use mathlib.Core.Logic.{_≢_, _↔_, inl, inr}
+use mathlib.Core.Bool.{Bool, true, false, not, cond, So, _&&_}
 use mathlib.Core.Option.{none, some}
-use Prim.Native.Nat.{ℕ, _-_, _≤_}
+use Prim.Native.Nat.{ℕ, _-_, _≤_, _<_}
 use native.Mathlib.Omega.{arith}
 use lib.Dec.{ltb}
 use borrow.Author.Tests.{ltb-false}
 use Rattle.rounds.specs.Base.{Snoc, ε, _▸_}
 use Rattle.rounds.specs.Chart.{Chart, Accepted}
-use Rattle.rounds.specs.Rows.{LogRecord, Row, stands, chartMessage, chartMessages, Lawful, PrechartDone}
-use Rattle.rounds.specs.Feeds.{timeFalls, lastMoment, refusal, kept, dropped, broken, Outcome, Stretch, Last, unended, behindBreak, behind, Answer, refused, toldKept, entered, Onward, completes-prechart, fires, stays, FedOne, refuses, runs-on, ends, again, Fed, none-yet, one-more}
-use Rattle.rounds.specs.Machine.{Place, Monitor, Step, goOn, keepRound, dropRound, breakRound, feed, after}
-use Rattle.rounds.specs.Demand3.{Unbroken, AtLast, Meaning}
-use Rattle.rounds.proofs.Facts.{split, found, none-some}
+use Rattle.rounds.specs.Rows.{LogRecord, Row, stands, chartMessage, chartMessages, Lawful, NoRow, Full, PrechartDone}
+use Rattle.rounds.specs.Feeds.{timeFalls, lastMoment, refusal, kept, dropped, broken, Outcome, Stretch, Last, unended, behindBreak, behind, Answer, refused, toldBroken, toldKept, toldDropped, entered, moved, quiet, saysDroppedOrBroken, Onward, completes-prechart, fires, stays, FedOne, refuses, runs-on, ends, again, Fed, none-yet, one-more, Exactly}
+use Rattle.rounds.specs.Machine.{Place, Move, stuck, fails, rests, place, prechartDone, full, Monitor, Step, goOn, keepRound, dropRound, breakRound, conclude, accept, feed, after}
+use Rattle.rounds.specs.Demand3.{Unbroken, AtLast}
+use Rattle.rounds.proofs.Facts.{split, found, none-some, clash}
+use Rattle.rounds.proofs.Machine.{done-true}
 use Rattle.rounds.proofs.Moments.{chartMessages-take, chartMessages-skip}
 use Rattle.rounds.proofs.Rows.{lawful-before, one-row}
 use Rattle.rounds.proofs.Rounds.{placeOf}
-use Rattle.rounds.proofs.Endings.{Comes, on, keeps, drops, breaks}
+use Rattle.rounds.proofs.Endings.{ended, Comes, on, keeps, drops, breaks}
 use Rattle.rounds.proofs.Feeds.{feed-unbroken, comes-unbroken, agrees}
 use Rattle.rounds.proofs.Exactly.{exactly}
 use Rattle.rounds.proofs.Fitness.{after-fit}
-use Rattle.runs.specs.Paper.{Config, Letter, delay, message, IsCut, configAt, configOf, lastOf, Rising, spelled, Consumes}
-use Rattle.runs.specs.Demand2.{CompletedBy}
-use Rattle.runs.proofs.Words.{chain-run, full-completes, message-completes}
-use Rattle.runs.proofs.Chains.{shown, row-step, row-is-chain}
+use Rattle.runs.specs.Paper.{Config, Letter, delay, message, initial, _·_, strip, IsCut, Maximal, Prompt, Over, configAt, configOf, lastOf, Rising, spelled}
+use Rattle.runs.specs.Demand2.{CompletedBy, word, Reaches, Decided, Violated}
+use Rattle.runs.proofs.Parts.{Failure, at-once, later}
+use Rattle.runs.proofs.Prompts.{prompt-run, goes-on, silents-prompt}
+use Rattle.runs.proofs.Steps.{failure-of}
+use Rattle.runs.proofs.Words.{run-is-cut, full-completes, message-completes, done-satisfies, main-follows}
+use Rattle.runs.proofs.Chains.{shown, past, row-step, row-is-prompt, prompt-is-row}
+
+dropped-broken : {X : Type 0} {n k : ℕ} → toldDropped ≡ toldBroken n k → X
+dropped-broken p = absurd (let z : _≡_ {A = ℕ} 0 1 = cc in omega arith)
+
+kept-broken : {X : Type 0} {n k : ℕ} → toldKept ≡ toldBroken n k → X
+kept-broken p = absurd (let z : _≡_ {A = ℕ} 0 1 = cc in omega arith)
+
+onward-broken : {X : Type 0} (b : Bool) {n k : ℕ} → cond b entered moved ≡ toldBroken n k → X
+onward-broken true p = absurd (let z : _≡_ {A = ℕ} 0 1 = cc in omega arith)
+onward-broken false p = absurd (let z : _≡_ {A = ℕ} 0 1 = cc in omega arith)
+
+quiet-broken : {X : Type 0} {n k : ℕ} → quiet ≡ toldBroken n k → X
+quiet-broken p = absurd (let z : _≡_ {A = ℕ} 0 1 = cc in omega arith)
 
 -- the stretch s with its lawful row q, and one more record e
 module _ (C : Chart) (A : Accepted C) (o : ℕ) (s : Snoc LogRecord) (e : LogRecord) (q : Row) (lawful : Lawful C o s q)
     (rising : Rising o (chartMessages C (s ▸ e))) where
-  -- the round's word leads to place p, and its last message completes the prechart
+  -- a prompt run over the round's word leads to place p, and its last message completes the prechart
   abbrev Enters : Place → Type 0
-  Enters p = (w : Snoc Letter) × Consumes C o (chartMessages C (s ▸ e)) w (configAt C (e .time) p) × CompletedBy C (C .prechart) w
+  Enters p = (P : Reaches C o (s ▸ e) (configAt C (e .time) p)) × CompletedBy C (C .prechart) (P .letters)
 
   rows-enter : (r : Row) → Lawful C o (s ▸ e) r → ¬ PrechartDone C (stands q) → PrechartDone C (stands r)
       → Enters (placeOf C o (chartMessages C (s ▸ e)) r)
@@ -39,14 +58,16 @@ module _ (C : Chart) (A : Accepted C) (o : ℕ) (s : Snoc LogRecord) (e : LogRec
   rows-enter r L undone done = elim (split (chartMessage C e)) [
     | inl h ↦
         let R : Rising o (chartMessages C s ▸ e) = rw (chartMessages-take C s e h) at rising in
-        let K = chain-run C (row-is-chain C A o s q (R .0) lawful) in
+        let K = row-is-prompt C A o s q (R .0) lawful in
         let d : ℕ = e .time - lastOf o (chartMessages C s) in
-        let W = message-completes C A d (e .code) (K .1 .run) undone (row-step C A o s e q r h R lawful L) done in (
-          W .0,
+        let M = row-step C A o s e q r h R lawful L in
+        let W = message-completes C A d (e .code) (K .run) undone M done in (
           record {
-            letters = W .1 ∙ ap {B = Snoc Letter} (λ (v : Snoc Letter). v ▸ delay d ▸ message (e .code)) (K .1 .letters)
+            letters = W .0;
+            spells = W .1 ∙ ap {B = Snoc Letter} (λ (v : Snoc Letter). v ▸ delay d ▸ message (e .code)) (K .spells)
                 ∙ sym (ap (spelled o) (chartMessages-take C s e h));
             run = W .2;
+            rests = M .rests;
           },
           W .3,
         )
@@ -65,6 +86,37 @@ module _ (C : Chart) (A : Accepted C) (o : ℕ) (s : Snoc LogRecord) (e : LogRec
   comes-enter m (keeps E) p = absurd (let z : _≡_ {A = ℕ} 0 1 = cc in omega arith)
   comes-enter m (drops E) p = absurd (let z : _≡_ {A = ℕ} 0 1 = cc in omega arith)
   comes-enter m (breaks k d E) p = absurd (let z : _≡_ {A = ℕ} 0 1 = cc in omega arith)
+
+  -- entered, by the rows
+  abbrev EntersRow : Type 0
+  EntersRow = (r : Row) × Lawful C o (s ▸ e) r × (¬ Full C (stands r)) × PrechartDone C (stands r) × (¬ PrechartDone C (stands q))
+
+  onward-entered : (r : Row) (a : Answer) → Lawful C o (s ▸ e) r → ¬ Full C (stands r) → Onward C q r a → (a ≡ entered) ↔ EntersRow
+  onward-entered r a L nf (completes-prechart undone done) = (λ p. (r, L, nf, done, undone), λ t. refl)
+  onward-entered r a L nf (fires lt f) = (
+    λ p. absurd (let z : _≡_ {A = ℕ} 0 1 = cc in omega arith),
+    λ t. absurd (t .4 (f (rw (one-row C A o (s ▸ e) (t .0) r (t .1) L) at (t .3)))),
+  )
+  onward-entered r a L nf (stays h) = (
+    λ p. absurd (let z : _≡_ {A = ℕ} 0 1 = cc in omega arith),
+    λ t. absurd (t .4 (rw (one-row C A o (s ▸ e) (t .0) r (t .1) L ∙ sym h) at (t .3))),
+  )
+
+  comes-entered : (m : Monitor) {v : Step} → Comes C A o s e q lawful m v → (v .answer ≡ entered) ↔ EntersRow
+  unfolding goOn keepRound dropRound breakRound
+  comes-entered m (on r a L nf O) = onward-entered r a L nf O
+  comes-entered m (keeps E) = (
+    λ p. absurd (let z : _≡_ {A = ℕ} 0 1 = cc in omega arith),
+    λ t. ended C A o s e q lawful E (t .0) (t .1) (t .2),
+  )
+  comes-entered m (drops E) = (
+    λ p. absurd (let z : _≡_ {A = ℕ} 0 1 = cc in omega arith),
+    λ t. ended C A o s e q lawful E (t .0) (t .1) (t .2),
+  )
+  comes-entered m (breaks k d E) = (
+    λ p. absurd (let z : _≡_ {A = ℕ} 0 1 = cc in omega arith),
+    λ t. ended C A o s e q lawful E (t .0) (t .1) (t .2),
+  )
 
 -- the chart messages' times never fall either
 module _ (C : Chart) (o : ℕ) where
@@ -118,6 +170,15 @@ module _ (C : Chart) where
     pub monitor-is-cut : (fs : Snoc LogRecord) → IsCut C (after C fs .at .fired)
     monitor-is-cut fs = record { within = after-fit C A fs .within; closed = after-fit C A fs .closed }
 
+    -- a prompt run's cut is maximal if it has every region
+    maximal-of : {w : Snoc Letter} {z : Config} → Over C initial w z → Full C (z .cut) → Maximal C (C .regions) (z .cut)
+    unfolding Full Maximal
+    maximal-of P F = λ i. (run-is-cut C (prompt-run C (P .run)) .within i, F i)
+
+    full-of : (z : Config) → Maximal C (C .regions) (z .cut) → Full C (z .cut)
+    unfolding Full Maximal
+    full-of z M = λ i. M i .1
+
     module _ {fs : Snoc LogRecord} {ans : Snoc Answer} {rs : Snoc LogRecord} {es : Snoc Stretch} {o : ℕ} {s : Snoc LogRecord}
         (F : Fed C fs ans rs es (unended o s)) where
       rising : Rising o s
@@ -133,11 +194,11 @@ module _ (C : Chart) where
       unfolding AtLast
       stands-at = agrees C A F .1 .at-last
 
-      pub round-is-run : (w : Snoc Letter) × Consumes C o (chartMessages C s) w (configAt C (lastOf o (chartMessages C s)) (after C fs .at))
+      pub round-is-prompt : Reaches C o s (configAt C (lastOf o (chartMessages C s)) (after C fs .at))
       unfolding configAt configOf
-      round-is-run =
+      round-is-prompt =
           let T : Unbroken C o s (after C fs) = stands-at in
-          rw (T .has-fired, T .has-clocks) (chain-run C (row-is-chain C A o s (T .row) (messages-rising C o s rising) (T .lawful)))
+          rw (T .has-fired, T .has-clocks) (row-is-prompt C A o s (T .row) (messages-rising C o s rising) (T .lawful))
 
       -- a record answered otherwise is not refused
       not-refused : (e : LogRecord) (a : Answer) → ((k : ℕ) → refused k ≢ a) → feed C (after C fs) e .answer ≡ a → refusal rs e ≡ none
@@ -146,20 +207,182 @@ module _ (C : Chart) where
         | inr f ↦ absurd (n (f .0) (rw (feed-unbroken C (after C fs) e (agrees C A F .1), f .1) at p))
       ]
 
+      exactly-here : (e : LogRecord) → refusal rs e ≡ none → Exactly C o s e (feed C (after C fs) e .answer)
+      exactly-here e h = exactly C A (record { told = ans; accepted = rs; stretches = es; last = unended o s; fed = F }) o s e refl h
+
       pub kept-satisfies : (e : LogRecord) → feed C (after C fs) e .answer ≡ toldKept
-          → (w : Snoc Letter) × (z : Config) × Consumes C o (chartMessages C (s ▸ e)) w z × CompletedBy C (C .regions) w
+          → (z : Config) × (P : Reaches C o (s ▸ e) z) × CompletedBy C (C .regions) (P .letters)
       unfolding configOf
       kept-satisfies e p =
           let h : refusal rs e ≡ none = not-refused e toldKept (λ k u. absurd (let z : _≡_ {A = ℕ} 0 1 = cc in omega arith)) p in
-          let M : Meaning C fs = record { told = ans; accepted = rs; stretches = es; last = unended o s; fed = F } in
-          let E = exactly C A M o s e refl h .kept-exactly .0 p in
-          let T = chain-run C (row-is-chain C A o (s ▸ e) (E .0) (rising-on e h) (E .1)) in
-          (T .0, shown C o (s ▸ e) (E .0), T .1, full-completes C (T .1 .run) (E .2))
+          let E = exactly-here e h .kept-exactly .0 p in
+          let P = row-is-prompt C A o (s ▸ e) (E .0) (rising-on e h) (E .1) in
+          (shown C o (s ▸ e) (E .0), P, full-completes C (prompt-run C (P .run)) (E .2))
+
+      -- what an accepted record comes to
+      comes-here : (e : LogRecord) → refusal rs e ≡ none
+          → Comes C A o s e (stands-at .row) (stands-at .lawful) (after C fs) (feed C (after C fs) e)
+      comes-here e h = rw (feed-unbroken C (after C fs) e (agrees C A F .1), h) (comes-unbroken C A e (after C fs) stands-at)
 
       pub entered-satisfies : (e : LogRecord) → feed C (after C fs) e .answer ≡ entered
-          → (w : Snoc Letter) × Consumes C o (chartMessages C (s ▸ e)) w (configAt C (e .time) (feed C (after C fs) e .next .at))
-          × CompletedBy C (C .prechart) w
+          → (P : Reaches C o (s ▸ e) (configAt C (e .time) (feed C (after C fs) e .next .at))) × CompletedBy C (C .prechart) (P .letters)
       entered-satisfies e p =
           let h : refusal rs e ≡ none = not-refused e entered (λ k u. absurd (let z : _≡_ {A = ℕ} 0 1 = cc in omega arith)) p in
-          comes-enter C A o s e (stands-at .row) (stands-at .lawful) (rising-on e h) (after C fs) {v = feed C (after C fs) e}
-          (rw (feed-unbroken C (after C fs) e (agrees C A F .1), h) (comes-unbroken C A e (after C fs) stands-at)) p
+          comes-enter C A o s e (stands-at .row) (stands-at .lawful) (rising-on e h) (after C fs) {v = feed C (after C fs) e} (comes-here e h) p
+
+      -- rows and prompt runs of this stretch
+      module _ (e : LogRecord) (h : refusal rs e ≡ none) where
+        abbrev up : Snoc LogRecord → Row → Config
+        up t r = shown C o t r
+
+        to-run : (r : Row) → Lawful C o (s ▸ e) r → Reaches C o (s ▸ e) (up (s ▸ e) r)
+        to-run r L = row-is-prompt C A o (s ▸ e) r (rising-on e h) L
+
+        to-row : (z : Config) → Reaches C o (s ▸ e) z → (r : Row) × Lawful C o (s ▸ e) r × (z .cut ≡ stands r)
+        unfolding configOf
+        to-row z P =
+            let W = prompt-is-row C A o (s ▸ e) z (rising-on e h) P in
+            (W .0, W .1, ap {B = ℕ → Bool} (λ (x : Config). x .cut) (W .2))
+
+        before-run : Reaches C o s (up s (stands-at .row))
+        before-run = row-is-prompt C A o s (stands-at .row) (messages-rising C o s rising) (stands-at .lawful)
+
+        before-row : (y : Config) → Reaches C o s y → y .cut ≡ stands (stands-at .row)
+        unfolding configOf
+        before-row y P =
+            let W = prompt-is-row C A o s y (messages-rising C o s rising) P in
+            ap {B = ℕ → Bool} (λ (x : Config). x .cut) (W .2) ∙ ap stands (one-row C A o s (W .0) (stands-at .row) (W .1) (stands-at .lawful))
+
+        pub decided : Decided C o s e (feed C (after C fs) e .answer)
+        unfolding NoRow configOf
+        decided =
+            let X : Exactly C o s e (feed C (after C fs) e .answer) = exactly-here e h in
+            let Y = comes-entered C A o s e (stands-at .row) (stands-at .lawful) (rising-on e h) (after C fs) {v = feed C (after C fs) e} (comes-here e h) in
+            record {
+              kept-exactly = (
+                λ p. let E = X .kept-exactly .0 p in (up (s ▸ e) (E .0), to-run (E .0) (E .1), maximal-of (to-run (E .0) (E .1)) (E .2)),
+                λ t. let W = to-row (t .0) (t .1) in X .kept-exactly .1 (W .0, W .1, rw (W .2) at (full-of (t .0) (t .2))),
+              );
+              runs-on-exactly = (
+                λ p.
+                    let E = X .runs-on-exactly .0 p in
+                    (up (s ▸ e) (E .0), to-run (E .0) (E .1), λ M. E .2 (full-of (up (s ▸ e) (E .0)) M)),
+                λ t.
+                    let W = to-row (t .0) (t .1) in
+                    X .runs-on-exactly .1 (W .0, W .1, λ f. t .2 (maximal-of (t .1) (rw (← (W .2)) at f))),
+              );
+              entered-exactly = (
+                λ p.
+                    let E = Y .0 p in (
+                      up (s ▸ e) (E .0),
+                      to-run (E .0) (E .1),
+                      λ M. E .2 (full-of (up (s ▸ e) (E .0)) M),
+                      E .3,
+                      up s (stands-at .row),
+                      before-run,
+                      E .4,
+                    ),
+                λ t.
+                    let W = to-row (t .0) (t .1) in
+                    let b = before-row (t .4) (t .5) in
+                    Y .1 (W .0, W .1, λ f. t .2 (maximal-of (t .1) (rw (← (W .2)) at f)), rw (W .2) at (t .3), rw b at (t .6)),
+              );
+              dropped-or-broken-exactly = (
+                λ p z P. let W = to-row z P in X .dropped-or-broken-exactly .0 p (W .0) (W .1),
+                λ n. X .dropped-or-broken-exactly .1 (λ r L. n (up (s ▸ e) r) (to-run r L)),
+              );
+            }
+
+      -- a broken round
+      module _ (e : LogRecord) (h : refusal rs e ≡ none) where
+        abbrev at-message : Config
+        at-message = configAt C (lastOf o (chartMessages C s)) (after C fs .at)
+
+        abbrev since : ℕ
+        since = e .time - lastOf o (chartMessages C s)
+
+        -- a prompt run over a beginning of the round's word has every prechart region
+        record Begun : Type 0 where
+          letters : Snoc Letter
+          rest : Snoc Letter
+          parts : word C o (s ▸ e) ≡ strip letters · rest
+          to : Config
+          run : Prompt C initial letters to
+          done : PrechartDone C (to .cut)
+
+        begun-before : So (chartMessage C e) → PrechartDone C (at-message .cut) → Begun
+        begun-before c D =
+            let P = round-is-prompt in
+            record {
+              letters = P .letters;
+              rest = ε ▸ delay since ▸ message (e .code);
+              parts = ap (spelled o) (chartMessages-take C s e c)
+                  ∙ ap {B = Snoc Letter} (λ (w : Snoc Letter). w ▸ delay since ▸ message (e .code)) (sym (P .spells));
+              to = at-message;
+              run = P .run;
+              done = D;
+            }
+
+        main-region : (i : ℕ) → So (C .hot i) → ¬ (i < C .prechart)
+        main-region i t l = clash t (A .cold-prechart i l)
+
+        begun-failing : So (chartMessage C e) → {i : ℕ} {y : Config} → Failure C at-message since (e .code) i y → So (C .hot i) → Begun
+        begun-failing c {i} (at-once R k f) t = begun-before c (main-follows C A (at-message .cut) i R (main-region i t))
+        begun-failing c {i} (later j R p k g y S N f) t =
+            let P = round-is-prompt in
+            let T = silents-prompt C (goes-on C since j (P .run) (P .rests) R p g) S in
+            record {
+              letters = T .0;
+              rest = ε;
+              parts = ap (spelled o) (chartMessages-take C s e c)
+                  ∙ sym (T .1 ∙ ap₂ {C = Snoc Letter} (λ (w : Snoc Letter) (n : ℕ). w ▸ delay since ▸ message n) (P .spells) k);
+              to = y;
+              run = T .2;
+              done = main-follows C A (y .cut) i (N .follows) (main-region i t);
+            }
+
+        held : (c : ℕ) → Rising o (chartMessages C s) → after C fs .at .clocks c ≤ lastOf o (chartMessages C s)
+        unfolding placeOf
+        held c R = rw (stands-at .has-clocks) (past C o (chartMessages C s) (stands-at .row) R c)
+
+        begun-move : So (chartMessage C e) → {n k : ℕ} (v : Move) → place C (after C fs .at) e ≡ v
+            → conclude C (after C fs) e v .answer ≡ toldBroken n k → Begun
+        unfolding conclude configAt dropRound keepRound goOn
+        begun-move c stuck p a = elim (split (prechartDone C (after C fs .at .fired))) [
+          | inl d ↦ begun-before c (done-true C (after C fs .at .fired) d)
+          | inr d ↦ dropped-broken (rw d at a)
+        ]
+        begun-move c (fails i q) p a = elim (split (C .hot i)) [
+          | inl t ↦
+              let R : Rising o (chartMessages C s ▸ e) = rw (chartMessages-take C s e c) at (rising-on e h) in
+              begun-failing c (failure-of C A (after C fs .at) e (lastOf o (chartMessages C s)) (λ x. held x (R .0)) (R .1) c i q p) t
+          | inr t ↦ dropped-broken (rw t at a)
+        ]
+        begun-move c (rests q) p a = elim (split (full C (q .fired))) [
+          | inl t ↦ kept-broken (rw t at a)
+          | inr t ↦ onward-broken (not (prechartDone C (after C fs .at .fired)) && prechartDone C (q .fired)) (rw t at a)
+        ]
+
+        begun : {n k : ℕ} → accept C (after C fs) e .answer ≡ toldBroken n k → Begun
+        unfolding accept goOn
+        begun a = elim (split (chartMessage C e)) [
+          | inl c ↦ begun-move c (place C (after C fs .at) e) refl (rw c at a)
+          | inr c ↦ quiet-broken (rw c at a)
+        ]
+
+        violated : {n k : ℕ} → feed C (after C fs) e .answer ≡ toldBroken n k → Violated C o (s ▸ e)
+        violated a =
+            let B : Begun = begun (rw (feed-unbroken C (after C fs) e (agrees C A F .1), h) at a) in
+            record {
+              beginning = B .letters;
+              rest = B .rest;
+              parts = B .parts;
+              end = B .to;
+              run = B .run;
+              prechart = done-satisfies C A (prompt-run C (B .run)) (B .done);
+              none-whole = decided e h .dropped-or-broken-exactly .0 (ap saysDroppedOrBroken a);
+            }
+
+      pub broken-violates : (e : LogRecord) (n k : ℕ) → feed C (after C fs) e .answer ≡ toldBroken n k → Violated C o (s ▸ e)
+      broken-violates e n k a =
+          violated e (not-refused e (toldBroken n k) (λ j u. absurd (let z : _≡_ {A = ℕ} 0 1 = cc in omega arith)) a) a
