@@ -8,6 +8,7 @@ pub mod Rounds
 pub mod Endings
 pub mod Feeds
 pub mod Cuts
+pub mod Stretches
 pub mod Exactly
 pub mod Fitness
 pub mod Demand3

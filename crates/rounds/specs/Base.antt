@@ -24,6 +24,11 @@ module _ {A : Type 0} where
   EachIn P ε = Unit {0}
   EachIn P (l ▸ a) = EachIn P l × P l a
 
+-- p is a beginning of the list, perhaps all of it
+pub data Beginning {A : Type 0} (p : Snoc A) : Snoc A → Type 0 where
+  all-of-it : Beginning p p
+  shorter : {l : Snoc A} {a : A} → Beginning p l → Beginning p (l ▸ a)
+
 abbrev pub each : {A B : Type 0} → (A → B) → Snoc A → Snoc B
 each f ε = ε
 each f (l ▸ a) = each f l ▸ f a

@@ -3,10 +3,10 @@ use mathlib.Core.Path.{_≡_}
 use mathlib.Core.Logic.{_≢_}
 use mathlib.Core.Option.{none}
 use Prim.Native.Nat.{ℕ}
-use Rattle.rounds.specs.Base.{Snoc, size}
+use Rattle.rounds.specs.Base.{Snoc, _▸_, size, EachIn, Beginning}
 use Rattle.rounds.specs.Chart.{Chart}
-use Rattle.rounds.specs.Rows.{LogRecord, Row, stands, chartMessages, resetMoment, Lawful, Full}
-use Rattle.rounds.specs.Feeds.{lastMoment, refusal, Stretch, Last, unended, behindBreak, Answer, Fed, keptAmong, droppedAmong, Exactly}
+use Rattle.rounds.specs.Rows.{LogRecord, Row, stands, chartMessages, resetMoment, Lawful, NoRow, Full, LawfulButLast}
+use Rattle.rounds.specs.Feeds.{lastMoment, refusal, Stretch, Last, unended, behindBreak, Ends, Answer, Fed, keptAmong, droppedAmong, Exactly}
 use Rattle.rounds.specs.Machine.{Monitor, feed, after, answers, Fit}
 
 -- "the break is zeros, or the number of accepted records and the broken stretch's reason": behind a broken stretch, the latter
@@ -39,6 +39,18 @@ module _ (C : Chart) where
     pub dropped : m .dropped ≡ droppedAmong es
     pub at-last : AtLast last rs m
 
+  -- up to each of these records the round runs on: a lawful row lacks a region
+  unfoldable pub RunsOn : ℕ → Snoc LogRecord → Type 0
+  RunsOn o s = (p : Snoc LogRecord) → Beginning p s → (r : Row) × Lawful C o p r × (¬ Full C (stands r))
+
+  -- an ended stretch: up to each record before its last the round ran on, and at its last it ends with its outcome
+  pub record Ended (x : Stretch) : Type 0 where
+    pub before : Snoc LogRecord
+    pub last : LogRecord
+    pub parts : x .records ≡ before ▸ last
+    pub ran-on : RunsOn (x .opening) before
+    pub ends : Ends C (x .opening) before last (x .outcome)
+
   -- What a list of feeds means: its answers, the accepted records, the ended stretches and what follows them.
   pub record Meaning (fs : Snoc LogRecord) : Type 0 where
     pub told : Snoc Answer
@@ -60,8 +72,14 @@ pub record Demand3 (C : Chart) : Type 0 where
   -- "up to each record of each of its stretches", here of the list fs and then e: the three "exactly", of what the machine answers
   pub exactly : {fs : Snoc LogRecord} (M : Meaning C fs) (o : ℕ) (s : Snoc LogRecord) (e : LogRecord) → M .last ≡ unended o s
       → refusal (M .accepted) e ≡ none → Exactly C o s e (feed C (after C fs) e .answer)
+  -- the same of the stretches themselves: each ended one as its outcome says, and the last one, unended, at each of its records
+  pub each-stretch : {fs : Snoc LogRecord} (M : Meaning C fs) → EachIn (λ before x. Ended C x) (M .stretches)
+  pub last-stretch : {fs : Snoc LogRecord} (M : Meaning C fs) (o : ℕ) (s : Snoc LogRecord) → M .last ≡ unended o s → RunsOn C o s
   -- "No stretch has two lawful rows."
   pub one-row : (o : ℕ) (s : Snoc LogRecord) (r r′ : Row) → Lawful C o s r → Lawful C o s r′ → r ≡ r′
+  -- nor has an ended one two rows with the conditions at its last record waived
+  pub one-row-waived : (o : ℕ) (s : Snoc LogRecord) (e : LogRecord) (q : Row) → Lawful C o s q → NoRow C o (s ▸ e)
+      → (r r′ : Row) → LawfulButLast C o s e r → LawfulButLast C o s e r′ → r ≡ r′
   -- "After the list the monitor's kept, dropped and break are what the stretches give"; and so is every answer
   pub monitor-agrees : {fs : Snoc LogRecord} (M : Meaning C fs)
       → (answers C fs ≡ M .told) × Agrees C (M .accepted) (M .stretches) (M .last) (after C fs)

@@ -1,0 +1,56 @@
+-- Each stretch of a list's meaning, by the feeds that made it: the round ran on up to each record before its end. Assumes nothing.
+use mathlib.Core.Path.{_≡_, refl, subst}
+use Prim.Native.Nat.{ℕ}
+use Rattle.rounds.specs.Base.{Snoc, ε, _▸_, EachIn, Beginning, all-of-it, shorter}
+use Rattle.rounds.specs.Chart.{Chart, Accepted}
+use Rattle.rounds.specs.Rows.{LogRecord, Row, stands, Lawful, Full}
+use Rattle.rounds.specs.Feeds.{Outcome, kept, dropped, broken, Stretch, Last, unended, behindBreak, behind, Answer, FedOne, refuses, runs-on, ends, again, Fed, none-yet, one-more}
+use Rattle.rounds.specs.Demand3.{RunsOn, Ended, Meaning}
+use Rattle.rounds.proofs.Machine.{opening-lacks}
+use Rattle.rounds.proofs.Feeds.{opens}
+
+module _ (C : Chart) (A : Accepted C) where
+  -- the stretch that has just opened
+  opened : (o : ℕ) → RunsOn C o ε
+  unfolding RunsOn
+  opened o p all-of-it = (ε, opens C A o, opening-lacks C A)
+
+  longer : (o : ℕ) (s : Snoc LogRecord) (e : LogRecord) → RunsOn C o s → (r : Row) → Lawful C o (s ▸ e) r → ¬ Full C (stands r)
+      → RunsOn C o (s ▸ e)
+  unfolding RunsOn
+  longer o s e R r L f p all-of-it = (r, L, f)
+  longer o s e R r L f p (shorter b) = R p b
+
+  -- what runs on in the last stretch
+  abbrev AtLast : Last → Type 0
+  AtLast (unended o s) = RunsOn C o s
+  AtLast (behindBreak k) = Unit {0}
+
+  behind-it : (x : Outcome) (t : ℕ) → AtLast (behind x t)
+  behind-it kept t = opened t
+  behind-it dropped t = opened t
+  behind-it (broken k) t = tt
+
+  record Cut (es : Snoc Stretch) (last : Last) : Type 0 where
+    ended : EachIn (λ before x. Ended C x) es
+    running : AtLast last
+
+  one : {rs rs′ : Snoc LogRecord} {es es′ : Snoc Stretch} {last last′ : Last} {e : LogRecord} {a : Answer}
+      → Cut es last → FedOne C rs es e last a rs′ es′ last′ → Cut es′ last′
+  one K (refuses k h) = K
+  one {e} K (runs-on {o} {s} h q r a M L f O) = record { ended = K .ended; running = longer o s e (K .running) r L f }
+  one {e} K (ends {o} {s} h x E) = record {
+    ended = (K .ended, record { before = s; last = e; parts = refl; ran-on = K .running; ends = E });
+    running = behind-it x (e .time);
+  }
+  one K again = K
+
+  cuts : {fs : Snoc LogRecord} {ans : Snoc Answer} {rs : Snoc LogRecord} {es : Snoc Stretch} {last : Last} → Fed C fs ans rs es last → Cut es last
+  cuts none-yet = record { ended = tt; running = opened 0 }
+  cuts (one-more F N) = one (cuts F) N
+
+  pub each-stretch : {fs : Snoc LogRecord} (M : Meaning C fs) → EachIn (λ before x. Ended C x) (M .stretches)
+  each-stretch M = cuts (M .fed) .ended
+
+  pub last-stretch : {fs : Snoc LogRecord} (M : Meaning C fs) (o : ℕ) (s : Snoc LogRecord) → M .last ≡ unended o s → RunsOn C o s
+  last-stretch M o s q = subst AtLast q (cuts (M .fed) .running)
