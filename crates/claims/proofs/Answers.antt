@@ -1,18 +1,121 @@
--- A chart's answer is fixed by its number and offset. Assumes nothing.
-use mathlib.Core.Path.{_≡_, refl, sym, ap}
+-- What each operation is said to answer fixes its answer: numbers have one meaning. Assumes nothing.
+use mathlib.Core.Path.{_≡_, refl, sym, ap, _∙_}
+use mathlib.Core.Bool.{cond}
+use Prim.Native.Nat.{ℕ}
+use native.Mathlib.Omega.{arith}
+use lib.Dec.{eqb}
+use Rattle.rounds.specs.Feeds.{Answer as Told, refused, toldBroken, toldKept, toldDropped, entered, moved, quiet}
 use Rattle.chart_step.proofs.Numbers.{refusal-nonzero, refusal-injective}
 use Rattle.chart_reader.specs.declared.ChartAnswer.{ChartAnswer}
-use Rattle.chart_reader.specs.declared.ChartAnswer.the-variants.{Accepted, Refused}
+use Rattle.chart_reader.specs.declared.ChartAnswer.the-variants as chart
 use Rattle.chart_reader.specs.declared.ChartRead.{ChartRead}
-use Rattle.chart_reader.specs.Read.{Said, said, numberOf, offsetOf}
+use Rattle.chart_reader.specs.Read as read
+use Rattle.stepping.specs.declared.FeedRefusal.{FeedRefusal}
+use Rattle.stepping.specs.declared.FeedRefusal.the-variants.{NotAChart, Unfit, TimeFalls, TooManyRecords}
+use Rattle.stepping.specs.declared.Answer.{Answer}
+use Rattle.stepping.specs.declared.Answer.the-variants.{Refused, Broken, Kept, Dropped, Entered, Moved, Quiet}
+use Rattle.stepping.specs.Answers.{feedRefusalNumber, answerOf}
+use Rattle.log_reader.specs.declared.RecordRefusal.{RecordRefusal}
+use Rattle.log_reader.specs.declared.RecordRefusal.the-variants.{CutShort, UnknownByte}
+use Rattle.log_reader.specs.declared.Next.{Next}
+use Rattle.log_reader.specs.declared.Next.the-variants as next
+use Rattle.log_reader.specs.Record as found
+use Rattle.log_reader.specs.Record.{recordRefusalNumber}
+use Rattle.judge.specs.declared.LogRefusal.{LogRefusal}
+use Rattle.judge.specs.declared.LogRefusal.the-variants as log
+use Rattle.judge.specs.declared.JudgeAnswer.{JudgeAnswer}
+use Rattle.judge.specs.declared.JudgeAnswer.the-variants as judged
+use Rattle.judge.specs.declared.Judgement.{Judgement}
+use Rattle.judge.specs.Check.{logRefusalNumber}
+use Rattle.judge.specs.Judge as judge
+use Rattle.claims.specs.Claims.{AnswersTell}
 
-same-answer : (x y : ChartAnswer) → numberOf x ≡ numberOf y → offsetOf x ≡ offsetOf y → x ≡ y
-same-answer Accepted Accepted e o = refl
-same-answer Accepted (Refused f k) e o = absurd (refusal-nonzero f (sym e))
-same-answer (Refused f k) Accepted e o = absurd (refusal-nonzero f e)
-same-answer (Refused f k) (Refused g m) e o = λ i. Refused (refusal-injective f g e i) (o i)
+same-answer : (x y : ChartAnswer) → read.numberOf x ≡ read.numberOf y → read.offsetOf x ≡ read.offsetOf y → x ≡ y
+same-answer chart.Accepted chart.Accepted e o = refl
+same-answer chart.Accepted (chart.Refused f k) e o = absurd (refusal-nonzero f (sym e))
+same-answer (chart.Refused f k) chart.Accepted e o = absurd (refusal-nonzero f e)
+same-answer (chart.Refused f k) (chart.Refused g m) e o = λ i. chart.Refused (refusal-injective f g e i) (o i)
 
-pub answers-tell : (x y : ChartRead) → said x ≡ said y → x ≡ y
-answers-tell x y e =
-    let a = same-answer (x .answer) (y .answer) (ap (λ (s : Said). s .number) e) (ap (λ (s : Said). s .offset) e) in
+charts-tell : (x y : ChartRead) → read.said x ≡ read.said y → x ≡ y
+charts-tell x y e =
+    let a = same-answer (x .answer) (y .answer) (ap (λ (s : read.Said). s .number) e) (ap (λ (s : read.Said). s .offset) e) in
     λ i. record { answer = a i; chart = e i .chart }
+
+-- the refusal with a number
+recordRefusal : ℕ → RecordRefusal
+recordRefusal n = cond (eqb n 30) CutShort UnknownByte
+
+record-refusal : (f : RecordRefusal) → recordRefusal (recordRefusalNumber f) ≡ f
+unfolding recordRefusal
+record-refusal CutShort = refl
+record-refusal UnknownByte = refl
+
+feedRefusal : ℕ → FeedRefusal
+feedRefusal n = cond (eqb n 20) NotAChart (cond (eqb n 21) Unfit (cond (eqb n 22) TimeFalls TooManyRecords))
+
+feed-refusal : (f : FeedRefusal) → feedRefusal (feedRefusalNumber f) ≡ f
+unfolding feedRefusal
+feed-refusal NotAChart = refl
+feed-refusal Unfit = refl
+feed-refusal TimeFalls = refl
+feed-refusal TooManyRecords = refl
+
+-- the judge's answer with a number and an offset
+judgeAnswer : ℕ → ℕ → JudgeAnswer
+judgeAnswer n o =
+    cond (eqb n 0) judged.Judged (cond (eqb n 20) judged.NoChart (cond (eqb n 22) (judged.Refused log.TimeFalls o)
+    (cond (eqb n 23) (judged.Refused log.TooManyRecords o) (judged.Refused (log.NoRecord (recordRefusal n)) o))))
+
+judge-answer : (a : JudgeAnswer) → judgeAnswer (judge.numberOf a) (judge.offsetOf a) ≡ a
+unfolding judgeAnswer recordRefusal
+judge-answer judged.Judged = refl
+judge-answer judged.NoChart = refl
+judge-answer (judged.Refused (log.NoRecord CutShort) o) = refl
+judge-answer (judged.Refused (log.NoRecord UnknownByte) o) = refl
+judge-answer (judged.Refused log.TimeFalls o) = refl
+judge-answer (judged.Refused log.TooManyRecords o) = refl
+
+judgements-tell : (x y : Judgement) → judge.said x ≡ judge.said y → x ≡ y
+judgements-tell x y e =
+    let a : x .answer ≡ y .answer
+        = sym (judge-answer (x .answer)) ∙ ap (λ (s : judge.Said). judgeAnswer (s .number) (s .offset)) e ∙ judge-answer (y .answer) in
+    λ i. record { answer = a i; verdict = e i .verdict }
+
+-- what was found, by what is said of it
+unsaid : found.Said → Next
+unsaid (found.end at) = next.End
+unsaid (found.refused k at) = next.Refused (recordRefusal k)
+unsaid (found.handed e place) = next.Taken e place
+
+said-next : (at : ℕ) (x : Next) → unsaid (found.said at x) ≡ x
+unfolding unsaid
+said-next at next.End = refl
+said-next at (next.Refused k) = ap next.Refused (record-refusal k)
+said-next at (next.Taken e place) = refl
+
+told : Told → Answer
+told (refused k) = Refused (feedRefusal k)
+told (toldBroken n k) = Broken n k
+told toldKept = Kept
+told toldDropped = Dropped
+told entered = Entered
+told moved = Moved
+told quiet = Quiet
+
+told-answer : (x : Answer) → told (answerOf x) ≡ x
+unfolding told
+told-answer (Refused k) = ap Refused (feed-refusal k)
+told-answer (Broken n k) = refl
+told-answer Kept = refl
+told-answer Dropped = refl
+told-answer Entered = refl
+told-answer Moved = refl
+told-answer Quiet = refl
+
+pub answers-tell : AnswersTell
+answers-tell = record {
+  charts = charts-tell;
+  judgements = judgements-tell;
+  records = λ at x y e. sym (said-next at x) ∙ ap unsaid e ∙ said-next at y;
+  feeds = λ x y e. sym (told-answer x) ∙ ap told e ∙ told-answer y;
+}

@@ -10,7 +10,7 @@ use Rattle.model.specs.declared.Record.{Record}
 use Rattle.model.specs.Monitor.{zeroMonitor}
 use Rattle.chart_reader.specs.declared.ChartRead.{ChartRead}
 use Rattle.chart_reader.specs.Read.{Said, said, readChart, acceptedAs, numberOf, offsetOf}
-use Rattle.chart_value.proofs.Shown.{shown-of}
+use Rattle.chart_value.proofs.Shown.{shown-of, shown}
 use Rattle.chart_value.proofs.Sound.{sound}
 use Rattle.log_reader.specs.declared.RecordRefusal.{RecordRefusal}
 use Rattle.log_reader.specs.declared.Next.the-variants.{End, Refused, Taken}
@@ -21,9 +21,9 @@ use Rattle.rounds.specs.Machine.{after}
 use Rattle.rounds.specs.Demand3.{Meaning}
 use Rattle.rounds.proofs.Demand3.{demand-3}
 use Rattle.chart_value.specs.View.{chartOf}
-use Rattle.judge.specs.declared.Checked.the-variants.{Fine}
-use Rattle.judge.specs.Check.{checkLog}
-use Rattle.judge.specs.Judge.{judgeOf}
+use Rattle.log_reader.specs.Record as found
+use Rattle.chart_value.specs.Given.{Given}
+use Rattle.claims.specs.Demand1.{FindsAs, Walk, judges}
 use Rattle.stepping.specs.declared.Step.{Step}
 use Rattle.stepping.specs.View.{stepOf}
 use Rattle.monitor.specs.Feed.{feedOf}
@@ -82,17 +82,19 @@ watched chart log x r e a z f = record {
   number = ap numberOf a ∙ ap (λ (s : Said). s .number) e;
   offset = ap offsetOf a ∙ ap (λ (s : Said). s .offset) e;
   refused = z;
-  fed = λ c q.
-      subst (λ (d : Chart). FedAll d (recordsIn log) (r .monitor)) (ap (λ (s : Said). s .chart) (e ∙ q)) (f (ap (λ (s : Said). s .number) (e ∙ q)));
-  demand-3 = demand-3-read chart;
+  fed = fed;
+  agrees = λ c q M. demand-3-read chart c q .agrees (fed c q .run) M .1;
 }
+  where
+    fed : (c : Chart) → readChart chart ≡ acceptedAs c → FedAll c (recordsIn log) (r .monitor)
+    fed c q =
+        subst (λ (d : Chart). FedAll d (recordsIn log) (r .monitor)) (ap (λ (s : Said). s .chart) (e ∙ q)) (f (ap (λ (s : Said). s .number) (e ∙ q)))
 
 -- the verdict, by the stretches
-pub judged-read : (bytes log : List ℕ) (c : Chart) (n : ℕ) → readChart bytes ≡ acceptedAs c → checkLog log ≡ Fine n
-    → (M : Meaning (chartOf c) (logged (recordsIn log))) → JudgedBy c log M
-unfolding judgeOf
-judged-read bytes log c n e q M = record {
-  monitor = after (chartOf c) (logged (recordsIn log));
-  verdict = rw (sound bytes c e .fine, q);
-  agrees = demand-3 (chartOf c) (shown-of bytes c e .accepted) .monitor-agrees M .1;
+pub judged-walk : (c : Chart) → Given c → (log : List ℕ) {es : Snoc Record} {at last : ℕ} → Walk log es at last → FindsAs log at (found.end at)
+    → (M : Meaning (chartOf c) (logged es)) → JudgedBy c log es M
+judged-walk c g log {es} W F M = record {
+  monitor = after (chartOf c) (logged es);
+  verdict = judges g W F;
+  agrees = demand-3 (chartOf c) (shown c g .accepted) .monitor-agrees M .1;
 }

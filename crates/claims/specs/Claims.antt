@@ -2,25 +2,58 @@
 use mathlib.Core.Path.{_≡_}
 use mathlib.Core.List.{List}
 use Prim.Native.Nat.{ℕ}
-use Rattle.chart_reader.specs.declared.ChartRead.{ChartRead}
-use Rattle.chart_reader.specs.Read.{said, readChart, acceptedAs}
+use lib.ListN.{getD}
+use Rattle.bitset.specs.Set.{contains}
 use Rattle.model.specs.declared.Chart.{Chart}
+use Rattle.model.specs.declared.Monitor.{Monitor}
+use Rattle.model.specs.declared.Record.{Record}
+use Rattle.chart_reader.specs.declared.ChartRead.{ChartRead}
+use Rattle.chart_reader.specs.Read as read
+use Rattle.chart_reader.specs.Read.{readChart, acceptedAs}
+use Rattle.chart_faults.specs.Claims.{Faults}
 use Rattle.chart_value.specs.Given.{Given}
 use Rattle.chart_value.specs.View.{chartOf, Shown, CodesTell}
 use Rattle.chart_value.specs.Guards.{NeverFire}
+use Rattle.rounds.specs.Base.{Snoc}
 use Rattle.rounds.specs.Demand3.{Meaning}
+use Rattle.stepping.specs.declared.Answer.{Answer}
+use Rattle.stepping.specs.Answers.{answerOf}
+use Rattle.stepping.specs.View.{monitorAt}
+use Rattle.log_reader.specs.declared.Next.{Next}
+use Rattle.log_reader.specs.Record as found
 use Rattle.log_reader.specs.Records.{recordsIn}
 use Rattle.monitor.specs.Runs.{logged, Demand3Of, ViewTells}
-use Rattle.judge.specs.declared.Checked.the-variants.{Fine}
-use Rattle.judge.specs.Check.{checkLog}
+use Rattle.judge.specs.declared.Judgement.{Judgement}
+use Rattle.judge.specs.Judge as judge
+use Rattle.claims.specs.Demand1.{FindsAs, Walk}
 use Rattle.claims.specs.Demand2.{Demand2Of}
 use Rattle.claims.specs.Judged.{JudgedBy}
 use Rattle.claims.specs.Examples.{examples, AllSaid}
 
+-- two answers of which the same is said are the same value
+pub record AnswersTell : Type 0 where
+  pub charts : (x y : ChartRead) → read.said x ≡ read.said y → x ≡ y
+  pub judgements : (x y : Judgement) → judge.said x ≡ judge.said y → x ≡ y
+  pub records : (at : ℕ) (x y : Next) → found.said at x ≡ found.said at y → x ≡ y
+  pub feeds : (x y : Answer) → answerOf x ≡ answerOf y → x ≡ y
+
+-- the view of a stored monitor shows each field as it is stored
+pub record Views (m : Monitor) : Type 0 where
+  pub fired : (i : ℕ) → monitorAt m .at .fired i ≡ contains (m .at .fired) i
+  pub clocks : (k : ℕ) → monitorAt m .at .clocks k ≡ getD (m .at .resets) k (record { 0 = 0 }) .0
+  pub now : monitorAt m .now ≡ m .now .0
+  pub records : monitorAt m .records ≡ m .records
+  pub kept : monitorAt m .kept ≡ m .kept
+  pub dropped : monitorAt m .dropped ≡ m .dropped
+  pub break : monitorAt m .break ≡ m .«break_record»
+  pub reason : monitorAt m .reason ≡ m .reason
+
 pub record Claims : Type 0 where
-  -- two readings that say the same are the same value: number, offset and chart fix the answer
-  pub answers-tell : (x y : ChartRead) → said x ≡ said y → x ≡ y
-  -- a chart that some accepted bytes give shows an accepted abstract chart, with document 01's order
+  -- number, offset, chart, verdict and record fix the answers
+  pub answers-tell : AnswersTell
+  -- the definition that reading a chart cites refuses exactly the first fault, and accepts exactly the chart that the commands describe
+  pub faults : Faults
+  -- a chart that some accepted bytes give shows an accepted abstract chart, whose order is the closure over shared lines
   pub shown : (c : Chart) → Given c → Shown c
   -- one code, one message
   pub codes-tell : CodesTell
@@ -30,10 +63,13 @@ pub record Claims : Type 0 where
   pub demand-2 : (bytes : List ℕ) (c : Chart) → readChart bytes ≡ acceptedAs c → Demand2Of c
   -- the third demand, of every list of feeds with a chart that is read from bytes
   pub demand-3 : (bytes : List ℕ) (c : Chart) → readChart bytes ≡ acceptedAs c → Demand3Of c
-  -- the verdict over a log that is not refused is what the stretches of its records give
-  pub judged : (bytes log : List ℕ) (c : Chart) (n : ℕ) → readChart bytes ≡ acceptedAs c → checkLog log ≡ Fine n
-      → (M : Meaning (chartOf c) (logged (recordsIn log))) → JudgedBy c log M
-  -- the view through which feeding's promise speaks fixes every field of the monitor
+  -- the verdict over a log without a fault is what the stretches of its records give
+  pub judged : (c : Chart) → Given c → (log : List ℕ) {es : Snoc Record} {at last : ℕ} → Walk log es at last → FindsAs log at (found.end at)
+      → (M : Meaning (chartOf c) (logged es)) → JudgedBy c log es M
+  -- and these are the records that are fed from its bytes
+  pub walked : (log : List ℕ) {es : Snoc Record} {at last : ℕ} → Walk log es at last → FindsAs log at (found.end at) → recordsIn log ≡ es
+  -- the view through which feeding's promise speaks shows every field of the monitor, and fixes it
+  pub views : (m : Monitor) → Views m
   pub view-tells : ViewTells
-  -- the ◆ examples of document 01
+  -- the examples marked ◆
   pub examples-said : AllSaid examples

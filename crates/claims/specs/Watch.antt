@@ -11,7 +11,10 @@ use Rattle.chart_reader.specs.Read.{readChart, acceptedAs, numberOf, offsetOf}
 use Rattle.log_reader.specs.Records.{recordsIn}
 use Rattle.rounds.specs.Base.{Snoc}
 use Rattle.rounds.specs.Feeds.{Answer as Told}
-use Rattle.monitor.specs.Runs.{Run, Demand3Of}
+use Rattle.rounds.specs.Demand3.{Meaning, Agrees}
+use Rattle.chart_value.specs.View.{chartOf}
+use Rattle.stepping.specs.View.{monitorAt}
+use Rattle.monitor.specs.Runs.{Run, logged}
 use Rattle.claims.specs.declared.Watched.{Watched}
 
 -- the monitor m after feeding these records to a fresh one, with the answers told
@@ -25,6 +28,7 @@ pub record Watches (chart log : List ℕ) (r : Watched) : Type 0 where
   pub offset : offsetOf (r .answer) ≡ readChart chart .offset
   -- a chart that is refused has the monitor of zeros
   pub refused : readChart chart .number ≢ 0 → r .monitor ≡ zeroMonitor
-  -- an accepted one has the monitor after the log's records, of which the third demand is true
+  -- an accepted one has the monitor after the log's records were fed, which is what their stretches give
   pub fed : (c : Chart) → readChart chart ≡ acceptedAs c → FedAll c (recordsIn log) (r .monitor)
-  pub demand-3 : (c : Chart) → readChart chart ≡ acceptedAs c → Demand3Of c
+  pub agrees : (c : Chart) → readChart chart ≡ acceptedAs c → (M : Meaning (chartOf c) (logged (recordsIn log)))
+      → Agrees (chartOf c) (M .accepted) (M .stretches) (M .last) (monitorAt (r .monitor))

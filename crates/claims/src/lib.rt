@@ -13,15 +13,16 @@ ghost use mathlib.Core.Path.{_≡_};
 ghost use Rattle.model.specs.Monitor.{zeroMonitor};
 ghost use Rattle.chart_reader.specs.Read.{said as readSaid};
 ghost use Rattle.stepping.specs.Answers.{answerOf};
+ghost use Rattle.log_reader.specs.Record.{said as recordSaid};
 ghost use Rattle.judge.specs.Judge.{said as judgeSaid};
 ghost use Rattle.claims.specs.Claims.{Claims};
-ghost use Rattle.claims.specs.Demand1.{ReadsAs, MakesAs, FeedsAs, FindsAs, JudgesAs};
+ghost use Rattle.claims.specs.Demand1.{Just, ReadsAs, MakesAs, FeedsJust, FindsAs, JudgesAs};
 ghost use Rattle.log_reader.specs.Records.{recordsIn};
 ghost use Rattle.claims.specs.Watch.{FedAll, Watches};
 
 // Reading a chart: every byte string.
 pub fn read_chart(bytes: &[u8]) -> ChartRead
-    ensures demand { λ r. ⌜ ReadsAs (now (bytes .entry)) (readSaid r) ⌝ }
+    ensures demand { λ r. ⌜ Just (ReadsAs (now (bytes .entry))) (readSaid r) ⌝ }
     ensures unchanged { λ r. ⌜ now (bytes .exit) ≡ now (bytes .entry) ⌝ }
 {
     chart_reader::read(bytes)
@@ -29,21 +30,21 @@ pub fn read_chart(bytes: &[u8]) -> ChartRead
 
 // Making a monitor: every chart value.
 pub fn make_monitor(chart: Chart) -> Made
-    ensures { λ r. ⌜ MakesAs chart r ⌝ }
+    ensures { λ r. ⌜ Just (MakesAs chart) r ⌝ }
 {
     monitor::new(chart)
 }
 
 // Feeding a record: every chart value, monitor and record.
 pub fn feed_record(chart: Chart, m: Monitor, e: Record) -> Step
-    ensures { λ r. ⌜ FeedsAs chart m e (answerOf (r .answer)) (r .next) ⌝ }
+    ensures { λ r. ⌜ FeedsJust chart m e (answerOf (r .answer)) (r .next) ⌝ }
 {
     monitor::feed(chart, m, e)
 }
 
 // Reading one record: every byte string and place.
 pub fn read_record(log: &[u8], place: usize) -> Next
-    ensures demand { λ r. ⌜ FindsAs (now (log .entry)) place r ⌝ }
+    ensures demand { λ r. ⌜ Just (FindsAs (now (log .entry)) place) (recordSaid place r) ⌝ }
     ensures unchanged { λ r. ⌜ now (log .exit) ≡ now (log .entry) ⌝ }
 {
     log_reader::read_record(log, place)
@@ -51,7 +52,7 @@ pub fn read_record(log: &[u8], place: usize) -> Next
 
 // Judging a whole log: every chart value and byte string.
 pub fn judge_log(chart: Chart, log: &[u8]) -> Judgement
-    ensures demand { λ r. ⌜ JudgesAs chart (now (log .entry)) (judgeSaid r) ⌝ }
+    ensures demand { λ r. ⌜ Just (JudgesAs chart (now (log .entry))) (judgeSaid r) ⌝ }
     ensures unchanged { λ r. ⌜ now (log .exit) ≡ now (log .entry) ⌝ }
 {
     judge::judge(chart, log)
