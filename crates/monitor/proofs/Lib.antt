@@ -1,4 +1,5 @@
 pub mod Loops
 pub mod Fitness
 pub mod Feeding
+pub mod Owned
 pub mod Runs
