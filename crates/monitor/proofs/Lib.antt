@@ -2,4 +2,5 @@ pub mod Loops
 pub mod Fitness
 pub mod Feeding
 pub mod Owned
+pub mod Storing
 pub mod Runs

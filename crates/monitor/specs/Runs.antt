@@ -26,11 +26,22 @@ pub data Run (c : Chart) : Snoc Record → Snoc Told → Monitor → Type 0 wher
   one-more : {es : Snoc Record} {told : Snoc Told} {m : Monitor} (e : Record) (r : Step) → Run c es told m → stepOf r ≡ feedOf c m e
       → Run c (es ▸ e) (told ▸ answerOf (r .answer)) (r .next)
 
+-- a list of feeds over the records, whose monitor is one that can be stored
+pub record RunOver (c : Chart) (es : Snoc Record) : Type 0 where
+  pub told : Snoc Told
+  pub monitor : Monitor
+  pub run : Run c es told monitor
+  pub stored : Stored monitor
+
 -- the records as the theory takes them
 abbrev pub logged : Snoc Record → Snoc LogRecord
 logged es = each logRecord es
 
 pub record Demand3Of (c : Chart) : Type 0 where
+  -- every list of records can be fed, whatever was sent and when, and it fixes the answers and what the monitor shows
+  pub run-exists : (es : Snoc Record) → RunOver c es
+  pub run-only : {es : Snoc Record} {told told′ : Snoc Told} {m m′ : Monitor} → Run c es told m → Run c es told′ m′
+      → (told ≡ told′) × (monitorAt m ≡ monitorAt m′)
   -- every list of feeds has its answers, accepted records and stretches with their outcomes, and only one choice of them
   pub cut-exists : (es : Snoc Record) → Meaning (chartOf c) (logged es)
   pub cut-unique : (es : Snoc Record) (M M′ : Meaning (chartOf c) (logged es)) → Same (chartOf c) M M′
