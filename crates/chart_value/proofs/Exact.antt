@@ -1,4 +1,5 @@
--- Refusal 20's test is exact: a chart is well formed exactly if some accepted bytes give it. Assumes nothing.
+-- Refusal 20's test is exact: a chart is well formed exactly if some accepted bytes give it, and exactly if the writer's
+-- do. Assumes nothing.
 use mathlib.Core.Path.{_≡_}
 use mathlib.Core.Bool.{Bool, true}
 use mathlib.Core.List.{List}
@@ -8,6 +9,7 @@ use denote.Laws.{Is}
 use denote.Struct.Declared.{row}
 use Rattle.model.proofs.Chart as chart
 use Rattle.model.specs.declared.Chart.{Chart}
+use Rattle.chart_reader.specs.Read.{readChart, acceptedAs}
 use Rattle.chart_value.specs.WellFormed.{wellFormed}
 use Rattle.chart_value.specs.Writer.{chartBytes}
 use Rattle.chart_value.specs.Given.{Given}
@@ -17,17 +19,26 @@ use Rattle.chart_value.proofs.Small.{chart-small, small-at}
 use Rattle.chart_value.proofs.RoundTrip.{round-trip}
 use Rattle.chart_value.proofs.Sound.{sound}
 
+written : (c : Chart) (vs : List Val) → Is (row chart.the-type) c vs
+    → (wellFormed c ≡ true) ↔ (readChart (chartBytes c) ≡ acceptedAs c)
+written c vs p = ((λ e. round-trip c (owned-shape c vs p) e), (λ e. sound (chartBytes c) c e .fine))
+
 exact : (c : Chart) (vs : List Val) → Is (row chart.the-type) c vs → (wellFormed c ≡ true) ↔ Given c
 exact c vs p = (
   λ e. record {
     bytes = chartBytes c;
     small = small-at (chartBytes c) (chart-small c (wf-of c e) (owned-at c vs p));
-    accepted = round-trip c (owned-shape c vs p) e;
+    accepted = written c vs p .0 e;
   },
   λ g. sound (g .bytes) c (g .accepted) .fine,
 )
 
--- what `well_formed` promises, from the test alone
+-- the test and what it means
 pub exact-test : (c : Chart) (vs : List Val) → Is (row chart.the-type) c vs → (r : Bool) → r ≡ wellFormed c
     → (r ≡ wellFormed c) × ((r ≡ true) ↔ Given c)
 exact-test c vs p r e = (e, rw e (exact c vs p))
+
+-- what `well_formed` promises, from the test alone
+pub promised : (c : Chart) (vs : List Val) → Is (row chart.the-type) c vs → (r : Bool) → r ≡ wellFormed c
+    → (r ≡ wellFormed c) × (((r ≡ true) ↔ Given c) × ((r ≡ true) ↔ (readChart (chartBytes c) ≡ acceptedAs c)))
+promised c vs p r e = (e, (exact-test c vs p r e .1, rw e (written c vs p)))

@@ -488,7 +488,7 @@ advance-keeps s at r v = by (decodeAt s at)
     by decoded.Unknown = tt
     by (decoded.Taken c next) = command-keeps r v at next (ltb next (length s)) c
 
-never : {A : Type 0} (f : Refusal) (o : ℕ) (c : Chart) → refusedFor f o ≡ acceptedAs c → A
+pub never : {A : Type 0} (f : Refusal) (o : ℕ) (c : Chart) → refusedFor f o ≡ acceptedAs c → A
 never f o c e = absurd (refusal-nonzero f (ap (λ (x : Said). x .number) e))
 
 from-here : (n : ℕ) (s : List ℕ) (at : ℕ) (r : Reading) (c : Chart) → Ready r → readFrom n s at r ≡ acceptedAs c → Whole c

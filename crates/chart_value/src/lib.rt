@@ -14,7 +14,9 @@ ghost use mathlib.Core.Path.{_≡_};
 ghost use mathlib.Core.Bool.{true};
 ghost use mathlib.Core.Logic.{_↔_};
 ghost use Rattle.model.specs.Chart.{mostTerms, termAt};
+ghost use Rattle.chart_reader.specs.Read.{readChart, acceptedAs};
 ghost use Rattle.chart_value.specs.WellFormed.{allBelow, isZeroLeft, isLess, isZeroTerm, leftFits, termPlaced, termsFit, eventFits, regionFits, isZeroEvent, isZeroRegion, regionPlaced, headingFits, countsFit, wellFormed};
+ghost use Rattle.chart_value.specs.Writer.{chartBytes};
 ghost use Rattle.chart_value.specs.Given.{Given};
 ghost use Rattle.chart_value.specs.Guards.{NeverFire};
 ghost use Rattle.chart_value.specs.View.{Shown, CodesTell};
@@ -171,10 +173,11 @@ fn counts_fit(c: Chart) -> bool
     (c.prechart < c.count) & (c.count as usize <= MOST_REGIONS)
 }
 
-// Whether the chart is one that some accepted bytes give.
+// Whether the chart is one that some accepted bytes give: then those that the writer lays out give it too.
 pub fn well_formed(c: Chart) -> bool
     ensures test { λ r. ⌜ r ≡ wellFormed c ⌝ }
     ensures given { λ r. ⌜ ((r ≡ true) ↔ Given c) ⌝ }
+    ensures written { λ r. ⌜ ((r ≡ true) ↔ (readChart (chartBytes c) ≡ acceptedAs c)) ⌝ }
 {
     let prechart = c.prechart as usize;
     let count = c.count as usize;

@@ -1,4 +1,6 @@
 pub mod Loops
 pub mod Fitness
 pub mod Feeding
+pub mod Owned
+pub mod Storing
 pub mod Runs

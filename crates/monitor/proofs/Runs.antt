@@ -17,7 +17,8 @@ use Rattle.model.specs.Chart.{mostRegions, mostClocks}
 use Rattle.model.specs.Monitor.{zeroMonitor}
 use Rattle.chart_value.specs.WellFormed.{wellFormed}
 use Rattle.chart_value.specs.View.{chartOf}
-use Rattle.rounds.specs.Base.{Snoc, _▸_}
+use Rattle.chart_value.proofs.Facts.{wf-of}
+use Rattle.rounds.specs.Base.{Snoc, ε, _▸_}
 use Rattle.rounds.specs.Chart.{Accepted}
 use Rattle.rounds.specs.Rows.{LogRecord}
 use Rattle.rounds.specs.Feeds.{Answer as Told, Exactly, refused, toldBroken, timeFalls, tooManyRecords, mostRecords}
@@ -33,8 +34,9 @@ use Rattle.stepping.specs.Answers.{answerOf, feedRefusalNumber}
 use Rattle.stepping.specs.View.{momentsOf, monitorAt, stepOf}
 use Rattle.stepping.proofs.Back.{Taken, accept-taken}
 use Rattle.monitor.specs.Feed.{logRecord, feedOf}
-use Rattle.monitor.specs.Runs.{Run, none-yet, one-more, logged, Demand3Of, ViewTells}
+use Rattle.monitor.specs.Runs.{Run, none-yet, one-more, RunOver, logged, Demand3Of, ViewTells}
 use Rattle.monitor.proofs.Fitness.{of-fit}
+use Rattle.monitor.proofs.Storing.{told-as, stored-as}
 
 -- the monitor of zeros is the machine's fresh one
 zero-moments : (k : ℕ) → momentsOf (zeroMonitor .at .resets) k ≡ 0
@@ -77,10 +79,14 @@ module _ (c : Chart) (wf : wellFormed c ≡ true) (A : Accepted (chartOf c)) whe
   fit-after : {es : Snoc Record} {told : Snoc Told} {m : Monitor} → Goes es told m → Fit (chartOf c) (monitorAt m)
   fit-after {es} g = subst (λ (x : AbstractMonitor). Fit (chartOf c) x) (sym (g .monitor)) (D .stays-fit (logged es))
 
+  fed-after : {es : Snoc Record} {told : Snoc Told} {m : Monitor} → Goes es told m → (e : Record)
+      → feedOf c m e ≡ feed (chartOf c) (after (chartOf c) (logged es)) (logRecord e)
+  fed-after {es} {told} {m} g e =
+      fed-fit m e (fit-after g) ∙ ap (λ (x : AbstractMonitor). feed (chartOf c) x (logRecord e)) (g .monitor)
+
   pub step-after : {es : Snoc Record} {told : Snoc Told} {m : Monitor} → Goes es told m → (e : Record) (r : Step) → stepOf r ≡ feedOf c m e
       → stepOf r ≡ feed (chartOf c) (after (chartOf c) (logged es)) (logRecord e)
-  step-after {es} {told} {m} g e r q =
-      q ∙ fed-fit m e (fit-after g) ∙ ap (λ (x : AbstractMonitor). feed (chartOf c) x (logRecord e)) (g .monitor)
+  step-after g e r q = q ∙ fed-after g e
 
   pub goes : {es : Snoc Record} {told : Snoc Told} {m : Monitor} → Run c es told m → Goes es told m
   unfolding after answers
@@ -91,6 +97,25 @@ module _ (c : Chart) (wf : wellFormed c ≡ true) (A : Accepted (chartOf c)) whe
       record {
         monitor = ap (λ (x : AbstractStep). x .next) s;
         answered = λ i. g .answered i ▸ s i .answer;
+      }
+
+  -- the machine's answers and monitors can be stored, so every list has its feeds
+  exists : (es : Snoc Record) → RunOver c es
+  unfolding after
+  exists ε =
+      record { told = ε; monitor = zeroMonitor; run = none-yet; stored = record { bits = omega arith; places = refl } }
+  exists (es ▸ e) =
+      let x = exists es in
+      let g = goes (x .run) in
+      let w = wf-of c wf in
+      let a = told-as (chartOf c) (after (chartOf c) (logged es)) (logRecord e) in
+      let n = stored-as (chartOf c) (w .room) (w .clocks) (D .stays-fit (logged (es ▸ e))) in
+      record {
+        told = x .told ▸ answerOf (a .answer);
+        monitor = n .monitor;
+        run = one-more e (record { answer = a .answer; next = n .monitor }) (x .run)
+            ((λ i. record { answer = a .tells i; next = n .shows i }) ∙ sym (fed-after g e));
+        stored = n .stored;
       }
 
   -- the machine never says 20 or 21
@@ -125,6 +150,11 @@ module _ (c : Chart) (wf : wellFormed c ≡ true) (A : Accepted (chartOf c)) whe
 
   pub demand-3-of : Demand3Of c
   demand-3-of = record {
+    run-exists = exists;
+    run-only = λ p q.
+        let g = goes p in
+        let h = goes q in
+        (g .answered ∙ sym (h .answered), g .monitor ∙ sym (h .monitor));
     cut-exists = λ es. D .cut-exists (logged es);
     cut-unique = λ es. D .cut-unique;
     one-row = D .one-row;

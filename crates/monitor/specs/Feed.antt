@@ -1,11 +1,13 @@
 -- Making a monitor and feeding it a record.
 use mathlib.Core.Path.{_≡_}
 use mathlib.Core.Bool.{cond, not}
-use Prim.Native.Nat.{ℕ}
+use Prim.Native.Nat.{ℕ, _<_, _^_}
+use lib.ListN.{length}
 use Rattle.model.specs.declared.Chart.{Chart}
 use Rattle.model.specs.declared.Monitor.{Monitor}
 use Rattle.model.specs.declared.Record.{Record}
 use Rattle.model.specs.declared.Record.the-variants.{Message, Time}
+use Rattle.model.specs.Chart.{mostRegions, mostClocks}
 use Rattle.model.specs.Monitor.{zeroMonitor}
 use Rattle.chart_value.specs.WellFormed.{wellFormed}
 use Rattle.chart_value.specs.View.{codeOf, chartOf}
@@ -21,6 +23,11 @@ use Rattle.monitor.specs.declared.MadeAnswer.the-variants.{Fresh, NoChar
 use Rattle.monitor.specs.declared.Made.{Made}
 use Rattle.monitor.specs.Fit.{fits}
 
+-- what the types say of a monitor: 32 bits for the fired regions, eight places for the reset moments
+pub record Stored (m : Monitor) : Type 0 where
+  pub bits : m .at .fired < 2 ^ mostRegions
+  pub places : length (m .at .resets) ≡ mostClocks
+
 -- 0 made; 20: the chart value is not one that some accepted bytes give
 abbrev pub madeNumber : MadeAnswer → ℕ
 madeNumber Fresh = 0
@@ -30,6 +37,7 @@ madeNumber NoChart = feedRefusalNumber NotAChart
 pub record MadeOf (c : Chart) (r : Made) : Type 0 where
   pub number : madeNumber (r .answer) ≡ cond (wellFormed c) 0 (feedRefusalNumber NotAChart)
   pub monitor : r .monitor ≡ zeroMonitor
+  pub stored : Stored (r .monitor)
 
 -- a record as the theory takes it: its time, and 0 or the code of its message
 abbrev pub logRecord : Record → LogRecord

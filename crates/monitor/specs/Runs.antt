@@ -2,12 +2,10 @@
 use mathlib.Core.Path.{_≡_}
 use mathlib.Core.Logic.{_≢_}
 use mathlib.Core.Option.{none}
-use Prim.Native.Nat.{ℕ, _<_, _^_}
-use lib.ListN.{length}
+use Prim.Native.Nat.{ℕ}
 use Rattle.model.specs.declared.Chart.{Chart}
 use Rattle.model.specs.declared.Monitor.{Monitor}
 use Rattle.model.specs.declared.Record.{Record}
-use Rattle.model.specs.Chart.{mostRegions, mostClocks}
 use Rattle.model.specs.Monitor.{zeroMonitor}
 use Rattle.chart_value.specs.View.{chartOf}
 use Rattle.rounds.specs.Base.{Snoc, ε, _▸_, each}
@@ -19,7 +17,7 @@ use Rattle.stepping.specs.declared.FeedRefusal.the-variants.{NotAChart, Unfit}
 use Rattle.stepping.specs.declared.Step.{Step}
 use Rattle.stepping.specs.Answers.{answerOf}
 use Rattle.stepping.specs.View.{monitorAt, stepOf}
-use Rattle.monitor.specs.Feed.{logRecord, feedOf}
+use Rattle.monitor.specs.Feed.{Stored, logRecord, feedOf}
 
 -- "All feeds carry one accepted chart; the first gets a fresh monitor, each later one the monitor the last handed back, whatever it
 -- answered". Each feed gives what its definition says: the records fed, the answers, and the monitor after them.
@@ -28,11 +26,22 @@ pub data Run (c : Chart) : Snoc Record → Snoc Told → Monitor → Type 0 wher
   one-more : {es : Snoc Record} {told : Snoc Told} {m : Monitor} (e : Record) (r : Step) → Run c es told m → stepOf r ≡ feedOf c m e
       → Run c (es ▸ e) (told ▸ answerOf (r .answer)) (r .next)
 
+-- a list of feeds over the records, whose monitor is one that can be stored
+pub record RunOver (c : Chart) (es : Snoc Record) : Type 0 where
+  pub told : Snoc Told
+  pub monitor : Monitor
+  pub run : Run c es told monitor
+  pub stored : Stored monitor
+
 -- the records as the theory takes them
 abbrev pub logged : Snoc Record → Snoc LogRecord
 logged es = each logRecord es
 
 pub record Demand3Of (c : Chart) : Type 0 where
+  -- every list of records can be fed, whatever was sent and when, and it fixes the answers and what the monitor shows
+  pub run-exists : (es : Snoc Record) → RunOver c es
+  pub run-only : {es : Snoc Record} {told told′ : Snoc Told} {m m′ : Monitor} → Run c es told m → Run c es told′ m′
+      → (told ≡ told′) × (monitorAt m ≡ monitorAt m′)
   -- every list of feeds has its answers, accepted records and stretches with their outcomes, and only one choice of them
   pub cut-exists : (es : Snoc Record) → Meaning (chartOf c) (logged es)
   pub cut-unique : (es : Snoc Record) (M M′ : Meaning (chartOf c) (logged es)) → Same (chartOf c) M M′
@@ -50,11 +59,6 @@ pub record Demand3Of (c : Chart) : Type 0 where
   -- 20 and 21 never occur
   pub never-refused : {es : Snoc Record} {told : Snoc Told} {m : Monitor} → Run c es told m → (e : Record) (r : Step)
       → stepOf r ≡ feedOf c m e → (r .answer ≢ Refused NotAChart) × (r .answer ≢ Refused Unfit)
-
--- what the types say of a monitor: 32 bits for the fired regions, eight places for the reset moments
-pub record Stored (m : Monitor) : Type 0 where
-  pub bits : m .at .fired < 2 ^ mostRegions
-  pub places : length (m .at .resets) ≡ mostClocks
 
 -- the view of a monitor fixes every field of it
 abbrev pub ViewTells : Type 0

@@ -27,7 +27,7 @@ ghost use Rattle.stepping.specs.View.{planChart, Compiled, monitorAt, stepOf};
 ghost use Rattle.stepping.specs.Parts.{foundOf};
 ghost use Rattle.stepping.specs.Answers.{HandsBack};
 ghost use Rattle.monitor.specs.Fit.{isNone, momentsFit, breakFits, countsFit, fits};
-ghost use Rattle.monitor.specs.Feed.{MadeOf, logRecord, refuse, feedOf};
+ghost use Rattle.monitor.specs.Feed.{Stored, MadeOf, logRecord, refuse, feedOf};
 
 pub enum MadeAnswer {
     Fresh,
@@ -161,10 +161,9 @@ fn time_of(e: Record) -> Moment
     }
 }
 
-// One record: refused, or taken, with the monitor afterwards.
+// One record: refused, or taken, with the monitor afterwards, as its type stores it.
 pub fn feed(chart: Chart, monitor: Monitor, e: Record) -> Step
-    ensures step { λ r. ⌜ stepOf r ≡ feedOf chart monitor e ⌝ }
-    ensures back { λ r. ⌜ HandsBack monitor r ⌝ }
+    ensures { λ r. ⌜ (stepOf r ≡ feedOf chart monitor e) × HandsBack monitor r × Stored (r .next) ⌝ }
 {
     if !chart_value::well_formed(chart) {
         return refused(FeedRefusal::NotAChart, monitor);

@@ -8,7 +8,7 @@ use borrow.Author.Needs.{needs}
 use Rattle.bitset.specs.Set.{union}
 use Rattle.model.specs.Chart.{mostRegions}
 use Rattle.chart_value.specs.WellFormed.{allBelow, placedAt, touchedBefore, wellFormed}
-use Rattle.chart_value.proofs.Exact.{exact-test}
+use Rattle.chart_value.proofs.Exact.{promised}
 use Rattle.chart_value.proofs.well_formed.Statement.{statement}
 use Rattle.chart_value.proofs.well_formed.Tie as tie
 use Rattle.chart_value.proofs.well_formed.Reads as reads
@@ -86,7 +86,7 @@ unfolding wellFormed
 returns c =
     let l = c .before .before .before .loop in
     let e : l .i ≡ mostRegions = omega arith in
-    exact-test (c .before .before .before .before .args .t1) _ (c .before .before .before .before .good .0) _
+    promised (c .before .before .before .before .args .t1) _ (c .before .before .before .before .good .0) _
     (rw (c .counts-fit .ensures, c .before .heading-fits .ensures, l .inv .2, e))
 
 pub well-formed-spec : {M : Type 1} → statement M

@@ -2,6 +2,7 @@
 use mathlib.Core.Path.{sym, _∙_}
 use borrow.Author.Tests.{not-true, not-false}
 use Rattle.monitor.proofs.Feeding.{all-covered, fed-no-chart, fed-unfit, fed-on}
+use Rattle.monitor.proofs.Owned.{owned-step}
 use borrow.Author.Needs.{needs}
 use Rattle.monitor.proofs.feed.Statement.{statement}
 use Rattle.monitor.proofs.feed.Tie as tie
@@ -16,6 +17,7 @@ returns : tie.Need-returns
 returns c = (
   fed-no-chart _ _ _ _ (sym (c .before .before .well-formed .ensures .0) ∙ not-true _ (c .before .if1 .taken)) (c .refused .ensures .0),
   c .refused .ensures .1,
+  owned-step (c .refused .result) _ (c .refused .ok),
 )
 
 compile-requires : tie.Need-compile-requires
@@ -32,6 +34,7 @@ returns-2 c = (
   fed-unfit _ _ _ _ (sym (c .before .before .before .before .before .before .before .before .before .before .before .well-formed .ensures .0) ∙ not-false _ (c .before .before .before .before .before .before .before .before .before .before .if1 .left)) _ (c .before .before .before .before .before .before .before .before .before .compile .ensures .shows)
       (sym (c .before .before .is-fit .ensures .0) ∙ not-true _ (c .before .if2 .taken)) (c .refused2 .ensures .0),
   c .refused2 .ensures .1,
+  owned-step (c .refused2 .result) _ (c .refused2 .ok),
 )
 
 record-code-requires : tie.Need-record-code-requires
@@ -53,6 +56,7 @@ returns-3 c = (
   fed-on _ _ _ _ (sym (c .before .before .before .before .before .before .before .before .before .before .before .before .before .before .before .before .before .before .before .well-formed .ensures .0) ∙ not-false _ (c .before .before .before .before .before .before .before .before .before .before .before .before .before .before .before .before .before .before .if1 .left)) _ (c .before .before .before .before .before .before .before .before .before .before .before .before .before .before .before .before .before .compile .ensures .shows)
       (sym (c .before .before .before .before .before .before .before .before .before .before .is-fit .ensures .0) ∙ not-false _ (c .before .before .before .before .before .before .before .before .before .if2 .left)) _ _ (c .before .before .before .before .before .before .before .before .record-code .ensures) (c .before .before .before .before .before .before .before .time-of .ensures) (c .feed-fit .ensures .0),
   c .feed-fit .ensures .1,
+  owned-step (c .feed-fit .result) _ (c .feed-fit .ok),
 )
 
 pub feed-spec : {M : Type 1} → statement M

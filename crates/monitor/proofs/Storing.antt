@@ -1,0 +1,160 @@
+-- Every fit monitor of the machine is one that can be stored, its fired regions as a number and its reset moments as a list,
+-- and every answer of the machine one that can be told. Assumes nothing.
+use mathlib.Core.Path.{_≡_, refl, sym, ap, fun-ext, _∙_}
+use mathlib.Core.Logic.{inl, inr}
+use mathlib.Core.Bool.{Bool, true, false, cond, _||_}
+use mathlib.Core.List.{List, [], _∷_}
+use Prim.Native.Nat.{ℕ, zero, suc, _≤_, _<_, _^_}
+use native.Mathlib.Nat.{lt-of-lt-of-le}
+use native.Mathlib.Decide.{decLt, ℕ-discrete}
+use native.Mathlib.Omega.{arith}
+use borrow.Author.Tests.{eq-eqb, ne-eqb}
+use lib.Bits.{or-lt}
+use lib.Dec.{eqb, ltb, leb}
+use lib.ListN.{length}
+use lib.Pow.{pow-lt, pow-mono}
+use Rattle.bitset.specs.Set.{contains, single, inserted}
+use Rattle.bitset.proofs.Laws.{contains-inserted, member-lt}
+use Rattle.model.specs.declared.Moment.{Moment}
+use Rattle.model.specs.declared.Monitor.{Monitor}
+use Rattle.model.specs.Chart.{mostRegions, mostClocks}
+use Rattle.rounds.specs.Chart.{Chart as Abstract}
+use Rattle.rounds.specs.Rows.{LogRecord}
+use Rattle.rounds.specs.Feeds.{Answer as Told, refused, toldBroken, toldKept, toldDropped, entered, moved, quiet, mostRecords}
+use Rattle.rounds.specs.Machine.{Monitor as AbstractMonitor, Fit, accept, feed}
+use Rattle.rounds.proofs.Facts.{split, or-right}
+use Rattle.stepping.specs.declared.Answer.{Answer}
+use Rattle.stepping.specs.declared.Answer.the-variants.{Refused, Broken, Kept, Dropped, Entered, Moved, Quiet}
+use Rattle.stepping.specs.declared.FeedRefusal.the-variants.{TimeFalls, TooManyRecords}
+use Rattle.stepping.specs.Answers.{answerOf}
+use Rattle.stepping.specs.View.{momentsOf, monitorAt}
+use Rattle.stepping.proofs.Back.{Taken, accept-taken}
+use Rattle.monitor.specs.Feed.{Stored}
+
+-- the numbers below n that pass, as a set
+setOf : ℕ → (ℕ → Bool) → ℕ
+setOf zero f = 0
+setOf (suc n) f = cond (f n) (inserted (setOf n f) n) (setOf n f)
+
+set-small : (n : ℕ) (f : ℕ → Bool) → setOf n f < 2 ^ n
+unfolding setOf inserted single
+set-small zero f = omega arith
+set-small (suc n) f = by (f n) (lt-of-lt-of-le (set-small n f) (pow-mono (omega arith)))
+  where
+    by : (b : Bool) → setOf n f < 2 ^ suc n → cond b (inserted (setOf n f) n) (setOf n f) < 2 ^ suc n
+    by true h = or-lt (suc n) (setOf n f) (2 ^ n) h (pow-lt (omega arith))
+    by false h = h
+
+beyond : (n : ℕ) (f : ℕ → Bool) (i : ℕ) → n ≤ i → contains (setOf n f) i ≡ false
+beyond n f i h = elim (split (contains (setOf n f) i)) [
+  | inl m ↦ absurd (omega (arith, member-lt n (setOf n f) i (set-small n f) m))
+  | inr m ↦ m
+]
+
+set-members : (n : ℕ) (f : ℕ → Bool) (i : ℕ) → i < n → contains (setOf n f) i ≡ f i
+unfolding setOf
+set-members zero f i h = absurd (omega arith)
+set-members (suc n) f i h = elim (split (f n)) [
+  | inl p ↦ rw (p, contains-inserted (setOf n f) n i) (elim (ℕ-discrete i n) [
+    | yes q ↦ or-right (contains (setOf n f) i) (eq-eqb i n q) ∙ sym (ap f q ∙ p)
+    | no q ↦ rw (ne-eqb i n q, set-members n f i (omega arith)) (or-none (f i))
+  ])
+  | inr p ↦ rw p (elim (ℕ-discrete i n) [
+    | yes q ↦ beyond n f i (omega arith) ∙ sym (ap f q ∙ p)
+    | no q ↦ set-members n f i (omega arith)
+  ])
+]
+  where
+    or-none : (b : Bool) → (b || false) ≡ b
+    or-none true = refl
+    or-none false = refl
+
+-- the moments of the first n clocks
+moments : ℕ → (ℕ → ℕ) → List Moment
+moments zero f = []
+moments (suc n) f = record { 0 = f 0 } ∷ moments n (λ k. f (suc k))
+
+moments-tell : (n : ℕ) (f : ℕ → ℕ) → ((k : ℕ) → n ≤ k → f k ≡ 0) → (k : ℕ) → momentsOf (moments n f) k ≡ f k
+unfolding moments
+moments-tell zero f z k = sym (z k (omega arith))
+moments-tell (suc n) f z zero = refl
+moments-tell (suc n) f z (suc k) = moments-tell n (λ j. f (suc j)) (λ j h. z (suc j) (omega arith)) k
+
+moments-length : (n : ℕ) (f : ℕ → ℕ) → length (moments n f) ≡ n
+unfolding moments
+moments-length zero f = refl
+moments-length (suc n) f = ap suc (moments-length n (λ k. f (suc k)))
+
+pub record StoredAs (x : AbstractMonitor) : Type 0 where
+  pub monitor : Monitor
+  pub shows : monitorAt monitor ≡ x
+  pub stored : Stored monitor
+
+module _ (C : Abstract) (few : C .regions ≤ mostRegions) (clocks : C .clocks ≤ mostClocks) {x : AbstractMonitor} (F : Fit C x) where
+  fired : (i : ℕ) → contains (setOf mostRegions (x .at .fired)) i ≡ x .at .fired i
+  fired i = elim (decLt i mostRegions) [
+    | yes l ↦ set-members mostRegions (x .at .fired) i l
+    | no l ↦ beyond mostRegions (x .at .fired) i (omega arith) ∙ sym (elim (split (x .at .fired i)) [
+      | inl e ↦ absurd (omega (arith, F .within i e))
+      | inr e ↦ e
+    ])
+  ]
+
+  pub stored-as : StoredAs x
+  stored-as = record {
+    monitor = record {
+      at = record { fired = setOf mostRegions (x .at .fired); resets = moments mostClocks (x .at .clocks) };
+      now = record { 0 = x .now };
+      records = x .records;
+      kept = x .kept;
+      dropped = x .dropped;
+      «break_record» = x .break;
+      reason = x .reason;
+    };
+    shows = λ i. record {
+      at = record {
+        fired = fun-ext fired i;
+        clocks = fun-ext (moments-tell mostClocks (x .at .clocks) (λ k h. F .unused k (omega arith))) i;
+      };
+      now = x .now;
+      records = x .records;
+      kept = x .kept;
+      dropped = x .dropped;
+      break = x .break;
+      reason = x .reason;
+    };
+    stored = record {
+      bits = set-small mostRegions (x .at .fired);
+      places = moments-length mostClocks (x .at .clocks);
+    };
+  }
+
+-- an answer that is told
+pub record ToldAs (a : Told) : Type 0 where
+  pub answer : Answer
+  pub tells : answerOf answer ≡ a
+
+taken-told : (a : Told) → Taken a → ToldAs a
+unfolding Taken
+taken-told (refused k) t = absurd t
+taken-told (toldBroken n k) t = record { answer = Broken n k; tells = refl }
+taken-told toldKept t = record { answer = Kept; tells = refl }
+taken-told toldDropped t = record { answer = Dropped; tells = refl }
+taken-told entered t = record { answer = Entered; tells = refl }
+taken-told moved t = record { answer = Moved; tells = refl }
+taken-told quiet t = record { answer = Quiet; tells = refl }
+
+pub told-as : (C : Abstract) (m : AbstractMonitor) (e : LogRecord) → ToldAs (feed C m e .answer)
+unfolding feed
+told-as C m e = elim (split (eqb (m .break) 0)) [
+  | inl p ↦ elim (split (ltb (e .time) (m .now))) [
+    | inl q ↦ record { answer = Refused TimeFalls; tells = rw (p, q) }
+    | inr q ↦ elim (split (leb mostRecords (m .records))) [
+      | inl r ↦ record { answer = Refused TooManyRecords; tells = rw (p, q, r) }
+      | inr r ↦
+          let t = taken-told (accept C m e .answer) (accept-taken C m e) in
+          record { answer = t .answer; tells = rw (p, q, r) (t .tells) }
+    ]
+  ]
+  | inr p ↦ record { answer = Broken (m .break) (m .reason); tells = rw p }
+]
