@@ -70,3 +70,15 @@ placeOr at (Taken r place) = place
 
 abbrev pub placeBehind : List ℕ → ℕ → ℕ
 placeBehind s at = placeOr at (nextAt s at)
+
+-- What reading one record says, in numbers: the end, with the place; a refusal, 30 or 31, with the place; or a record,
+-- with the place just behind it.
+pub data Said : Type 0 where
+  end : ℕ → Said
+  refused : ℕ → ℕ → Said
+  handed : Record → ℕ → Said
+
+abbrev pub said : ℕ → Next → Said
+said at End = end at
+said at (Refused k) = refused (recordRefusalNumber k) at
+said at (Taken r place) = handed r place

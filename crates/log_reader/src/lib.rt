@@ -5,7 +5,8 @@ use model::Record;
 ghost use mathlib.Core.Path.{_≡_};
 ghost use Prim.Native.Nat.{_<_};
 ghost use lib.ListN.{length};
-ghost use Rattle.log_reader.specs.Record.{recordRefusalNumber, messageAt, timeAt, nextAt, placeBehind};
+ghost use Rattle.log_reader.specs.Record.{recordRefusalNumber, messageAt, timeAt, nextAt, placeOr};
+ghost use Rattle.log_reader.specs.Reader.{HandsOut};
 
 // Why no record is handed out.
 pub enum RecordRefusal {
@@ -58,9 +59,9 @@ fn time_at(s: &[u8], at: usize) -> Record
     Record::Time(Moment(wire::word32_at(s, at + 1)))
 }
 
-// The work: the record at a place, in a function without a held reference.
-fn record_at(bytes: &[u8], place: usize) -> Next
-    ensures { λ r. ⌜ r ≡ nextAt (now (bytes .entry)) place ⌝ }
+// The record at a place; the bytes stay as they are.
+pub fn read_record(bytes: &[u8], place: usize) -> Next
+    ensures { λ r. ⌜ (r ≡ nextAt (now (bytes .entry)) place) × (now (bytes .exit) ≡ now (bytes .entry)) ⌝ }
 {
     if bytes.len() <= place {
         return Next::End;
@@ -83,11 +84,10 @@ fn record_at(bytes: &[u8], place: usize) -> Next
     }
 }
 
-// The place just behind the record at a place; where none stands it stays.
-fn place_behind(bytes: &[u8], place: usize) -> usize
-    ensures { λ r. ⌜ r ≡ placeBehind (now (bytes .entry)) place ⌝ }
+// The place just behind a record that is handed out; with none handed out it stays.
+fn place_after(place: usize, next: Next) -> usize
+    ensures { λ r. ⌜ r ≡ placeOr place next ⌝ }
 {
-    let next = record_at(bytes, place);
     match next {
         Next::End => place,
         Next::Refused(_) => place,
@@ -107,26 +107,12 @@ pub fn reader_at<'a>(log: &'a [u8], at: usize) -> LogReader<'a>
     LogReader { log, at }
 }
 
-// The record at the reader's place.
-pub fn current<'a>(r: LogReader<'a>) -> Next
-    ensures { λ n. ⌜ n ≡ nextAt (now (r .entry .log)) (r .entry .at) ⌝ }
+// Hands out the record at the reader's place, which moves just behind it; where none stands it stays.
+pub fn take_record<'s, 'a>(r: &'s mut LogReader<'a>) -> Next
+    ensures { λ n. ⌜ HandsOut (now (r .entry)) n (now (r .exit)) ⌝ }
 {
-    record_at(r.log, r.at)
-}
-
-// The reader just behind the record at its place; where none stands it stays.
-pub fn advance<'a>(r: LogReader<'a>) -> LogReader<'a>
-    ensures { λ q. ⌜ (q .log ≡ r .entry .log) × (q .at ≡ placeBehind (now (r .entry .log)) (r .entry .at)) ⌝ }
-{
-    LogReader {
-        log: r.log,
-        at: place_behind(r.log, r.at),
-    }
-}
-
-// The record at a place, for callers that hold no reader.
-pub fn read_record(bytes: &[u8], place: usize) -> Next
-    ensures { λ r. ⌜ (r ≡ nextAt (now (bytes .entry)) place) × (now (bytes .exit) ≡ now (bytes .entry)) ⌝ }
-{
-    current(reader_at(bytes, place))
+    let at = r.at;
+    let next = read_record(r.log, at);
+    r.at = place_after(at, next);
+    next
 }

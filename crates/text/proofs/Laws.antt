@@ -6,7 +6,7 @@ use Prim.Native.Nat.{ℕ, zero, suc, _+_, _-_, _/_, _%_, _*_, _^_, _≤_, _<_}
 use native.Mathlib.Nat.{add-zero, add-suc, suc-add, pow-suc}
 use native.Mathlib.Numerals.{add-one}
 use native.Mathlib.Omega.{arith}
-use borrow.Author.Tests.{ltb-false, lt-ltb, le-ltb}
+use borrow.Author.Tests.{ltb-true, ltb-false, lt-ltb, le-ltb}
 use lib.ListN.{length, getD, set, take, length-append, length-set}
 use lib.Seq.{sets, take-suc}
 use lib.Dec.{ltb}
@@ -105,5 +105,43 @@ digits-lead (suc k) n h p = by (ltb n 10) refl (λ g q. digits-lead k (n / 10) g
         let h : 48 < getD (digitsOf k (n / 10)) 0 0 = i g (omega (arith, ltb-false n 10 e)) in
         rw (first-of (digitsOf k (n / 10)) ((48 + n % 10) ∷ []) h) h
 
+abbrev Digits : List ℕ → Type 0
+Digits t = (i : ℕ) → i < length t → (48 ≤ getD t i 0) × (getD t i 0 ≤ 57)
+
+digit-alone : (d : ℕ) → 48 ≤ d → d ≤ 57 → Digits (d ∷ [])
+digit-alone d a b zero h = (a, b)
+digit-alone d a b (suc i) h = absurd (omega arith)
+
+digits-append : (t u : List ℕ) → Digits t → Digits u → Digits (t ++ u)
+digits-append [] u a b i h = b i h
+digits-append (d ∷ t) u a b zero h = a 0 (omega arith)
+digits-append (d ∷ t) u a b (suc i) h = digits-append t u (λ j g. a (suc j) (omega arith)) b i (omega arith)
+
+-- each byte is a digit, and there is at least one
+digits-are : (k n : ℕ) → Digits (digitsOf k n)
+unfolding digitsOf
+digits-are zero n = λ i h. absurd (omega arith)
+digits-are (suc k) n = by (ltb n 10) refl (digits-are k (n / 10))
+  where
+    by : (b : Bool) → ltb n 10 ≡ b → Digits (digitsOf k (n / 10))
+        → Digits (cond b ((48 + n) ∷ []) (digitsOf k (n / 10) ++ ((48 + n % 10) ∷ [])))
+    by true e d = digit-alone (48 + n) (omega arith) (omega (arith, ltb-true n 10 e))
+    by false e d =
+        digits-append (digitsOf k (n / 10)) ((48 + n % 10) ∷ []) d (digit-alone (48 + n % 10) (omega arith) (omega arith))
+
+digits-some : (k n : ℕ) → 0 < length (digitsOf (suc k) n)
+unfolding digitsOf
+digits-some k n = by (ltb n 10)
+  where
+    by : (b : Bool) → 0 < length (cond b ((48 + n) ∷ []) (digitsOf k (n / 10) ++ ((48 + n % 10) ∷ [])))
+    by true = omega arith
+    by false = omega (arith, length-append (digitsOf k (n / 10)) ((48 + n % 10) ∷ []))
+
 pub spells : (n : ℕ) → n < 10 ^ 20 → Spells n (digitsOf 20 n)
-spells n h = record { number = digits-spell 20 n h; no-leading-zero = λ p. digits-lead 20 n h p }
+spells n h = record {
+  some = digits-some 19 n;
+  digits = digits-are 20 n;
+  number = digits-spell 20 n h;
+  no-leading-zero = λ p. digits-lead 20 n h p;
+  lone-zero = λ e. digits-one 20 n (λ z. omega arith) (omega arith) ∙ ap (λ (m : ℕ). (48 + m) ∷ []) e;
+}

@@ -2,7 +2,7 @@
 use Prim.Native.Char.{code}
 use Prim.Native.String as string
 use Prim.Native.String.{String}
-use Prim.Native.Nat.{ℕ, zero, suc, _+_, _*_, _-_, _/_, _%_, _<_}
+use Prim.Native.Nat.{ℕ, zero, suc, _+_, _*_, _-_, _/_, _%_, _≤_, _<_}
 use mathlib.Core.Path.{_≡_}
 use mathlib.Core.Bool.{cond}
 use mathlib.Core.List.{List, [], _∷_, _++_}
@@ -33,10 +33,14 @@ abbrev pub spelt : ℕ → List ℕ → ℕ
 spelt n [] = n
 spelt n (d ∷ ds) = spelt (n * 10 + (d - digitZero)) ds
 
--- no digit is lost, and none stands there for nothing
+-- t is n in decimal: every byte is a digit and there is at least one, no digit is lost, the first is no zero where n is
+-- not, and 0 is the one digit 0
 pub record Spells (n : ℕ) (t : List ℕ) : Type 0 where
+  pub some : 0 < length t
+  pub digits : (i : ℕ) → i < length t → (digitZero ≤ getD t i 0) × (getD t i 0 ≤ digitZero + 9)
   pub number : spelt 0 t ≡ n
   pub no-leading-zero : 0 < n → digitZero < getD t 0 0
+  pub lone-zero : n ≡ 0 → t ≡ digitZero ∷ []
 
 -- a buffer l has become m: the text t stands in it from i on, every other byte is as it was, and j is just behind t
 pub record Wrote (l : List ℕ) (i : ℕ) (t m : List ℕ) (j : ℕ) : Type 0 where
