@@ -40,5 +40,5 @@ exact-test c vs p r e = (e, rw e (exact c vs p))
 
 -- what `well_formed` promises, from the test alone
 pub promised : (c : Chart) (vs : List Val) → Is (row chart.the-type) c vs → (r : Bool) → r ≡ wellFormed c
-    → (r ≡ wellFormed c) × (((r ≡ true) ↔ Given c) × ((r ≡ true) ↔ (readChart (chartBytes c) ≡ acceptedAs c)))
-promised c vs p r e = (e, (exact-test c vs p r e .1, rw e (written c vs p)))
+    → (r ≡ wellFormed c) × ((r ≡ true) ↔ Given c) × ((r ≡ true) ↔ (readChart (chartBytes c) ≡ acceptedAs c))
+promised c vs p r e = (e, exact-test c vs p r e .1, rw e (written c vs p))

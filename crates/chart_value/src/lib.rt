@@ -175,9 +175,9 @@ fn counts_fit(c: Chart) -> bool
 
 // Whether the chart is one that some accepted bytes give: then those that the writer lays out give it too.
 pub fn well_formed(c: Chart) -> bool
-    ensures test { λ r. ⌜ r ≡ wellFormed c ⌝ }
-    ensures given { λ r. ⌜ ((r ≡ true) ↔ Given c) ⌝ }
-    ensures written { λ r. ⌜ ((r ≡ true) ↔ (readChart (chartBytes c) ≡ acceptedAs c)) ⌝ }
+    ensures { λ r. ⌜ (r ≡ wellFormed c)
+        × ((r ≡ true) ↔ Given c)
+        × ((r ≡ true) ↔ (readChart (chartBytes c) ≡ acceptedAs c)) ⌝ }
 {
     let prechart = c.prechart as usize;
     let count = c.count as usize;

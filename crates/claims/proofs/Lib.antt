@@ -3,4 +3,3 @@ pub mod Watching
 pub mod Examples
 pub mod Demand1
 pub mod Logs
-pub mod Demand2

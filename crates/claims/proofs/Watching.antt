@@ -18,7 +18,8 @@ use Rattle.log_reader.specs.Record.{nextAt}
 use Rattle.rounds.specs.Base.{Snoc, ε, _▸_}
 use Rattle.rounds.specs.Feeds.{Answer as Told}
 use Rattle.rounds.specs.Machine.{after}
-use Rattle.rounds.specs.Demand3.{Meaning}
+use Rattle.rounds.specs.Demand3.{Meaning, Agrees}
+use Rattle.runs.proofs.Demand2.{demand-2}
 use Rattle.rounds.proofs.Demand3.{demand-3}
 use Rattle.chart_value.specs.View.{chartOf}
 use Rattle.log_reader.specs.Record as found
@@ -27,17 +28,20 @@ use Rattle.claims.specs.Demand1.{FindsAs, Walk, judges}
 use Rattle.stepping.specs.declared.Step.{Step}
 use Rattle.stepping.specs.View.{stepOf}
 use Rattle.monitor.specs.Feed.{feedOf}
-use Rattle.monitor.specs.Runs.{Run, none-yet, one-more, logged, Demand3Of}
-use Rattle.monitor.proofs.Runs.{demand-3-of}
+use Rattle.monitor.specs.Runs.{Run, none-yet, one-more, logged}
+use Rattle.monitor.proofs.Runs.{feeding}
 use Rattle.claims.specs.declared.Watched.{Watched}
 use Rattle.claims.specs.Judged.{JudgedBy}
 use Rattle.claims.specs.Watch.{FedAll, Watches}
+use Rattle.claims.specs.Claims.{Demands}
 use Rattle.log_reader.specs.Records.{recordsFrom, recordsIn}
 use Rattle.log_reader.proofs.Records.{one-record}
 
--- the third demand of every chart that is read
-pub demand-3-read : (bytes : List ℕ) (c : Chart) → readChart bytes ≡ acceptedAs c → Demand3Of c
-demand-3-read bytes c e = demand-3-of c (sound bytes c e .fine) (shown-of bytes c e .accepted)
+-- the demands, of every chart that is read
+pub demands-read : (bytes : List ℕ) (c : Chart) → readChart bytes ≡ acceptedAs c → Demands c
+demands-read bytes c e =
+    let A = shown-of bytes c e .accepted in
+    record { second = demand-2 (chartOf c) A; third = demand-3 (chartOf c) A; feeding = feeding c (sound bytes c e .fine) A }
 
 -- the records fed before a place, and what is left gives the whole
 pub record SoFar (c : Chart) (s : List ℕ) (m : Monitor) (at left : ℕ) : Type 0 where
@@ -83,7 +87,9 @@ watched chart log x r e a z f = record {
   offset = ap offsetOf a ∙ ap (λ (s : Said). s .offset) e;
   refused = z;
   fed = fed;
-  agrees = λ c q M. demand-3-read chart c q .agrees (fed c q .run) M .1;
+  agrees = λ c q M.
+      let D = demands-read chart c q in
+      subst (Agrees (chartOf c) (M .accepted) (M .stretches) (M .last)) (sym (D .feeding .leads (fed c q .run))) (D .third .monitor-agrees M .1);
 }
   where
     fed : (c : Chart) → readChart chart ≡ acceptedAs c → FedAll c (recordsIn log) (r .monitor)

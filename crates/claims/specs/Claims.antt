@@ -15,18 +15,18 @@ use Rattle.chart_value.specs.Given.{Given}
 use Rattle.chart_value.specs.View.{chartOf, Shown, CodesTell}
 use Rattle.chart_value.specs.Guards.{NeverFire}
 use Rattle.rounds.specs.Base.{Snoc}
-use Rattle.rounds.specs.Demand3.{Meaning}
+use Rattle.rounds.specs.Demand3.{Demand3, Meaning}
+use Rattle.runs.specs.Demand2.{Demand2}
 use Rattle.stepping.specs.declared.Answer.{Answer}
 use Rattle.stepping.specs.Answers.{answerOf}
 use Rattle.stepping.specs.View.{monitorAt}
 use Rattle.log_reader.specs.declared.Next.{Next}
 use Rattle.log_reader.specs.Record as found
 use Rattle.log_reader.specs.Records.{recordsIn}
-use Rattle.monitor.specs.Runs.{logged, Demand3Of, ViewTells}
+use Rattle.monitor.specs.Runs.{logged, Feeding, ViewTells}
 use Rattle.judge.specs.declared.Judgement.{Judgement}
 use Rattle.judge.specs.Judge as judge
 use Rattle.claims.specs.Demand1.{FindsAs, Walk}
-use Rattle.claims.specs.Demand2.{Demand2Of}
 use Rattle.claims.specs.Judged.{JudgedBy}
 use Rattle.claims.specs.Examples.{examples, AllSaid}
 
@@ -48,6 +48,12 @@ pub record Views (m : Monitor) : Type 0 where
   pub break : monitorAt m .break ≡ m .«break_record»
   pub reason : monitorAt m .reason ≡ m .reason
 
+-- the second and the third demand of the chart that c shows, and the real operation, of which they speak by this
+pub record Demands (c : Chart) : Type 0 where
+  pub second : Demand2 (chartOf c)
+  pub third : Demand3 (chartOf c)
+  pub feeding : Feeding c
+
 pub record Claims : Type 0 where
   -- number, offset, chart, verdict and record fix the answers
   pub answers-tell : AnswersTell
@@ -59,10 +65,8 @@ pub record Claims : Type 0 where
   pub codes-tell : CodesTell
   -- the guards of the reader's definition never fire
   pub guards : NeverFire
-  -- the second demand, of every chart that is read from bytes
-  pub demand-2 : (bytes : List ℕ) (c : Chart) → readChart bytes ≡ acceptedAs c → Demand2Of c
-  -- the third demand, of every list of feeds with a chart that is read from bytes
-  pub demand-3 : (bytes : List ℕ) (c : Chart) → readChart bytes ≡ acceptedAs c → Demand3Of c
+  -- of every chart that is read from bytes: the second and the third demand, and that feeding goes as they say
+  pub demands : (bytes : List ℕ) (c : Chart) → readChart bytes ≡ acceptedAs c → Demands c
   -- the verdict over a log without a fault is what the stretches of its records give
   pub judged : (c : Chart) → Given c → (log : List ℕ) {es : Snoc Record} {at last : ℕ} → Walk log es at last → FindsAs log at (found.end at)
       → (M : Meaning (chartOf c) (logged es)) → JudgedBy c log es M

@@ -50,18 +50,6 @@ recordBy s at b =
 abbrev pub nextAt : List ℕ → ℕ → Next
 nextAt s at = cond (leb (length s) at) End (recordBy s at (getD s at 0))
 
--- What reading one record says: the end, a refusal by its number, or a record; each with the place afterwards, which moves only when a record
--- is handed out.
-pub data Said : Type 0 where
-  end : ℕ → Said
-  refused : ℕ → ℕ → Said
-  handed : Record → ℕ → Said
-
-abbrev pub said : ℕ → Next → Said
-said at End = end at
-said at (Refused k) = refused (recordRefusalNumber k) at
-said at (Taken r place) = handed r place
-
 -- the place moves only when a record is handed out
 abbrev pub placeOr : ℕ → Next → ℕ
 placeOr at End = at

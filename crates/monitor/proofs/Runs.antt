@@ -21,9 +21,9 @@ use Rattle.chart_value.proofs.Facts.{wf-of}
 use Rattle.rounds.specs.Base.{Snoc, ε, _▸_}
 use Rattle.rounds.specs.Chart.{Accepted}
 use Rattle.rounds.specs.Rows.{LogRecord}
-use Rattle.rounds.specs.Feeds.{Answer as Told, Exactly, refused, toldBroken, timeFalls, tooManyRecords, mostRecords}
+use Rattle.rounds.specs.Feeds.{Answer as Told, refused, toldBroken, timeFalls, tooManyRecords, mostRecords}
 use Rattle.rounds.specs.Machine.{Monitor as AbstractMonitor, Step as AbstractStep, Fit, fresh, feed, after, answers}
-use Rattle.rounds.specs.Demand3.{Demand3, Agrees}
+use Rattle.rounds.specs.Demand3.{Demand3}
 use Rattle.rounds.proofs.Facts.{split}
 use Rattle.rounds.proofs.Demand3.{demand-3}
 use Rattle.stepping.specs.declared.Answer.the-variants.{Refused}
@@ -34,7 +34,7 @@ use Rattle.stepping.specs.Answers.{answerOf, feedRefusalNumber}
 use Rattle.stepping.specs.View.{momentsOf, monitorAt, stepOf}
 use Rattle.stepping.proofs.Back.{Taken, accept-taken}
 use Rattle.monitor.specs.Feed.{logRecord, feedOf}
-use Rattle.monitor.specs.Runs.{Run, none-yet, one-more, RunOver, logged, Demand3Of, ViewTells}
+use Rattle.monitor.specs.Runs.{Run, none-yet, one-more, RunOver, logged, Feeding, ViewTells}
 use Rattle.monitor.proofs.Fitness.{of-fit}
 use Rattle.monitor.proofs.Storing.{told-as, stored-as}
 
@@ -64,7 +64,7 @@ zero-fresh = λ i. record {
 
 module _ (c : Chart) (wf : wellFormed c ≡ true) (A : Accepted (chartOf c)) where
   -- a fit monitor is fed as the machine is
-  pub fed-fit : (m : Monitor) (e : Record) → Fit (chartOf c) (monitorAt m) → feedOf c m e ≡ feed (chartOf c) (monitorAt m) (logRecord e)
+  fed-fit : (m : Monitor) (e : Record) → Fit (chartOf c) (monitorAt m) → feedOf c m e ≡ feed (chartOf c) (monitorAt m) (logRecord e)
   unfolding feedOf
   fed-fit m e F = rw (wf, of-fit (chartOf c) A m F)
 
@@ -72,9 +72,9 @@ module _ (c : Chart) (wf : wellFormed c ≡ true) (A : Accepted (chartOf c)) whe
   D = demand-3 (chartOf c) A
 
   -- the monitor and the answers after a list
-  pub record Goes (es : Snoc Record) (told : Snoc Told) (m : Monitor) : Type 0 where
-    pub monitor : monitorAt m ≡ after (chartOf c) (logged es)
-    pub answered : told ≡ answers (chartOf c) (logged es)
+  record Goes (es : Snoc Record) (told : Snoc Told) (m : Monitor) : Type 0 where
+    monitor : monitorAt m ≡ after (chartOf c) (logged es)
+    answered : told ≡ answers (chartOf c) (logged es)
 
   fit-after : {es : Snoc Record} {told : Snoc Told} {m : Monitor} → Goes es told m → Fit (chartOf c) (monitorAt m)
   fit-after {es} g = subst (λ (x : AbstractMonitor). Fit (chartOf c) x) (sym (g .monitor)) (D .stays-fit (logged es))
@@ -84,11 +84,11 @@ module _ (c : Chart) (wf : wellFormed c ≡ true) (A : Accepted (chartOf c)) whe
   fed-after {es} {told} {m} g e =
       fed-fit m e (fit-after g) ∙ ap (λ (x : AbstractMonitor). feed (chartOf c) x (logRecord e)) (g .monitor)
 
-  pub step-after : {es : Snoc Record} {told : Snoc Told} {m : Monitor} → Goes es told m → (e : Record) (r : Step) → stepOf r ≡ feedOf c m e
+  step-after : {es : Snoc Record} {told : Snoc Told} {m : Monitor} → Goes es told m → (e : Record) (r : Step) → stepOf r ≡ feedOf c m e
       → stepOf r ≡ feed (chartOf c) (after (chartOf c) (logged es)) (logRecord e)
   step-after g e r q = q ∙ fed-after g e
 
-  pub goes : {es : Snoc Record} {told : Snoc Told} {m : Monitor} → Run c es told m → Goes es told m
+  goes : {es : Snoc Record} {told : Snoc Told} {m : Monitor} → Run c es told m → Goes es told m
   unfolding after answers
   goes none-yet = record { monitor = zero-fresh; answered = refl }
   goes (one-more {es} {told} {m} e r q h) =
@@ -148,24 +148,12 @@ module _ (c : Chart) (wf : wellFormed c ≡ true) (A : Accepted (chartOf c)) whe
       never-said k n l (after (chartOf c) (logged es)) (logRecord e)
       (sym (ap (λ (x : AbstractStep). x .answer) (step-after g e r h)) ∙ ap answerOf q)
 
-  pub demand-3-of : Demand3Of c
-  demand-3-of = record {
-    run-exists = exists;
-    run-only = λ p q.
-        let g = goes p in
-        let h = goes q in
-        (g .answered ∙ sym (h .answered), g .monitor ∙ sym (h .monitor));
-    cut-exists = λ es. D .cut-exists (logged es);
-    cut-unique = λ es. D .cut-unique;
-    one-row = D .one-row;
-    agrees = λ {es} {told} {m} q M.
-        let g = goes q in
-        let a = D .monitor-agrees M in
-        (g .answered ∙ a .0, subst (λ (x : AbstractMonitor). Agrees (chartOf c) (M .accepted) (M .stretches) (M .last) x) (sym (g .monitor)) (a .1));
-    exactly = λ {es} {told} {m} q M o s e r l n h.
-        let g = goes q in
-        subst (λ (x : AbstractStep). Exactly (chartOf c) o s (logRecord e) (x .answer)) (sym (step-after g e r h))
-        (D .exactly M o s (logRecord e) l n);
+  pub feeding : Feeding c
+  feeding = record {
+    one = fed-fit;
+    exists = exists;
+    answered = λ q. goes q .answered;
+    leads = λ q. goes q .monitor;
     never-refused = λ {es} {told} {m} q e r h.
         let g = goes q in
         (never g e r h NotAChart (λ z. omega arith) (λ z. omega arith), never g e r h Unfit (λ z. omega arith) (λ z. omega arith));

@@ -1,17 +1,15 @@
--- A list of feeds, and the third demand of it.
+-- Lists of feeds, and that they go as the machine does.
 use mathlib.Core.Path.{_≡_}
 use mathlib.Core.Logic.{_≢_}
-use mathlib.Core.Option.{none}
-use Prim.Native.Nat.{ℕ}
 use Rattle.model.specs.declared.Chart.{Chart}
 use Rattle.model.specs.declared.Monitor.{Monitor}
 use Rattle.model.specs.declared.Record.{Record}
 use Rattle.model.specs.Monitor.{zeroMonitor}
 use Rattle.chart_value.specs.View.{chartOf}
 use Rattle.rounds.specs.Base.{Snoc, ε, _▸_, each}
-use Rattle.rounds.specs.Rows.{LogRecord, Row, Lawful}
-use Rattle.rounds.specs.Feeds.{Answer as Told, refusal, unended, Exactly}
-use Rattle.rounds.specs.Demand3.{Meaning, Same, Agrees}
+use Rattle.rounds.specs.Rows.{LogRecord}
+use Rattle.rounds.specs.Feeds.{Answer as Told}
+use Rattle.rounds.specs.Machine.{Fit, feed, after, answers}
 use Rattle.stepping.specs.declared.Answer.the-variants.{Refused}
 use Rattle.stepping.specs.declared.FeedRefusal.the-variants.{NotAChart, Unfit}
 use Rattle.stepping.specs.declared.Step.{Step}
@@ -37,26 +35,15 @@ pub record RunOver (c : Chart) (es : Snoc Record) : Type 0 where
 abbrev pub logged : Snoc Record → Snoc LogRecord
 logged es = each logRecord es
 
-pub record Demand3Of (c : Chart) : Type 0 where
-  -- every list of records can be fed, whatever was sent and when, and it fixes the answers and what the monitor shows
-  pub run-exists : (es : Snoc Record) → RunOver c es
-  pub run-only : {es : Snoc Record} {told told′ : Snoc Told} {m m′ : Monitor} → Run c es told m → Run c es told′ m′
-      → (told ≡ told′) × (monitorAt m ≡ monitorAt m′)
-  -- every list of feeds has its answers, accepted records and stretches with their outcomes, and only one choice of them
-  pub cut-exists : (es : Snoc Record) → Meaning (chartOf c) (logged es)
-  pub cut-unique : (es : Snoc Record) (M M′ : Meaning (chartOf c) (logged es)) → Same (chartOf c) M M′
-  -- "No stretch has two lawful rows."
-  pub one-row : (o : ℕ) (s : Snoc LogRecord) (r r′ : Row) → Lawful (chartOf c) o s r → Lawful (chartOf c) o s r′ → r ≡ r′
-  -- "After the list the monitor's kept, dropped and break are what the stretches give", and so is every answer; an unended stretch's
-  -- row has exactly the fired regions, and its clocks
-  pub agrees : {es : Snoc Record} {told : Snoc Told} {m : Monitor} → Run c es told m → (M : Meaning (chartOf c) (logged es))
-      → (told ≡ M .told) × Agrees (chartOf c) (M .accepted) (M .stretches) (M .last) (monitorAt m)
-  -- "up to each record of each of its stretches": kept exactly if a lawful row has every region, runs on exactly if a lawful row lacks
-  -- one, dropped or broken exactly if there is none
-  pub exactly : {es : Snoc Record} {told : Snoc Told} {m : Monitor} → Run c es told m → (M : Meaning (chartOf c) (logged es))
-      → (o : ℕ) (s : Snoc LogRecord) (e : Record) (r : Step) → M .last ≡ unended o s → refusal (M .accepted) (logRecord e) ≡ none
-      → stepOf r ≡ feedOf c m e → Exactly (chartOf c) o s (logRecord e) (answerOf (r .answer))
-  -- 20 and 21 never occur
+-- Feeding goes as the machine over the chart that c shows.
+pub record Feeding (c : Chart) : Type 0 where
+  -- one record to a fit monitor
+  pub one : (m : Monitor) (e : Record) → Fit (chartOf c) (monitorAt m) → feedOf c m e ≡ feed (chartOf c) (monitorAt m) (logRecord e)
+  -- every list of records can be fed, whatever was sent and when; its answers and its monitor are the machine's
+  pub exists : (es : Snoc Record) → RunOver c es
+  pub answered : {es : Snoc Record} {told : Snoc Told} {m : Monitor} → Run c es told m → told ≡ answers (chartOf c) (logged es)
+  pub leads : {es : Snoc Record} {told : Snoc Told} {m : Monitor} → Run c es told m → monitorAt m ≡ after (chartOf c) (logged es)
+  -- 20 and 21 never occur in it
   pub never-refused : {es : Snoc Record} {told : Snoc Told} {m : Monitor} → Run c es told m → (e : Record) (r : Step)
       → stepOf r ≡ feedOf c m e → (r .answer ≢ Refused NotAChart) × (r .answer ≢ Refused Unfit)
 

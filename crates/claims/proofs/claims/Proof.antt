@@ -5,8 +5,7 @@ use Rattle.chart_value.proofs.Guards.{never-fire}
 use Rattle.monitor.proofs.Runs.{view-tells}
 use Rattle.claims.proofs.Answers.{answers-tell}
 use Rattle.claims.proofs.Examples.{examples-said}
-use Rattle.claims.proofs.Demand2.{demand-2-read}
-use Rattle.claims.proofs.Watching.{demand-3-read, judged-walk}
+use Rattle.claims.proofs.Watching.{demands-read, judged-walk}
 use Rattle.claims.proofs.Logs.{walk-records}
 use Rattle.chart_faults.proofs.Reading.{faults}
 use Rattle.claims.proofs.claims.Statement.{statement}
@@ -20,8 +19,7 @@ returns c =
       shown = shown;
       codes-tell = codes-tell;
       guards = never-fire;
-      demand-2 = demand-2-read;
-      demand-3 = demand-3-read;
+      demands = demands-read;
       judged = judged-walk;
       walked = walk-records;
       views = λ m. record { fired = λ i. refl; clocks = λ k. refl; now = refl; records = refl; kept = refl; dropped = refl; break = refl; reason = refl };
