@@ -26,7 +26,7 @@ use Rattle.log_reader.specs.Record as found
 use Rattle.chart_value.specs.Given.{Given}
 use Rattle.claims.specs.Demand1.{FindsAs, Walk, judges}
 use Rattle.stepping.specs.declared.Step.{Step}
-use Rattle.stepping.specs.View.{stepOf}
+use Rattle.stepping.specs.Monitors.{stepOf}
 use Rattle.monitor.specs.Feed.{feedOf}
 use Rattle.monitor.specs.Runs.{Run, none-yet, one-more, logged}
 use Rattle.monitor.proofs.Runs.{feeding}

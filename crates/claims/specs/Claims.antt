@@ -19,7 +19,7 @@ use Rattle.rounds.specs.Demand3.{Demand3, Meaning}
 use Rattle.runs.specs.Demand2.{Demand2}
 use Rattle.stepping.specs.declared.Answer.{Answer}
 use Rattle.stepping.specs.Answers.{answerOf}
-use Rattle.stepping.specs.View.{monitorAt}
+use Rattle.stepping.specs.Monitors.{monitorAt}
 use Rattle.log_reader.specs.declared.Next.{Next}
 use Rattle.log_reader.specs.Record as found
 use Rattle.log_reader.specs.Records.{recordsIn}

@@ -13,7 +13,7 @@ use Rattle.rounds.specs.Base.{Snoc}
 use Rattle.rounds.specs.Feeds.{Answer as Told}
 use Rattle.rounds.specs.Demand3.{Meaning, Agrees}
 use Rattle.chart_value.specs.View.{chartOf}
-use Rattle.stepping.specs.View.{monitorAt}
+use Rattle.stepping.specs.Monitors.{monitorAt}
 use Rattle.monitor.specs.Runs.{Run, logged}
 use Rattle.claims.specs.declared.Watched.{Watched}
 

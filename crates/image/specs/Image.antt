@@ -6,7 +6,7 @@ use lib.ListN.{getD}
 use Rattle.wire.specs.Bytes.{word32}
 use Rattle.model.specs.declared.Moment.{Moment}
 use Rattle.model.specs.declared.Monitor.{Monitor}
-use Rattle.stepping.specs.View.{momentsOf}
+use Rattle.stepping.specs.Monitors.{momentsOf}
 
 -- a number in four bytes
 abbrev pub wordBytes : ℕ → List ℕ

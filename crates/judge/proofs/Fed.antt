@@ -29,7 +29,8 @@ use Rattle.log_reader.specs.Record.{messageByte, timeByte, messageSize, timeSiz
 use Rattle.log_reader.specs.Records.{onRecord, recordsFrom, recordsIn}
 use Rattle.log_reader.proofs.Records.{one-record}
 use Rattle.stepping.specs.declared.Step.{Step}
-use Rattle.stepping.specs.View.{monitorAt, stepOf, recordOf}
+use Rattle.stepping.specs.Monitors.{monitorAt, stepOf}
+use Rattle.stepping.specs.View.{recordOf}
 use Rattle.plan.specs.Plan.{recordCode}
 use Rattle.monitor.specs.Feed.{logRecord}
 use Rattle.monitor.specs.Runs.{logged}

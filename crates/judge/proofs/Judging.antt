@@ -14,7 +14,7 @@ use Rattle.chart_value.proofs.Facts.{wf-of}
 use Rattle.chart_value.proofs.Shown.{shown}
 use Rattle.rounds.specs.Machine.{Monitor as AbstractMonitor, Fit, after}
 use Rattle.rounds.proofs.Fitness.{after-fit}
-use Rattle.stepping.specs.View.{monitorAt}
+use Rattle.stepping.specs.Monitors.{monitorAt}
 use Rattle.log_reader.specs.Records.{recordsIn}
 use Rattle.monitor.specs.Runs.{logged}
 use Rattle.judge.specs.declared.LogRefusal.{LogRefusal}

@@ -16,7 +16,7 @@ ghost use Rattle.model.specs.Chart.{mostRegions};
 ghost use Rattle.rounds.specs.Machine.{after};
 ghost use Rattle.chart_value.specs.WellFormed.{wellFormed};
 ghost use Rattle.chart_value.specs.View.{chartOf};
-ghost use Rattle.stepping.specs.View.{monitorAt};
+ghost use Rattle.stepping.specs.Monitors.{monitorAt};
 ghost use Rattle.monitor.specs.Runs.{logged};
 ghost use Rattle.log_reader.specs.Records.{recordsIn};
 ghost use Rattle.judge.specs.Check.{logRefusalNumber, timeOf, takeRecord, stepAt, checkLog};

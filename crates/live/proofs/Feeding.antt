@@ -26,7 +26,7 @@ use Rattle.stepping.specs.declared.Answer.the-variants.{Refused, Broken, Kept, 
 use Rattle.stepping.specs.declared.FeedRefusal.the-variants.{NotAChart}
 use Rattle.stepping.specs.declared.Step.{Step}
 use Rattle.stepping.specs.Answers.{feedRefusalNumber, answerNumber, answerOf, isRefused, HandsBack}
-use Rattle.stepping.specs.View.{monitorAt, stepOf}
+use Rattle.stepping.specs.Monitors.{monitorAt, stepOf}
 use Rattle.monitor.specs.Feed.{madeNumber, MadeOf, logRecord, feedOf, refuse}
 use Rattle.monitor.specs.declared.Made.{Made}
 use Rattle.chart_value.specs.WellFormed.{wellFormed}

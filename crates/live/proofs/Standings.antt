@@ -9,7 +9,7 @@ use Rattle.rounds.specs.Chart.{Chart as Abstract}
 use Rattle.rounds.specs.Machine.{Fit}
 use Rattle.stepping.specs.declared.FeedRefusal.the-variants.{NotAChart, Unfit}
 use Rattle.stepping.specs.Answers.{feedRefusalNumber}
-use Rattle.stepping.specs.View.{monitorAt}
+use Rattle.stepping.specs.Monitors.{monitorAt}
 use Rattle.monitor.specs.Fit.{fits}
 use Rattle.judge.specs.declared.Verdict.{Verdict}
 use Rattle.judge.specs.Judge.{zeroVerdict}

@@ -17,7 +17,7 @@ use Rattle.chart_value.specs.View.{chartOf}
 use Rattle.stepping.specs.declared.Step.{Step}
 use Rattle.stepping.specs.declared.FeedRefusal.the-variants.{NotAChart, Unfit}
 use Rattle.stepping.specs.Answers.{feedRefusalNumber, answerNumber, isRefused}
-use Rattle.stepping.specs.View.{monitorAt, stepOf}
+use Rattle.stepping.specs.Monitors.{monitorAt, stepOf}
 use Rattle.monitor.specs.Fit.{fits}
 use Rattle.monitor.specs.Feed.{feedOf}
 use Rattle.judge.specs.Judge.{verdictOf, zeroVerdict}

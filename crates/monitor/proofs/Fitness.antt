@@ -27,7 +27,8 @@ use Rattle.rounds.proofs.Facts.{split, clash, and-of, and-left, and-right, or-l
 use Rattle.rounds.proofs.Machine.{full-true, full-false, plain-none, plain-is-none}
 use Rattle.stepping.specs.declared.Head.{Head}
 use Rattle.stepping.specs.declared.Found.{Found}
-use Rattle.stepping.specs.View.{momentsOf, monitorAt, planChart, Compiled}
+use Rattle.stepping.specs.Monitors.{momentsOf, monitorAt}
+use Rattle.stepping.specs.View.{planChart, Compiled}
 use Rattle.stepping.specs.Parts.{readyBy, foundOf}
 use Rattle.stepping.proofs.Ready.{lt-two-pow, subset-all, found-plain}
 use Rattle.monitor.specs.Fit.{closedUpward, isNone, restsUnlessBroken, momentsFit, breakFits, countsFit, fits}

@@ -31,7 +31,7 @@ use Rattle.stepping.specs.declared.FeedRefusal.{FeedRefusal}
 use Rattle.stepping.specs.declared.FeedRefusal.the-variants.{NotAChart, Unfit}
 use Rattle.stepping.specs.declared.Step.{Step}
 use Rattle.stepping.specs.Answers.{answerOf, feedRefusalNumber}
-use Rattle.stepping.specs.View.{momentsOf, monitorAt, stepOf}
+use Rattle.stepping.specs.Monitors.{momentsOf, monitorAt, stepOf}
 use Rattle.stepping.proofs.Back.{Taken, accept-taken}
 use Rattle.monitor.specs.Feed.{logRecord, feedOf}
 use Rattle.monitor.specs.Runs.{Run, none-yet, one-more, RunOver, logged, Feeding, ViewTells}

@@ -17,7 +17,7 @@ use Rattle.rounds.specs.Machine as machine
 use Rattle.stepping.specs.declared.FeedRefusal.{FeedRefusal}
 use Rattle.stepping.specs.declared.FeedRefusal.the-variants.{NotAChart, Unfit}
 use Rattle.stepping.specs.Answers.{feedRefusalNumber}
-use Rattle.stepping.specs.View.{monitorAt}
+use Rattle.stepping.specs.Monitors.{monitorAt}
 use Rattle.monitor.specs.declared.MadeAnswer.{MadeAnswer}
 use Rattle.monitor.specs.declared.MadeAnswer.the-variants.{Fresh, NoChart}
 use Rattle.monitor.specs.declared.Made.{Made}

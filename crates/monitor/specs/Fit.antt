@@ -12,7 +12,7 @@ use Rattle.rounds.specs.Base.{allBelow}
 use Rattle.rounds.specs.Chart.{Chart as Abstract}
 use Rattle.rounds.specs.Feeds.{mostRecords, noReadyRegion, conditionFails}
 use Rattle.rounds.specs.Machine.{full, readyPlain}
-use Rattle.stepping.specs.View.{momentsOf}
+use Rattle.stepping.specs.Monitors.{momentsOf}
 
 -- "all above a fired region are fired"
 unfoldable pub closedUpward : Abstract → ℕ → Bool

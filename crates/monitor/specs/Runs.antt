@@ -14,7 +14,7 @@ use Rattle.stepping.specs.declared.Answer.the-variants.{Refused}
 use Rattle.stepping.specs.declared.FeedRefusal.the-variants.{NotAChart, Unfit}
 use Rattle.stepping.specs.declared.Step.{Step}
 use Rattle.stepping.specs.Answers.{answerOf}
-use Rattle.stepping.specs.View.{monitorAt, stepOf}
+use Rattle.stepping.specs.Monitors.{monitorAt, stepOf}
 use Rattle.monitor.specs.Feed.{Stored, logRecord, feedOf}
 
 -- "All feeds carry one accepted chart; the first gets a fresh monitor, each later one the monitor the last handed back, whatever it

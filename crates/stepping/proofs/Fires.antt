@@ -19,7 +19,7 @@ use Rattle.rounds.specs.Chart.{Chart}
 use Rattle.rounds.specs.Rows.{opened}
 use Rattle.rounds.specs.Machine.{Place as AbstractPlace, opening}
 use Rattle.rounds.proofs.Facts.{split}
-use Rattle.stepping.specs.View.{placeAt, momentsOf}
+use Rattle.stepping.specs.Monitors.{placeAt, momentsOf}
 use Rattle.stepping.specs.Parts.{fireBy}
 
 ticks : Moment → ℕ

@@ -20,7 +20,8 @@ use Rattle.rounds.proofs.Machine.{for-some}
 use Rattle.stepping.specs.declared.Head.{Head}
 use Rattle.stepping.specs.declared.Sought.{Sought}
 use Rattle.stepping.specs.declared.Sought.the-variants.{Ready as ReadyAt, Unready, Foreign}
-use Rattle.stepping.specs.View.{planChart, Compiled, recordOf, monitorAt}
+use Rattle.stepping.specs.Monitors.{monitorAt}
+use Rattle.stepping.specs.View.{planChart, Compiled, recordOf}
 use Rattle.stepping.specs.Parts.{readyBy, soughtBy, takenAt}
 use Rattle.stepping.proofs.Loops.{one-passes}
 use Rattle.stepping.proofs.Ready.{first-same, ready-same}

@@ -13,7 +13,8 @@ use Rattle.model.specs.declared.Moment.{Moment}
 use Rattle.model.specs.Chart.{mostClocks, mostTerms}
 use Rattle.rounds.specs.Base.{allBelow}
 use Rattle.stepping.specs.declared.Head.{Head}
-use Rattle.stepping.specs.View.{bias, lowerPlace, upperPlace, boundOf, firstOf, secondOf, bounded, holdsBy, conditionBy, InChart, Compiled, momentsOf}
+use Rattle.stepping.specs.Monitors.{momentsOf}
+use Rattle.stepping.specs.View.{bias, lowerPlace, upperPlace, boundOf, firstOf, secondOf, bounded, holdsBy, conditionBy, InChart, Compiled}
 use Rattle.stepping.specs.Parts.{valueAt, Testable}
 
 -- the test of a word, by the side that its sums fall on

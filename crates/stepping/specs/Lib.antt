@@ -1,3 +1,4 @@
 pub mod Answers
+pub mod Monitors
 pub mod View
 pub mod Parts

@@ -21,7 +21,8 @@ use Rattle.stepping.specs.declared.Found.{Found}
 use Rattle.stepping.specs.declared.Found.the-variants.{At, Nothing}
 use Rattle.stepping.specs.declared.Sought.{Sought}
 use Rattle.stepping.specs.declared.Sought.the-variants.{Ready, Unready, Foreign}
-use Rattle.stepping.specs.View.{Words, Within, momentsOf, placeAt}
+use Rattle.stepping.specs.Monitors.{momentsOf, placeAt}
+use Rattle.stepping.specs.View.{Words, Within}
 
 -- region i isn't fired, and those above it are: `above` has the set of regions above each region
 abbrev pub readyBy : List ℕ → ℕ → ℕ → Bool

@@ -1,4 +1,4 @@
--- What the numbers stand for: a compiled chart as an abstract chart, a stored monitor as its monitor.
+-- What the numbers of a compiled chart stand for: an abstract chart.
 use mathlib.Core.Path.{_≡_}
 use mathlib.Core.Logic.{_⊎_}
 use mathlib.Core.Bool.{Bool, So, cond, not, _&&_}
@@ -7,17 +7,11 @@ use Prim.Native.Nat.{ℕ, _+_, _*_, _/_, _%_, _≤_, _<_}
 use lib.Dec.{eqb, ltb}
 use lib.ListN.{getD}
 use Rattle.bitset.specs.Set.{contains}
-use Rattle.model.specs.declared.Moment.{Moment}
-use Rattle.model.specs.declared.Place.{Place}
-use Rattle.model.specs.declared.Monitor.{Monitor}
 use Rattle.model.specs.Chart.{mostClocks, mostRegions, mostTerms}
 use Rattle.rounds.specs.Base.{allBelow}
 use Rattle.rounds.specs.Chart.{Chart, Accepted}
 use Rattle.rounds.specs.Rows.{LogRecord}
-use Rattle.rounds.specs.Machine.{Place as AbstractPlace, Monitor as AbstractMonitor, Step as AbstractStep}
 use Rattle.stepping.specs.declared.Head.{Head}
-use Rattle.stepping.specs.declared.Step.{Step}
-use Rattle.stepping.specs.Answers.{answerOf}
 
 -- A term as one number, its word. Every relation bounds the difference d, the first clock's value less the second's, by a number k: from
 -- above, d ≤ k, from below, k ≤ d, or from both sides. The word has the first clock, then the second clock, the sides and bias + k, each
@@ -106,30 +100,6 @@ pub record Compiled (h : Head) (keys above resets terms : List ℕ) : Type 0 whe
   pub words : Words (h .clocks) terms
   pub accepted : Accepted (planChart h keys above resets terms)
 
--- each clock's reset moment
-abbrev pub momentsOf : List Moment → ℕ → ℕ
-momentsOf l c = getD l c (record { 0 = 0 }) .0
-
--- a stored place
-abbrev pub placeAt : Place → AbstractPlace
-placeAt p = record { fired = contains (p .fired); clocks = momentsOf (p .resets) }
-
 -- a record by its code, 0 where only time passes, and its time
 abbrev pub recordOf : ℕ → ℕ → LogRecord
 recordOf code t = record { time = t; code = code }
-
--- a stored monitor
-abbrev pub monitorAt : Monitor → AbstractMonitor
-monitorAt m = record {
-  at = placeAt (m .at);
-  now = m .now .0;
-  records = m .records;
-  kept = m .kept;
-  dropped = m .dropped;
-  break = m .«break_record»;
-  reason = m .reason;
-}
-
--- an answer with the monitor behind it
-abbrev pub stepOf : Step → AbstractStep
-stepOf s = record { answer = answerOf (s .answer); next = monitorAt (s .next) }

@@ -22,7 +22,8 @@ ghost use Rattle.rounds.specs.Feeds.{mostRecords, entered, moved};
 ghost use Rattle.rounds.specs.Machine.{stuck, opening as opened, goOn, keepRound, dropRound, breakRound, conclude as concluded, accept as accepted, feed as fed, Fit};
 ghost use Rattle.stepping.specs.declared.Rest.the-variants.{Fails as FailsAt};
 ghost use Rattle.stepping.specs.Answers.{feedRefusalNumber, answerNumber, answerOf, HandsBack};
-ghost use Rattle.stepping.specs.View.{bias, boundOf, bounded, Within, momentsOf, conditionBy, planChart, placeAt, recordOf, monitorAt, stepOf, Compiled};
+ghost use Rattle.stepping.specs.Monitors.{momentsOf, placeAt, monitorAt, stepOf};
+ghost use Rattle.stepping.specs.View.{bias, boundOf, bounded, Within, conditionBy, planChart, recordOf, Compiled};
 ghost use Rattle.stepping.specs.Parts.{readyBy, foundOf, Covers, soughtBy, valueAt, Testable, fireBy, takenAt, moveOf};
 
 pub const TERM_PLACES: usize = MOST_REGIONS * MOST_TERMS;

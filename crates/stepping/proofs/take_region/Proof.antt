@@ -7,7 +7,8 @@ use borrow.Author.Needs.{needs}
 use Rattle.bitset.specs.Set.{contains}
 use Rattle.rounds.specs.Rows.{values}
 use Rattle.rounds.specs.Machine.{unfired, fire}
-use Rattle.stepping.specs.View.{planChart, placeAt, momentsOf}
+use Rattle.stepping.specs.Monitors.{placeAt, momentsOf}
+use Rattle.stepping.specs.View.{planChart}
 use Rattle.stepping.proofs.Terms.{testable}
 use Rattle.stepping.proofs.Ready.{found-plain}
 use Rattle.stepping.proofs.Fires.{fired-early}
