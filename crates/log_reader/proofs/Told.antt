@@ -6,7 +6,7 @@ use Rattle.log_reader.specs.declared.RecordRefusal.{RecordRefusal}
 use Rattle.log_reader.specs.declared.RecordRefusal.the-variants.{CutShort, UnknownByte}
 use Rattle.log_reader.specs.declared.Next.{Next}
 use Rattle.log_reader.specs.declared.Next.the-variants.{End, Refused, Taken}
-use Rattle.log_reader.specs.Record.{recordRefusalNumber, Said, said}
+use Rattle.log_reader.specs.Record.{recordRefusalNumber, said}
 
 number-tells : (k l : RecordRefusal) → recordRefusalNumber k ≡ recordRefusalNumber l → k ≡ l
 number-tells CutShort CutShort e = refl

@@ -1,30 +1,32 @@
--- `lines::put_bytes` is safe and counts within the buffer. Assumes nothing.
-use mathlib.Core.Path.{_≡_, sym}
+-- `lines::put_bytes` meets its contract: what the rest of the text fills from the place on is what all of it fills.
+-- Assumes nothing.
+use mathlib.Core.Path.{_≡_, refl, sym, ap, _∙_, subst}
 use native.Mathlib.Omega.{arith}
 use Prim.Native.Nat.{_≤_, _+_, _-_, _/_}
-use lib.ListN.{length}
+use lib.ListN.{length, getD, drop}
 use lib.Seq.{length-take-le}
 use borrow.Author.Needs.{needs}
+use Rattle.lines.specs.Lines.{Filled, filledWith, filledBy}
+use Rattle.lines.proofs.Laws.{Within, within-more, text-more, text-over}
 use Rattle.lines.proofs.put_bytes.Statement.{statement}
 use Rattle.lines.proofs.put_bytes.Tie as tie
 
 abbrev Inv-loop : tie.InvT-loop
-Inv-loop digits out₀ n₀ i₀ out n i = (i ≤ length digits) × (n ≤ length out + length out) × (length out ≡ length out₀)
+Inv-loop digits out₀ n₀ i₀ out n i =
+    (i ≤ length digits) × Within out₀ (filledWith out n)
+    × (filledBy (filledWith out n) (drop i digits) ≡ filledBy (filledWith out₀ 0) digits)
 
 abbrev μ-loop : tie.MeasureT-loop
 μ-loop digits out₀ n₀ i₀ out n i = length digits - i
 
 loop-holds : tie.Need-loop-holds Inv-loop μ-loop
-loop-holds c = search needs
+loop-holds c = (omega arith, record { size = refl; room = omega arith }, refl)
 
-shared-slice-read-digit : tie.Need-shared-slice-read-digit Inv-loop μ-loop
-shared-slice-read-digit c = search needs
+shared-slice-read-put-byte : tie.Need-shared-slice-read-put-byte Inv-loop μ-loop
+shared-slice-read-put-byte c = search needs
 
-digit-requires : tie.Need-digit-requires Inv-loop μ-loop
-digit-requires c κs = search needs
-
-put-digit-requires : tie.Need-put-digit-requires Inv-loop μ-loop
-put-digit-requires c κs = search needs
+put-byte-requires : tie.Need-put-byte-requires Inv-loop μ-loop
+put-byte-requires c κs = search needs
 
 add-i : tie.Need-add-i Inv-loop μ-loop
 add-i c = search needs
@@ -33,15 +35,31 @@ loop-less : tie.Need-loop-less Inv-loop μ-loop
 loop-less c = search needs
 
 loop-again : tie.Need-loop-again Inv-loop μ-loop
-loop-again c = search needs
+loop-again c =
+    let p = c .before .before .put-byte in
+    let l = c .before .before .before .before .before .before .loop in
+    let a = c .before .before .before .before .before .before .before .before .before .args in
+    let f = filledWith (l .out) (l .n) in
+    let b = getD (a .digits .now) (l .i) 0 in (
+      omega arith,
+      subst (λ (g : Filled). Within (a .out .now) g) (sym (p .ensures)) (within-more (a .out .now) f b (l .inv .1)),
+      ap (λ (g : Filled). filledBy g (drop (l .i + 1) (a .digits .now))) (p .ensures)
+          ∙ sym (text-more f (a .digits .now) (l .i) (omega arith))
+          ∙ l .inv .2,
+    )
 
 same-length : tie.Need-same-length Inv-loop μ-loop
-same-length c = search needs
+same-length c = c .before .loop .inv .1 .size
 
 returns : tie.Need-returns Inv-loop μ-loop
 returns c =
-    let h : c .before .loop .n / 2 ≤ length (c .before .loop .out) = omega arith in
-    (h, sym (length-take-le _ (c .before .loop .out) h))
+    let l = c .before .loop in
+    let a = c .before .before .before .before .args in
+    let e : filledWith (l .out) (l .n) ≡ filledBy (filledWith (a .out .now) 0) (a .digits .now)
+    = sym (text-over (filledWith (l .out) (l .n)) (a .digits .now) (l .i) (omega arith)) ∙ l .inv .2 in
+    let h : l .n / 2 ≤ length (l .out) = omega (arith, l .inv .1 .room) in
+    let m = sym (length-take-le _ (l .out) h) in
+    (ap (λ (f : Filled). f .bytes) e, (ap (λ (f : Filled). f .digits / 2) e, ((h, m), refl)))
 
 pub put-bytes-spec : {M : Type 1} → statement M
 put-bytes-spec =
@@ -50,9 +68,8 @@ put-bytes-spec =
     Inv-loop
     μ-loop
     loop-holds
-    shared-slice-read-digit
-    digit-requires
-    put-digit-requires
+    shared-slice-read-put-byte
+    put-byte-requires
     add-i
     loop-less
     loop-again
