@@ -17,10 +17,7 @@ use Rattle.stepping.specs.declared.Answer.the-variants.{Refused, Broken, Kept, 
 use Rattle.stepping.specs.Answers.{feedRefusalNumber, answerOf}
 use Rattle.log_reader.specs.declared.RecordRefusal.{RecordRefusal}
 use Rattle.log_reader.specs.declared.RecordRefusal.the-variants.{CutShort, UnknownByte}
-use Rattle.log_reader.specs.declared.Next.{Next}
-use Rattle.log_reader.specs.declared.Next.the-variants as next
-use Rattle.log_reader.specs.Record as found
-use Rattle.log_reader.specs.Record.{recordRefusalNumber}
+use Rattle.log_reader.proofs.Told.{said-tells}
 use Rattle.judge.specs.declared.LogRefusal.{LogRefusal}
 use Rattle.judge.specs.declared.LogRefusal.the-variants as log
 use Rattle.judge.specs.declared.JudgeAnswer.{JudgeAnswer}
@@ -44,11 +41,6 @@ charts-tell x y e =
 -- the refusal with a number
 recordRefusal : ℕ → RecordRefusal
 recordRefusal n = cond (eqb n 30) CutShort UnknownByte
-
-record-refusal : (f : RecordRefusal) → recordRefusal (recordRefusalNumber f) ≡ f
-unfolding recordRefusal
-record-refusal CutShort = refl
-record-refusal UnknownByte = refl
 
 feedRefusal : ℕ → FeedRefusal
 feedRefusal n = cond (eqb n 20) NotAChart (cond (eqb n 21) Unfit (cond (eqb n 22) TimeFalls TooManyRecords))
@@ -81,18 +73,6 @@ judgements-tell x y e =
         = sym (judge-answer (x .answer)) ∙ ap (λ (s : judge.Said). judgeAnswer (s .number) (s .offset)) e ∙ judge-answer (y .answer) in
     λ i. record { answer = a i; verdict = e i .verdict }
 
--- what was found, by what is said of it
-unsaid : found.Said → Next
-unsaid (found.end at) = next.End
-unsaid (found.refused k at) = next.Refused (recordRefusal k)
-unsaid (found.handed e place) = next.Taken e place
-
-said-next : (at : ℕ) (x : Next) → unsaid (found.said at x) ≡ x
-unfolding unsaid
-said-next at next.End = refl
-said-next at (next.Refused k) = ap next.Refused (record-refusal k)
-said-next at (next.Taken e place) = refl
-
 told : Told → Answer
 told (refused k) = Refused (feedRefusal k)
 told (toldBroken n k) = Broken n k
@@ -116,6 +96,6 @@ pub answers-tell : AnswersTell
 answers-tell = record {
   charts = charts-tell;
   judgements = judgements-tell;
-  records = λ at x y e. sym (said-next at x) ∙ ap unsaid e ∙ said-next at y;
+  records = said-tells;
   feeds = λ x y e. sym (told-answer x) ∙ ap told e ∙ told-answer y;
 }
