@@ -1,5 +1,5 @@
--- Refusal 20's test is exact: a chart is well formed exactly if some accepted bytes give it, and exactly if the writer's
--- do. Assumes nothing.
+-- Refusal 20's test is exact: a chart is well formed exactly if some accepted bytes give it, and exactly if the
+-- writer's do. Assumes nothing.
 use mathlib.Core.Path.{_≡_}
 use mathlib.Core.Bool.{Bool, true}
 use mathlib.Core.List.{List}

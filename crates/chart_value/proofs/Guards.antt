@@ -1,5 +1,5 @@
--- The guards of the reader's definition never fire: the reading states keep their invariant, and they are those that reading
--- passes through, since any larger count of commands reads the same. Assumes nothing.
+-- The guards of the reader's definition never fire: the reading states keep their invariant, and they are those that
+-- reading passes through, since any larger count of commands reads the same. Assumes nothing.
 use mathlib.Core.Path.{_≡_, refl, sym, ap, subst, _∙_}
 use mathlib.Core.Bool.{Bool, true, false, true≢false, false≢true, not}
 use mathlib.Core.Logic.{inl, inr}

@@ -65,14 +65,14 @@ held chart n rest b h k =
 
 module _ (chart l : List ℕ) (r : ChartRead) (e : said r ≡ readChart chart) where
   pub opened-refused : (f : Refusal) (o n : ℕ) → r .answer ≡ Refused f o → n ≡ refusalNumber f
-      → (record { number = n; at = o } ≡ openedOf chart (length l)) × ((l ≡ bytesOpened chart l) × ((n ≡ 0 → Holds chart l) × (chart ≡ chart)))
+      → (record { number = n; at = o } ≡ openedOf chart (length l)) × (l ≡ bytesOpened chart l) × (n ≡ 0 → ⊥)
   unfolding openedOf
   opened-refused f o n a p =
       let z : eqb n 0 ≡ false = ap (λ (k : ℕ). eqb k 0) p ∙ ne-eqb _ _ (refusal-nonzero f) in
       let s : record { number = refusalNumber f; at = o } ≡ openedOf chart (length l) =
       rw (ap (λ (x : Said). openedBy x (liveSize (length chart)) (length l)) (as-answered chart r (Refused f o) e a)) (rw (ne-eqb _ _ (refusal-nonzero f))) in
       let t : record { number = n; at = o } ≡ openedOf chart (length l) = (λ i. record { number = p i; at = o }) ∙ s in
-      (t, (bytes-by chart l (record { number = n; at = o }) false (sym t) z, ((λ g. absurd (eqb-false n 0 z g)), refl)))
+      (t, bytes-by chart l (record { number = n; at = o }) false (sym t) z, eqb-false n 0 z)
 
   pub opened-short : (size : ℕ) → r .answer ≡ Accepted → size ≡ liveSize (length chart) → length l < size
       → (record { number = tooShort; at = size } ≡ openedOf chart (length l)) × (l ≡ bytesOpened chart l)

@@ -12,8 +12,8 @@ use Rattle.monitor.specs.Feed.{feedOf}
 use Rattle.monitor.specs.Runs.{Run, none-yet, one-more}
 use Rattle.image.specs.Image.{monitorIn}
 use Prim.Native.Nat.{ℕ}
-use Rattle.live.specs.Live.{chartIn}
-use Rattle.live.specs.Runs.{LiveRun, opened, then-fed, LiveClaims}
+use Rattle.live.specs.Live.{chartIn, Fed}
+use Rattle.live.specs.Runs.{LiveRun, opened, then-fed, RunsOn, LiveClaims}
 use Rattle.live.proofs.Charts.{live-exact}
 
 chart-kept : {chart l : List ℕ} {es : Snoc Record} {told : Snoc Told} → LiveRun chart es told l → chartIn l ≡ readChart chart .chart
@@ -26,6 +26,10 @@ goes {chart} (then-fed {es} {told} {l} {n} {e} q F) =
     let s = F .by-chart .taken in
     subst (λ (m : Monitor). Run (readChart chart .chart) (es ▸ e) (told ▸ answerOf (s .answer)) m) (sym (F .by-chart .next))
     (one-more e s (goes q) (F .by-chart .fed ∙ ap (λ (c : Chart). feedOf c (monitorIn l) e) (chart-kept q)))
+
+-- one more feed
+pub runs-on : {l n : List ℕ} {e : Record} {number : ℕ} → Fed l e number n → RunsOn l e number n
+runs-on F = λ chart es told q. (F .by-chart .taken .answer, F .by-chart .told, then-fed q F)
 
 pub live-claims : LiveClaims
 live-claims = record { exact = live-exact; runs = goes }

@@ -11,13 +11,14 @@ ghost use mathlib.Core.Path.{_≡_};
 ghost use Prim.Native.Nat.{_+_, _≤_};
 ghost use lib.ListN.{length};
 ghost use Rattle.text.specs.Text.{Wrote};
+ghost use Rattle.rounds.specs.Base.{ε};
 ghost use Rattle.stepping.specs.Answers.{feedRefusalNumber, isRefused};
 ghost use Rattle.judge.specs.Judge.{zeroVerdict};
 ghost use Rattle.monitor.specs.Feed.{madeNumber};
 ghost use Rattle.image.specs.Image.{monitorSize};
 ghost use Rattle.live.specs.Live.{headSize, chartIn, liveSize, freshBytes, openedOf, bytesOpened, Holds, FedBy, Fed, standingBy, standingIn};
 ghost use Rattle.live.specs.Images.{FedImage, newNumber, newBytes};
-ghost use Rattle.live.specs.Runs.{LiveClaims};
+ghost use Rattle.live.specs.Runs.{LiveRun, RunsOn, LiveClaims};
 
 // The monitor's image and the chart's length.
 const HEAD_SIZE: usize = 65;
@@ -65,6 +66,7 @@ pub fn open(chart: &[u8], live: &mut [u8]) -> Opened
     ensures answer { λ r. ⌜ r ≡ openedOf (now (chart .entry)) (length (now (live .entry))) ⌝ }
     ensures bytes { λ r. ⌜ now (live .exit) ≡ bytesOpened (now (chart .entry)) (now (live .entry)) ⌝ }
     ensures holds { λ r. ⌜ (r .number ≡ 0 → Holds (now (chart .entry)) (now (live .exit))) ⌝ }
+    ensures run { λ r. ⌜ (r .number ≡ 0 → LiveRun (now (chart .entry)) ε ε (now (live .exit))) ⌝ }
     ensures unchanged { λ r. ⌜ now (chart .exit) ≡ now (chart .entry) ⌝ }
 {
     let read = chart_reader::read(chart);
@@ -139,7 +141,8 @@ fn feed_chart(chart: Chart, bytes: &mut [u8], e: Record) -> u8
 
 // One record fed to the live monitor.
 pub fn feed(live: &mut [u8], e: Record) -> u8
-    ensures { λ r. ⌜ Fed (now (live .entry)) e r (now (live .exit)) ⌝ }
+    ensures fed { λ r. ⌜ Fed (now (live .entry)) e r (now (live .exit)) ⌝ }
+    ensures run { λ r. ⌜ RunsOn (now (live .entry)) e r (now (live .exit)) ⌝ }
 {
     if live.len() < HEAD_SIZE {
         return judge::NO_CHART;

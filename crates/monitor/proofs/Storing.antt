@@ -1,5 +1,5 @@
--- Every fit monitor of the machine is one that can be stored, its fired regions as a number and its reset moments as a list,
--- and every answer of the machine one that can be told. Assumes nothing.
+-- Every fit monitor of the machine can be stored, its fired regions as a number and its reset moments as a list, and
+-- every answer of the machine can be told. Assumes nothing.
 use mathlib.Core.Path.{_≡_, refl, sym, ap, fun-ext, _∙_}
 use mathlib.Core.Logic.{inl, inr}
 use mathlib.Core.Bool.{Bool, true, false, cond, _||_}
@@ -90,7 +90,8 @@ pub record StoredAs (x : AbstractMonitor) : Type 0 where
   pub shows : monitorAt monitor ≡ x
   pub stored : Stored monitor
 
-module _ (C : Abstract) (few : C .regions ≤ mostRegions) (clocks : C .clocks ≤ mostClocks) {x : AbstractMonitor} (F : Fit C x) where
+module _ (C : Abstract) (few : C .regions ≤ mostRegions) (clocks : C .clocks ≤ mostClocks) {x : AbstractMonitor}
+    (F : Fit C x) where
   fired : (i : ℕ) → contains (setOf mostRegions (x .at .fired)) i ≡ x .at .fired i
   fired i = elim (decLt i mostRegions) [
     | yes l ↦ set-members mostRegions (x .at .fired) i l
