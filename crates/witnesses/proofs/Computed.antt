@@ -23,7 +23,7 @@ use Rattle.witnesses.specs.Each.{Each}
 use Rattle.witnesses.specs.Charts.{Says, refusals, limits}
 use Rattle.witnesses.specs.Rounds.{conditions, clocks, orders, logs}
 use Rattle.witnesses.specs.Feeds.{Answers, feeds}
-use Rattle.witnesses.specs.Formats.{Prints, texts, Formats}
+use Rattle.witnesses.specs.Formats.{Prints, texts, LastRecord, Formats}
 
 -- every definition that the lines look into
 computed : Unit {0}
@@ -56,7 +56,7 @@ logs-said = (refl, (refl, (refl, (refl, (refl, (refl, (refl, (refl, (refl, (refl
 
 feeds-answered : Each Answers feeds
 unfolding computed
-feeds-answered = ((refl, refl), ((refl, refl), ((refl, refl), ((refl, refl), ((refl, refl), ((refl, refl), ((refl, refl), ((refl, refl), ((refl, refl), ((refl, refl), ((refl, refl), ((refl, refl), ((refl, refl), ((refl, refl), ((refl, refl), ((refl, refl), ((refl, refl), ((refl, refl), ((refl, refl), ((refl, refl), ((refl, refl), ((refl, refl), ((refl, refl), ((refl, refl), ((refl, refl), tt)))))))))))))))))))))))))
+feeds-answered = ((refl, refl), ((refl, refl), ((refl, refl), ((refl, refl), ((refl, refl), ((refl, refl), ((refl, refl), ((refl, refl), ((refl, refl), ((refl, refl), ((refl, refl), ((refl, refl), ((refl, refl), ((refl, refl), ((refl, refl), ((refl, refl), ((refl, refl), ((refl, refl), ((refl, refl), ((refl, refl), ((refl, refl), ((refl, refl), ((refl, refl), ((refl, refl), ((refl, refl), ((refl, refl), tt))))))))))))))))))))))))))
 
 texts-printed : Each Prints texts
 unfolding computed
@@ -70,8 +70,11 @@ input-41 : (s : List ℕ) → length s ≡ 65534 → textOf (0xff ∷ 0xff ∷ s
 unfolding computed
 input-41 s h = rw h refl
 
+last-record : LastRecord
+unfolding computed
+last-record = record { most = refl; taken = refl; refused = refl; number = refl }
+
 pub formats-hold : Formats
-unfolding stepAt
 formats-hold =
     record {
       refusals-said = refusals-said;
@@ -82,10 +85,7 @@ formats-hold =
       logs-said = logs-said;
       feeds-answered = feeds-answered;
       texts-printed = texts-printed;
-      last-record = refl;
-      next-record = refl;
-      next-number = refl;
-      most-records = refl;
+      last-record = last-record;
       input-40 = input-40;
       input-41 = input-41;
     }

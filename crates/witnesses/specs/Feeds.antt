@@ -76,9 +76,10 @@ feeds =
     ∷ feeding chartU (stored 1 100 100 1 0 0) (references 120) answer.Moved 5
     ∷ feeding chartU (stored 5 100 120 2 0 0) (headings 140) answer.Kept 2
     ∷ feeding chartU (stored 5 100 120 2 0 0) (headings 141) (answer.Broken 3 2) 1
-    -- undo again, in the main chart; then the same answer again, also for an earlier time
+    -- undo again, in the main chart; then the same answer again, also for an earlier time or a record too many
     ∷ feeding chartU (stored 1 100 100 1 0 0) (undo 110) (answer.Broken 2 1) 1
     ∷ feeding chartU (stored 1 100 110 2 2 1) (passes 7) (answer.Broken 2 1) 1
+    ∷ feeding chartU (stored 1 100 110 1000000 2 1) (passes 120) (answer.Broken 2 1) 1
     -- headings in the prechart; time alone
     ∷ feeding chartU zeroMonitor (headings 5) answer.Dropped 3
     ∷ feeding chartU zeroMonitor (passes 5) answer.Quiet 6

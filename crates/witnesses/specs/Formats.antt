@@ -54,11 +54,18 @@ texts =
     ∷ printed (undone "8D") "STANDING KEPT DROPPED RECORDS BREAK REASON\n3 0 0 3 3 2\n"
     ∷ []
 
--- 23 in a whole log: the record at 0, behind so many others
-abbrev pub checkedBehind : ℕ → CheckStep
-checkedBehind n = stepAt (hex "02 00 00 00 05") 0 (record { 0 = 5 }) n
+-- a log's record of time 5 at offset 0, checked behind n others and the time 5
+abbrev pub behind : ℕ → CheckStep
+behind n = stepAt (hex "02 00 00 00 05") 0 (record { 0 = 5 }) n
 
--- The lines, and what is said of more records and of longer inputs than a line can have.
+-- 23: record 1,000,000 of a log is taken, the next one is refused at its offset.
+pub record LastRecord : Type 0 where
+  pub most : mostRecords ≡ 1000000
+  pub taken : behind 999999 ≡ check.Going 5 (record { 0 = 5 }) 1000000
+  pub refused : behind 1000000 ≡ check.Over (checked.Refused log.TooManyRecords 0)
+  pub number : logRefusalNumber log.TooManyRecords ≡ 23
+
+-- The page: every line, and what is said of longer logs and inputs than a line has.
 pub record Formats : Type 0 where
   pub refusals-said : Each Says refusals
   pub limits-said : Each Says limits
@@ -68,11 +75,7 @@ pub record Formats : Type 0 where
   pub logs-said : Each Says logs
   pub feeds-answered : Each Answers feeds
   pub texts-printed : Each Prints texts
-  -- record 1,000,000 of a log is taken, the next one is refused with 23 at its offset
-  pub last-record : checkedBehind 999999 ≡ check.Going 5 (record { 0 = 5 }) 1000000
-  pub next-record : checkedBehind 1000000 ≡ check.Over (checked.Refused log.TooManyRecords 0)
-  pub next-number : logRefusalNumber log.TooManyRecords ≡ 23
-  pub most-records : mostRecords ≡ 1000000
+  pub last-record : LastRecord
   -- an input of over 65,536 bytes is 40; of 65,536 bytes, with a length of 65,535, it is 41
   pub input-40 : (s : List ℕ) → 65536 < length s → textOf s ≡ bytesOf "refused input 40 at 0\n"
   pub input-41 : (s : List ℕ) → length s ≡ 65534 → textOf (0xff ∷ 0xff ∷ s) ≡ bytesOf "refused input 41 at 0\n"
