@@ -1,0 +1,91 @@
+-- The lines, by computation; inputs of any length by the laws of the tests. Assumes nothing.
+use mathlib.Core.Path.{_≡_, refl}
+use mathlib.Core.List.{List, _∷_}
+use Prim.Native.Nat.{ℕ, _<_}
+use borrow.Author.Tests.{lt-ltb}
+use lib.ListN.{length}
+use Rattle.bitset.specs.Set.{contains, single, inserted, union, isSubset, within}
+use Rattle.order.specs.Order.{isOver, gathered, aboveSets}
+use Rattle.condition.specs.Condition.{termsHold}
+use Rattle.chart_reader.specs.Read.{readChart, readFrom, advanceOf}
+use Rattle.chart_value.specs.WellFormed.{allBelow, isZeroTerm, termPlaced, termsFit, regionFits, isZeroRegion, touchedBefore, regionPlaced, wellFormed}
+use Rattle.rounds.specs.Rows.{chartMessage, plain, values, opened}
+use Rattle.rounds.specs.Machine.{ready, readyFor, readyPlain, fire, unfired, settle, place, opening, full, prechartDone, goOn, keepRound, dropRound, breakRound, conclude, accept, feed, after}
+use Rattle.monitor.specs.Fit.{closedUpward, restsUnlessBroken, momentsFit, breakFits, countsFit, fits}
+use Rattle.monitor.specs.Feed.{feedOf}
+use Rattle.log_reader.specs.Records.{recordsFrom, recordsIn}
+use Rattle.judge.specs.Check.{stepAt, checkFrom, checkLog}
+use Rattle.judge.specs.Judge.{standingOf, judgeOf}
+use Rattle.text.specs.Text.{bytesOf, digitsOf}
+use Rattle.listing.specs.Listing.{verdictLines, refusalLine}
+use Rattle.respond.specs.Respond.{partsReport, reportOf, textOf}
+use Rattle.witnesses.specs.Each.{Each}
+use Rattle.witnesses.specs.Charts.{Says, refusals, limits}
+use Rattle.witnesses.specs.Rounds.{conditions, clocks, orders, logs}
+use Rattle.witnesses.specs.Feeds.{Answers, feeds}
+use Rattle.witnesses.specs.Formats.{Prints, texts, LastRecord, Formats}
+
+-- every definition that the lines look into
+computed : Unit {0}
+unfolding contains single inserted union isSubset within isOver gathered aboveSets termsHold readChart readFrom advanceOf allBelow isZeroTerm termPlaced termsFit regionFits isZeroRegion touchedBefore regionPlaced wellFormed chartMessage plain values opened ready readyFor readyPlain fire unfired settle place opening full prechartDone goOn keepRound dropRound breakRound conclude accept feed after closedUpward restsUnlessBroken momentsFit breakFits countsFit fits feedOf recordsFrom recordsIn stepAt checkFrom checkLog standingOf judgeOf bytesOf digitsOf verdictLines refusalLine partsReport reportOf
+computed = tt
+
+refusals-said : Each Says refusals
+unfolding computed
+refusals-said = (refl, (refl, (refl, (refl, (refl, (refl, (refl, (refl, (refl, (refl, (refl, (refl, (refl, (refl, (refl, (refl, (refl, (refl, (refl, (refl, (refl, (refl, (refl, (refl, (refl, (refl, (refl, (refl, (refl, (refl, (refl, (refl, (refl, tt)))))))))))))))))))))))))))))))))
+
+limits-said : Each Says limits
+unfolding computed
+limits-said = (refl, (refl, (refl, (refl, (refl, (refl, (refl, (refl, (refl, tt)))))))))
+
+conditions-said : Each Says conditions
+unfolding computed
+conditions-said = (refl, (refl, (refl, (refl, (refl, (refl, (refl, (refl, (refl, (refl, (refl, (refl, (refl, (refl, (refl, (refl, (refl, (refl, (refl, (refl, (refl, (refl, (refl, (refl, (refl, (refl, (refl, (refl, (refl, (refl, (refl, (refl, (refl, (refl, (refl, (refl, (refl, (refl, (refl, (refl, (refl, tt)))))))))))))))))))))))))))))))))))))))))
+
+clocks-said : Each Says clocks
+unfolding computed
+clocks-said = (refl, (refl, (refl, (refl, (refl, (refl, (refl, (refl, (refl, (refl, tt))))))))))
+
+orders-said : Each Says orders
+unfolding computed
+orders-said = (refl, (refl, (refl, (refl, (refl, (refl, (refl, (refl, tt))))))))
+
+logs-said : Each Says logs
+unfolding computed
+logs-said = (refl, (refl, (refl, (refl, (refl, (refl, (refl, (refl, (refl, (refl, (refl, (refl, (refl, (refl, tt))))))))))))))
+
+feeds-answered : Each Answers feeds
+unfolding computed
+feeds-answered = ((refl, refl), ((refl, refl), ((refl, refl), ((refl, refl), ((refl, refl), ((refl, refl), ((refl, refl), ((refl, refl), ((refl, refl), ((refl, refl), ((refl, refl), ((refl, refl), ((refl, refl), ((refl, refl), ((refl, refl), ((refl, refl), ((refl, refl), ((refl, refl), ((refl, refl), ((refl, refl), ((refl, refl), ((refl, refl), ((refl, refl), ((refl, refl), ((refl, refl), ((refl, refl), tt))))))))))))))))))))))))))
+
+texts-printed : Each Prints texts
+unfolding computed
+texts-printed = (refl, (refl, (refl, (refl, (refl, (refl, (refl, (refl, (refl, (refl, tt))))))))))
+
+input-40 : (s : List ℕ) → 65536 < length s → textOf s ≡ bytesOf "refused input 40 at 0\n"
+unfolding computed
+input-40 s h = rw (lt-ltb 65536 (length s) h) refl
+
+input-41 : (s : List ℕ) → length s ≡ 65534 → textOf (0xff ∷ 0xff ∷ s) ≡ bytesOf "refused input 41 at 0\n"
+unfolding computed
+input-41 s h = rw h refl
+
+last-record : LastRecord
+unfolding computed
+last-record = record { most = refl; taken = refl; refused = refl; number = refl }
+
+pub formats-hold : Formats
+formats-hold =
+    record {
+      refusals-said = refusals-said;
+      limits-said = limits-said;
+      conditions-said = conditions-said;
+      clocks-said = clocks-said;
+      orders-said = orders-said;
+      logs-said = logs-said;
+      feeds-answered = feeds-answered;
+      texts-printed = texts-printed;
+      last-record = last-record;
+      input-40 = input-40;
+      input-41 = input-41;
+    }

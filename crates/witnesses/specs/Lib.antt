@@ -1,0 +1,6 @@
+pub mod Hex
+pub mod Each
+pub mod Charts
+pub mod Rounds
+pub mod Feeds
+pub mod Formats
