@@ -11,3 +11,4 @@ pub mod Cuts
 pub mod Exactly
 pub mod Fitness
 pub mod Demand3
+pub mod Tested
