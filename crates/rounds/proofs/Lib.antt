@@ -12,3 +12,4 @@ pub mod Stretches
 pub mod Exactly
 pub mod Fitness
 pub mod Demand3
+pub mod Tested

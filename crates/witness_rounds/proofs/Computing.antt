@@ -1,0 +1,20 @@
+-- One name for what the witnesses compute with: on an `unfolding` line it opens all that its own line names.
+-- Assumes nothing.
+use Rattle.bitset.specs.Set.{contains, single, inserted, union, isSubset, within}
+use Rattle.order.specs.Order.{isOver, gathered, aboveSets}
+use Rattle.condition.specs.Condition.{termsHold}
+use Rattle.chart_reader.specs.Read.{readChart, readFrom, advanceOf}
+use Rattle.chart_value.specs.WellFormed.{allBelow, isZeroTerm, termPlaced, termsFit, regionFits, isZeroRegion, touchedBefore, regionPlaced, wellFormed}
+use Rattle.rounds.specs.Rows.{momentAt, chartMessage, chartMessages, plain, messageRegions, momentOf, values, opened, resetMoment, holds, waived, firstFailing}
+use Rattle.rounds.specs.Feeds.{refusal}
+use Rattle.rounds.specs.Machine.{ready, readyFor, readyPlain, fire, unfired, settle, place, opening, full, prechartDone, goOn, keepRound, dropRound, breakRound, conclude, accept, feed, after}
+use Rattle.rounds.proofs.Tested.{promptTest, placedTest, rowTest}
+use Rattle.rounds.proofs.Rounds.{placeOf}
+use Rattle.runs.specs.Paper.{add, reset, shift, configAt}
+use Rattle.log_reader.specs.Records.{recordsFrom, recordsIn}
+use Rattle.judge.specs.Check.{stepAt, checkFrom, checkLog}
+use Rattle.judge.specs.Judge.{standingOf, judgeOf}
+
+unfoldable pub computing : Unit {0}
+unfolding contains single inserted union isSubset within isOver gathered aboveSets termsHold readChart readFrom advanceOf allBelow isZeroTerm termPlaced termsFit regionFits isZeroRegion touchedBefore regionPlaced wellFormed momentAt chartMessage chartMessages plain messageRegions momentOf values opened resetMoment holds waived firstFailing refusal ready readyFor readyPlain fire unfired settle place opening full prechartDone goOn keepRound dropRound breakRound conclude accept feed after promptTest placedTest rowTest placeOf add reset shift configAt recordsFrom recordsIn stepAt checkFrom checkLog standingOf judgeOf
+computing = tt

@@ -1,0 +1,190 @@
+-- Laws by which what is written out is shown by computation: configurations by the values of the chart's own clocks,
+-- readiness by the machine's tests, and how a record is taken by its move. Assumes nothing.
+use mathlib.Core.Path.{_≡_, refl, sym, ap, ap₂, subst, _∙_, fun-ext}
+use mathlib.Core.Logic.{inl, inr}
+use mathlib.Core.Bool.{Bool, true, false, cond, So, _&&_}
+use mathlib.Core.List.{List}
+use mathlib.Core.Option.{none, some}
+use Prim.Native.Nat.{ℕ, zero, suc, _≤_}
+use native.Mathlib.Nat.{le-of-suc-le-suc, not-suc-le-zero}
+use native.Mathlib.Omega.{arith}
+use lib.Dec.{eqb, ltb, leb}
+use lib.ListN.{getD, length, List·getD-eq-default}
+use borrow.Author.Tests.{eqb-true, ltb-true, ltb-false, leb-true, le-ltb}
+use Rattle.rounds.specs.Base.{Snoc, _▸_}
+use Rattle.rounds.specs.Chart.{Chart, Accepted}
+use Rattle.rounds.specs.Rows.{LogRecord, Row, stands, chartMessage, values, Ready}
+use Rattle.rounds.specs.Feeds.{mostRecords, Answer, refused, toldBroken, toldKept, toldDropped, entered, moved, quiet}
+use Rattle.rounds.specs.Machine.{Place, Move, stuck, fails, rests, ready, readyPlain, place, opening, Monitor, Step, feed, after}
+use Rattle.rounds.specs.Table.{table}
+use Rattle.rounds.proofs.Facts.{split, and-left, and-right}
+use Rattle.rounds.proofs.Machine.{LowestPlain, ready-true, plain-some, plain-none}
+use Rattle.rounds.proofs.Table.{getD-table}
+use Rattle.rounds.proofs.Fitness.{after-fit}
+use Rattle.runs.specs.Paper.{Config, initial, reset, shift, add, wait, successor, Next, AtRest, configAt}
+use Rattle.runs.specs.Taken.{Status, Unmatched, Turn, Taken, passes, moves, enters, keeps, fails-cold, fails-hot, unmatched-prechart, unmatched-main, caseOf, statusOf, Acceptable}
+use Rattle.runs.proofs.Steps.{opening-config, of-unmatched, failure-of, of-failure}
+use Rattle.runs.proofs.Turns.{turn-of, terminates-fails, blocked-fails}
+use Rattle.runs.proofs.Taking.{given}
+use Rattle.witness_rounds.specs.Rounds.{configOf, statusAs}
+
+-- a table holds nothing beyond its bound
+beyond : (n : ℕ) (v : ℕ → ℕ) (x : ℕ) → n ≤ x → getD (table n v) x 0 ≡ 0
+beyond zero v x h = refl
+beyond (suc n) v zero h = absurd (not-suc-le-zero h)
+beyond (suc n) v (suc x) h = beyond n (λ k. v (suc k)) x (le-of-suc-le-suc h)
+
+-- clocks have the values listed, if those from the bound on have 0
+listed : (n : ℕ) (v : ℕ → ℕ) (l : List ℕ) → ((x : ℕ) → n ≤ x → v x ≡ 0) → table n v ≡ l → v ≡ (λ x. getD l x 0)
+listed n v l z p = fun-ext (λ x. elim (split (ltb x n)) [
+  | inl h ↦ sym (getD-table n x v 0 (ltb-true x n h)) ∙ ap (λ (k : List ℕ). getD k x 0) p
+  | inr h ↦ z x (ltb-false x n h) ∙ sym (beyond n v x (ltb-false x n h)) ∙ ap (λ (k : List ℕ). getD k x 0) p
+])
+
+module _ (C : Chart) where
+  config-at : (t : ℕ) (p : Place) (r : Row) (l : List ℕ) → p .fired ≡ stands r
+      → table (C .clocks) (values C t (p .clocks)) ≡ l → configAt C t p ≡ configOf r l
+  unfolding configAt values
+  config-at t p r l f k = ap₂ {C = Config} (λ (c : ℕ → Bool) (v : ℕ → ℕ). record { cut = c; valuation = v }) f
+      (listed (C .clocks) (values C t (p .clocks)) l (λ x h. rw (le-ltb x (C .clocks) h)) k)
+
+  pub wait-is : (x : Config) (d : ℕ) (r : Row) (l : List ℕ) → x .cut ≡ stands r
+      → table (C .clocks) (shift C (x .valuation) d) ≡ l → wait C x d ≡ configOf r l
+  unfolding shift
+  wait-is x d r l f k = ap₂ {C = Config} (λ (c : ℕ → Bool) (v : ℕ → ℕ). record { cut = c; valuation = v }) f
+      (listed (C .clocks) (shift C (x .valuation) d) l (λ x h. rw (le-ltb x (C .clocks) h)) k)
+
+  pub successor-is : (r : Row) (k : List ℕ) (s : ℕ) (l : List ℕ) → length k ≡ C .clocks
+      → table (C .clocks) (reset C s (λ x. getD k x 0)) ≡ l → successor C (configOf r k) s ≡ configOf (r ▸ s) l
+  unfolding reset add
+  successor-is r k s l q p = ap {B = Config} (λ (v : ℕ → ℕ). record { cut = stands (r ▸ s); valuation = v })
+      (listed (C .clocks) (reset C s (λ x. getD k x 0)) l (λ x h. elim (split (C .resets s x)) [
+        | inl t ↦ rw t
+        | inr t ↦ rw t (List·getD-eq-default k 0 (omega arith))
+      ]) p)
+
+  module _ (A : Accepted C) where
+    pub ready-at : (r : Row) (i : ℕ) → So (ltb i (C .regions) && ready C (stands r) i) → Ready C (stands r) i
+    ready-at r i h =
+        let l = and-left (ltb i (C .regions)) (ready C (stands r) i) h in
+        let k = and-right (ltb i (C .regions)) (ready C (stands r) i) h in
+        ready-true C A (stands r) i (ltb-true i (C .regions) l) k
+
+    pub rests-at : (r : Row) → readyPlain C (stands r) ≡ none → AtRest C (stands r)
+    unfolding AtRest
+    rests-at r h = plain-none C A (stands r) h
+
+    pub next-at : (r : Row) (i : ℕ) → readyPlain C (stands r) ≡ some i → Next C (stands r) i
+    next-at r i h =
+        let L : LowestPlain C (stands r) i = plain-some C A (stands r) i h in
+        record { is-plain = L .is-plain; follows = L .is-ready; lowest = L .lowest }
+
+-- the machine finds no region
+unfoldable pub unplaceable : Move → Bool
+unplaceable stuck = true
+unplaceable (fails i p) = false
+unplaceable (rests p) = false
+
+-- the case of an answer, with whether the machine found a region
+unfoldable pub caseFor : Bool → Answer → ℕ
+caseFor b (refused k) = 0
+caseFor b quiet = 0
+caseFor b moved = 1
+caseFor b entered = 2
+caseFor b toldKept = 3
+caseFor b toldDropped = cond b 6 4
+caseFor b (toldBroken n k) = cond b 7 5
+
+-- a monitor's status, with its configuration written out
+abbrev pub statusWith : Config → Monitor → Status
+statusWith z m = statusAs z (m .now) (m .records) (m .kept) (m .dropped) (m .break) (m .reason)
+
+-- one more record, behind the records fs
+module _ (C : Chart) (A : Accepted C) (fs : Snoc LogRecord) (e : LogRecord) where
+  abbrev m : Monitor
+  m = after C fs
+
+  -- which is not refused
+  unfoldable pub accepts : Bool
+  accepts = eqb (m .break) 0 && (leb (m .now) (e .time) && ltb (m .records) mostRecords)
+
+  acceptable : So accepts → Acceptable C m e
+  unfolding accepts
+  acceptable h =
+      let b = and-left (eqb (m .break) 0) (leb (m .now) (e .time) && ltb (m .records) mostRecords) h in
+      let k = and-right (eqb (m .break) 0) (leb (m .now) (e .time) && ltb (m .records) mostRecords) h in
+      record {
+        fit = after-fit C A fs;
+        unbroken = eqb-true (m .break) 0 b;
+        forward = leb-true (m .now) (e .time) (and-left (leb (m .now) (e .time)) (ltb (m .records) mostRecords) k);
+        room = ltb-true (m .records) mostRecords (and-right (leb (m .now) (e .time)) (ltb (m .records) mostRecords) k);
+      }
+
+  module _ (P : Acceptable C m e) where
+    at-rest : AtRest C (m .at .fired)
+    unfolding AtRest
+    at-rest = P .fit .settled (P .unbroken)
+
+    -- the answer tells the case
+    numbered : {y : Status} {a : Answer} (T : Taken C (statusOf C m) e y a)
+        → caseOf C T ≡ caseFor (unplaceable (place C (m .at) e)) a
+    unfolding caseFor unplaceable Unmatched configAt
+    numbered (passes h) = refl
+    numbered (moves h z M nf k) = refl
+    numbered (enters h z M nf k d) = refl
+    numbered (keeps h z M f) = refl
+    numbered (fails-cold h i y T t) =
+        let F = terminates-fails C (statusOf C m) e at-rest T t .0 in
+        rw (of-failure C A (m .at) e (m .now) (P .fit .moments) (P .forward) h i F .1)
+    numbered (fails-hot h i y T b) =
+        let F = blocked-fails C (statusOf C m) e at-rest h T b .0 in
+        rw (of-failure C A (m .at) e (m .now) (P .fit .moments) (P .forward) h i F .1)
+    numbered (unmatched-prechart h U n) = rw (of-unmatched C A (m .at) e U)
+    numbered (unmatched-main h U d) = rw (of-unmatched C A (m .at) e U)
+
+    turn-failing : (i : ℕ) (p : Place) → So (chartMessage C e) → place C (m .at) e ≡ fails i p
+        → Turn C (statusOf C m) e i (configAt C (e .time) p)
+    unfolding configAt
+    turn-failing i p c q =
+        turn-of C (statusOf C m) e at-rest (failure-of C A (m .at) e (m .now) (P .fit .moments) (P .forward) c i p q)
+
+  -- taken by this case, with the machine's status, whose configuration is z
+  abbrev TakenSo : ℕ → Config → Answer → Type 0
+  TakenSo n z a = (T : Taken C (statusOf C m) e (statusWith z (feed C m e .next)) a) × (caseOf C T ≡ n)
+
+  -- the answer with the machine's move tells the case
+  abbrev Case : Answer → ℕ
+  Case a = caseFor (unplaceable (place C (m .at) e)) a
+
+  abbrev v : Step
+  v = feed C m e
+
+  taken-by : (n : ℕ) (z : Config) (a : Answer) → So accepts → configAt C (v .next .now) (v .next .at) ≡ z
+      → v .answer ≡ a → Case a ≡ n → TakenSo n z a
+  taken-by n z a h p q c =
+      let P : Acceptable C m e = acceptable h in
+      let S : Taken C (statusOf C m) e (statusWith z (v .next)) (v .answer)
+      = subst (λ (y : Config). Taken C (statusOf C m) e (statusWith y (v .next)) (v .answer)) p (given C A m e P) in
+      let T : Taken C (statusOf C m) e (statusWith z (v .next)) a
+      = subst (λ (b : Answer). Taken C (statusOf C m) e (statusWith z (v .next)) b) q S in
+      (T, numbered P T ∙ c)
+
+  -- a round opens
+  pub taken-anew : (n : ℕ) (a : Answer) → So accepts → v .next .at ≡ opening C (v .next .now)
+      → v .answer ≡ a → Case a ≡ n → TakenSo n initial a
+  taken-anew n a h p q c =
+      taken-by n initial a h (ap (configAt C (v .next .now)) p ∙ opening-config C (v .next .now)) q c
+
+  -- the round runs on, or is broken
+  pub taken-at : (n : ℕ) (r : Row) (l : List ℕ) (a : Answer) → So accepts → v .next .at .fired ≡ stands r
+      → table (C .clocks) (values C (v .next .now) (v .next .at .clocks)) ≡ l → v .answer ≡ a → Case a ≡ n
+      → TakenSo n (configOf r l) a
+  taken-at n r l a h f k q c = taken-by n (configOf r l) a h (config-at C (v .next .now) (v .next .at) r l f k) q c
+
+  -- the condition of region i fails when it is its turn
+  pub turn-at : (i : ℕ) (p : Place) (r : Row) (l : List ℕ) → So accepts → So (chartMessage C e)
+      → place C (m .at) e ≡ fails i p → p .fired ≡ stands r → table (C .clocks) (values C (e .time) (p .clocks)) ≡ l
+      → Turn C (statusOf C m) e i (configOf r l)
+  turn-at i p r l h c q f k =
+      subst (λ (y : Config). Turn C (statusOf C m) e i y) (config-at C (e .time) p r l f k)
+      (turn-failing (acceptable h) i p c q)

@@ -1,0 +1,4 @@
+pub mod Laws
+pub mod Computing
+pub mod Logs
+pub mod Ways

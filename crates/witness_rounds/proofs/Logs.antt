@@ -1,0 +1,168 @@
+-- The rounds: the laws leave equations and tests, which compute. Assumes nothing.
+use mathlib.Core.Path.{_≡_, refl}
+use mathlib.Core.List.{[], _∷_}
+use Rattle.chart_reader.specs.Read.{readChart, acceptedAs}
+use Rattle.chart_value.proofs.Shown.{shown-of}
+use Rattle.rounds.specs.Base.{Snoc, ε, _▸_}
+use Rattle.rounds.specs.Chart.{Accepted}
+use Rattle.rounds.specs.Rows.{LogRecord, stands, Lawful, NoRow, Full, LawfulButLast}
+use Rattle.rounds.specs.Feeds.{conditionFails, complete, fails-cold, fails-hot, toldKept, toldDropped, toldBroken}
+use Rattle.rounds.proofs.Tested.{lawful-tested, waived-tested, no-row}
+use Rattle.rounds.proofs.Machine.{full-true}
+use Rattle.monitor.specs.Feed.{logRecord}
+use Rattle.monitor.specs.Runs.{logged}
+use Rattle.claims.specs.Examples.{chartU}
+use Rattle.witness_rounds.specs.Charts.{chartA, chartB}
+use Rattle.witness_rounds.specs.Rounds.{valueOf, U, A, B, RoundShown, roundU, keptA, droppedA, brokenA, keptB, droppedB, brokenB}
+use Rattle.witness_rounds.proofs.Computing.{computing}
+use Rattle.witness_rounds.proofs.Laws.{unplaceable, caseFor, accepts, taken-anew, taken-at}
+
+read-u : readChart chartU ≡ acceptedAs (valueOf chartU)
+unfolding computing
+read-u = refl
+
+pub accepted-u : Accepted U
+accepted-u = shown-of chartU (valueOf chartU) read-u .accepted
+
+read-a : readChart chartA ≡ acceptedAs (valueOf chartA)
+unfolding computing
+read-a = refl
+
+pub accepted-a : Accepted A
+accepted-a = shown-of chartA (valueOf chartA) read-a .accepted
+
+read-b : readChart chartB ≡ acceptedAs (valueOf chartB)
+unfolding computing
+read-b = refl
+
+pub accepted-b : Accepted B
+accepted-b = shown-of chartB (valueOf chartB) read-b .accepted
+
+pub round-u : RoundShown roundU
+unfolding computing unplaceable caseFor accepts
+round-u =
+    let s : Snoc LogRecord = logged (roundU .before) in
+    let e : LogRecord = logRecord (roundU .last) in
+    let L : Lawful U 0 (s ▸ e) (roundU .whole) = lawful-tested U accepted-u 0 (s ▸ e) (roundU .whole) refl refl refl in
+    let F : Full U (stands (roundU .whole)) = full-true U (stands (roundU .whole)) refl in
+    record {
+      chart-read = refl;
+      log-read = refl;
+      judged = refl;
+      row-before = lawful-tested U accepted-u 0 s (roundU .row) refl refl refl;
+      row-with = (L, F);
+      ends = complete (roundU .whole) L F;
+      taken = taken-anew U accepted-u s e 3 toldKept refl refl refl refl;
+    }
+
+pub kept-a : RoundShown keptA
+unfolding computing unplaceable caseFor accepts
+kept-a =
+    let s : Snoc LogRecord = logged (keptA .before) in
+    let e : LogRecord = logRecord (keptA .last) in
+    let L : Lawful A 0 (s ▸ e) (keptA .whole) = lawful-tested A accepted-a 0 (s ▸ e) (keptA .whole) refl refl refl in
+    let F : Full A (stands (keptA .whole)) = full-true A (stands (keptA .whole)) refl in
+    record {
+      chart-read = refl;
+      log-read = refl;
+      judged = refl;
+      row-before = lawful-tested A accepted-a 0 s (keptA .row) refl refl refl;
+      row-with = (L, F);
+      ends = complete (keptA .whole) L F;
+      taken = taken-anew A accepted-a s e 3 toldKept refl refl refl refl;
+    }
+
+pub dropped-a : RoundShown droppedA
+unfolding computing unplaceable caseFor accepts
+dropped-a =
+    let s : Snoc LogRecord = logged (droppedA .before) in
+    let e : LogRecord = logRecord (droppedA .last) in
+    let Q : Lawful A 0 s (droppedA .row) = lawful-tested A accepted-a 0 s (droppedA .row) refl refl refl in
+    let N : NoRow A 0 (s ▸ e) = no-row A accepted-a 0 s e (droppedA .row) Q refl {i = 2} refl in
+    let W : LawfulButLast A 0 s e (droppedA .whole)
+    = waived-tested A accepted-a 0 s e (droppedA .whole) refl refl refl in
+    record {
+      chart-read = refl;
+      log-read = refl;
+      judged = refl;
+      row-before = Q;
+      row-with = (N, W, refl);
+      ends = fails-cold (droppedA .whole) 2 N W refl refl;
+      taken = taken-anew A accepted-a s e 4 toldDropped refl refl refl refl;
+    }
+
+pub broken-a : RoundShown brokenA
+unfolding computing unplaceable caseFor accepts
+broken-a =
+    let s : Snoc LogRecord = logged (brokenA .before) in
+    let e : LogRecord = logRecord (brokenA .last) in
+    let Q : Lawful A 0 s (brokenA .row) = lawful-tested A accepted-a 0 s (brokenA .row) refl refl refl in
+    let N : NoRow A 0 (s ▸ e) = no-row A accepted-a 0 s e (brokenA .row) Q refl {i = 4} refl in
+    let W : LawfulButLast A 0 s e (brokenA .whole)
+    = waived-tested A accepted-a 0 s e (brokenA .whole) refl refl refl in
+    record {
+      chart-read = refl;
+      log-read = refl;
+      judged = refl;
+      row-before = Q;
+      row-with = (N, W, refl);
+      ends = fails-hot (brokenA .whole) 4 N W refl refl;
+      taken = taken-at A accepted-a s e 5 (ε ▸ 0 ▸ 1 ▸ 2 ▸ 3) (31 ∷ 21 ∷ [])
+          (toldBroken 3 conditionFails) refl refl refl refl refl;
+    }
+
+pub kept-b : RoundShown keptB
+unfolding computing unplaceable caseFor accepts
+kept-b =
+    let s : Snoc LogRecord = logged (keptB .before) in
+    let e : LogRecord = logRecord (keptB .last) in
+    let L : Lawful B 0 (s ▸ e) (keptB .whole) = lawful-tested B accepted-b 0 (s ▸ e) (keptB .whole) refl refl refl in
+    let F : Full B (stands (keptB .whole)) = full-true B (stands (keptB .whole)) refl in
+    record {
+      chart-read = refl;
+      log-read = refl;
+      judged = refl;
+      row-before = lawful-tested B accepted-b 0 s (keptB .row) refl refl refl;
+      row-with = (L, F);
+      ends = complete (keptB .whole) L F;
+      taken = taken-anew B accepted-b s e 3 toldKept refl refl refl refl;
+    }
+
+pub dropped-b : RoundShown droppedB
+unfolding computing unplaceable caseFor accepts
+dropped-b =
+    let s : Snoc LogRecord = logged (droppedB .before) in
+    let e : LogRecord = logRecord (droppedB .last) in
+    let Q : Lawful B 0 s (droppedB .row) = lawful-tested B accepted-b 0 s (droppedB .row) refl refl refl in
+    let N : NoRow B 0 (s ▸ e) = no-row B accepted-b 0 s e (droppedB .row) Q refl {i = 2} refl in
+    let W : LawfulButLast B 0 s e (droppedB .whole)
+    = waived-tested B accepted-b 0 s e (droppedB .whole) refl refl refl in
+    record {
+      chart-read = refl;
+      log-read = refl;
+      judged = refl;
+      row-before = Q;
+      row-with = (N, W, refl);
+      ends = fails-cold (droppedB .whole) 2 N W refl refl;
+      taken = taken-anew B accepted-b s e 4 toldDropped refl refl refl refl;
+    }
+
+pub broken-b : RoundShown brokenB
+unfolding computing unplaceable caseFor accepts
+broken-b =
+    let s : Snoc LogRecord = logged (brokenB .before) in
+    let e : LogRecord = logRecord (brokenB .last) in
+    let Q : Lawful B 0 s (brokenB .row) = lawful-tested B accepted-b 0 s (brokenB .row) refl refl refl in
+    let N : NoRow B 0 (s ▸ e) = no-row B accepted-b 0 s e (brokenB .row) Q refl {i = 3} refl in
+    let W : LawfulButLast B 0 s e (brokenB .whole)
+    = waived-tested B accepted-b 0 s e (brokenB .whole) refl refl refl in
+    record {
+      chart-read = refl;
+      log-read = refl;
+      judged = refl;
+      row-before = Q;
+      row-with = (N, W, refl);
+      ends = fails-hot (brokenB .whole) 3 N W refl refl;
+      taken = taken-at B accepted-b s e 5 (ε ▸ 0 ▸ 2 ▸ 1) (20 ∷ [])
+          (toldBroken 2 conditionFails) refl refl refl refl refl;
+    }

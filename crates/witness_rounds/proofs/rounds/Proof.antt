@@ -1,0 +1,41 @@
+-- `witness_rounds::rounds` carries the page. Assumes nothing.
+use Rattle.runs.specs.Paper.{begins}
+use Rattle.witness_rounds.proofs.Logs.{round-u, kept-a, dropped-a, broken-a, kept-b, dropped-b, broken-b}
+use Rattle.witness_rounds.proofs.Ways.{unplaced-in-prechart, unplaced-in-main, row-entered, row-moved, row-quiet, five-fed, delays-by, synchronizes-by, advances-by, terminates-by, run-goes, run-settles, run-over, turn-heard, turn-plain, passes-by, moves-by, enters-by, unmatched-in-prechart, unmatched-in-main}
+use Rattle.witness_rounds.proofs.rounds.Statement.{statement}
+use Rattle.witness_rounds.proofs.rounds.Tie as tie
+
+returns : tie.Need-returns
+returns c = record {
+  round-u = round-u;
+  kept-a = kept-a;
+  dropped-a = dropped-a;
+  broken-a = broken-a;
+  kept-b = kept-b;
+  dropped-b = dropped-b;
+  broken-b = broken-b;
+  unplaced-in-prechart = unplaced-in-prechart;
+  unplaced-in-main = unplaced-in-main;
+  row-entered = row-entered;
+  row-moved = row-moved;
+  row-quiet = row-quiet;
+  five-fed = five-fed;
+  delays-by = delays-by;
+  synchronizes-by = synchronizes-by;
+  advances-by = advances-by;
+  terminates-by = terminates-by;
+  run-begins = begins;
+  run-goes = run-goes;
+  run-settles = run-settles;
+  run-over = run-over;
+  turn-heard = turn-heard;
+  turn-plain = turn-plain;
+  passes-by = passes-by;
+  moves-by = moves-by;
+  enters-by = enters-by;
+  unmatched-in-prechart = unmatched-in-prechart;
+  unmatched-in-main = unmatched-in-main;
+}
+
+pub rounds-spec : {M : Type 1} → statement M
+rounds-spec = tie.close (tie.spec returns)

@@ -1,0 +1,3 @@
+pub mod Charts
+pub mod Rounds
+pub mod Witnesses

@@ -1,0 +1,81 @@
+-- The witnesses, on one page: the rounds, and one inhabitant for every way in which the theory's data can be built.
+use mathlib.Core.Path.{_≡_}
+use mathlib.Core.Bool.{true, false}
+use mathlib.Core.List.{[], _∷_}
+use mathlib.Core.Option.{some}
+use Prim.Native.Nat.{ℕ}
+use Rattle.model.specs.declared.Record.{Record}
+use Rattle.rounds.specs.Base.{Snoc, ε, _▸_}
+use Rattle.rounds.specs.Chart.{Chart}
+use Rattle.rounds.specs.Rows.{Row, plain, NoRow, LawfulButLast}
+use Rattle.rounds.specs.Feeds.{timeFalls, noReadyRegion, Outcome, dropped, broken, behindBreak, Ends, refused, toldDropped, toldBroken, entered, moved, quiet, Onward, Fed}
+use Rattle.rounds.specs.Machine.{after}
+use Rattle.runs.specs.Paper.{Config, Letter, message, silent, delay, initial, Advance, by, Prompt, Over, spelled}
+use Rattle.runs.specs.Taken.{Turn, statusOf}
+use Rattle.monitor.specs.Feed.{logRecord}
+use Rattle.monitor.specs.Runs.{logged}
+use Rattle.witness_rounds.specs.Charts.{passed, undo, headings, references, ask, pass, answer}
+use Rattle.witness_rounds.specs.Rounds.{U, A, configOf, statusAs, TakenBy, RoundShown, roundU, keptA, droppedA, brokenA, keptB, droppedB, brokenB}
+
+-- the stretch of s and then e has no row, not even with the conditions at e waived, and ends so
+abbrev pub Unplaced : Chart → Snoc Record → Record → Outcome → Type 0
+Unplaced C s e x =
+    NoRow C 0 (logged s ▸ logRecord e) × ((r : Row) → ¬ LawfulButLast C 0 (logged s) (logRecord e) r)
+    × Ends C 0 (logged s) (logRecord e) x
+
+-- a step of the source over this letter, by this region
+abbrev pub StepBy : Chart → ℕ → Config → Letter → Config → Type 0
+StepBy C i x u z = (a : Advance C x u z) × (by C a ≡ some i)
+
+-- behind the records s, when record e comes, it is region i's turn in configuration z
+abbrev pub TurnOf : Chart → Snoc Record → Record → ℕ → Config → Type 0
+TurnOf C s e i z = Turn C (statusOf C (after C (logged s))) (logRecord e) i z
+
+pub record Witnesses : Type 0 where
+  -- seven rounds, from bytes to rows; `Ends` by `complete`, `fails-cold` and `fails-hot`; `Taken` by cases 3, 4 and 5
+  pub round-u : RoundShown roundU
+  pub kept-a : RoundShown keptA
+  pub dropped-a : RoundShown droppedA
+  pub broken-a : RoundShown brokenA
+  pub kept-b : RoundShown keptB
+  pub dropped-b : RoundShown droppedB
+  pub broken-b : RoundShown brokenB
+  -- `Ends`: no region has the message, in the prechart and in the main chart
+  pub unplaced-in-prechart : Unplaced U ε (headings 5) dropped
+  pub unplaced-in-main : Unplaced U (ε ▸ undo 100) (undo 110) (broken noReadyRegion)
+  -- `Onward`: the three ways in which a round runs on
+  pub row-entered : Onward U ε (ε ▸ 0) entered
+  pub row-moved : Onward U (ε ▸ 0) (ε ▸ 0 ▸ 2) moved
+  pub row-quiet : Onward U (ε ▸ 0) (ε ▸ 0) quiet
+  -- `Fed` and `FedOne`: a stretch ends, one runs on, a record is refused, that stretch ends, and is told again
+  pub five-fed : Fed U
+      (logged (ε ▸ headings 5 ▸ undo 100 ▸ headings 99 ▸ undo 110 ▸ references 120))
+      (ε ▸ toldDropped ▸ entered ▸ refused timeFalls ▸ toldBroken 3 noReadyRegion ▸ toldBroken 3 noReadyRegion)
+      (logged (ε ▸ headings 5 ▸ undo 100 ▸ undo 110))
+      (ε ▸ record { opening = 0; records = logged (ε ▸ headings 5); outcome = dropped }
+      ▸ record { opening = 5; records = logged (ε ▸ undo 100 ▸ undo 110); outcome = broken noReadyRegion })
+      (behindBreak noReadyRegion)
+  -- `Advance`: time passes, region 0 has its message, region 2 advances, or terminates where its condition fails
+  pub delays-by : Advance A initial (delay 10) (configOf ε (10 ∷ 10 ∷ []))
+  pub synchronizes-by : StepBy A 0 (configOf ε (10 ∷ 10 ∷ [])) (message (A .key 0)) (configOf (ε ▸ 0) (0 ∷ 10 ∷ []))
+  pub advances-by : StepBy A 2 (configOf (ε ▸ 0 ▸ 1) (10 ∷ 0 ∷ [])) silent (configOf (ε ▸ 0 ▸ 1 ▸ 2) (10 ∷ 0 ∷ []))
+  pub terminates-by : StepBy A 2 (configOf (ε ▸ 0 ▸ 1) (11 ∷ 0 ∷ [])) silent initial
+  -- `Prompt` and `Over`: from the opening over chart A's first two messages
+  pub run-begins : Prompt A initial ε initial
+  pub run-goes : Prompt A initial (ε ▸ delay 10 ▸ message (A .key 0)) (configOf (ε ▸ 0) (0 ∷ 10 ∷ []))
+  pub run-settles : Prompt A initial (ε ▸ delay 10 ▸ message (A .key 0) ▸ delay 10 ▸ message (A .key 1) ▸ silent)
+      (configOf (ε ▸ 0 ▸ 1 ▸ 2) (10 ∷ 0 ∷ []))
+  pub run-over : Over A initial (spelled 0 (logged (ε ▸ ask 10 ▸ pass 20))) (configOf (ε ▸ 0 ▸ 1 ▸ 2) (10 ∷ 0 ∷ []))
+  -- `Turn`: of a region with the record's message, and of a plain one behind it
+  pub turn-heard : (plain U 1 ≡ false)
+      × TurnOf U (ε ▸ undo 100 ▸ references 120) (headings 141) 1 (configOf (ε ▸ 0 ▸ 2) (41 ∷ []))
+  pub turn-plain : (plain A 4 ≡ true)
+      × TurnOf A (ε ▸ ask 10 ▸ pass 20) (answer 41) 4 (configOf (ε ▸ 0 ▸ 1 ▸ 2 ▸ 3) (31 ∷ 21 ∷ []))
+  -- `Taken` by the other cases: passes, moves, enters, unmatched in the prechart and in the main chart
+  pub passes-by : TakenBy 0 U (ε ▸ undo 100) (passed 110) (statusAs (configOf (ε ▸ 0) (10 ∷ [])) 110 2 0 0 0 0) quiet
+  pub moves-by : TakenBy 1 U (ε ▸ undo 100) (references 120) (statusAs (configOf (ε ▸ 0 ▸ 2) (20 ∷ [])) 120 2 0 0 0 0)
+      moved
+  pub enters-by : TakenBy 2 U ε (undo 100) (statusAs (configOf (ε ▸ 0) (0 ∷ [])) 100 1 0 0 0 0) entered
+  pub unmatched-in-prechart : TakenBy 6 U ε (headings 5) (statusAs initial 5 1 0 1 0 0) toldDropped
+  pub unmatched-in-main : TakenBy 7 U (ε ▸ undo 100) (undo 110)
+      (statusAs (configOf (ε ▸ 0) (10 ∷ [])) 110 2 0 0 2 noReadyRegion) (toldBroken 2 noReadyRegion)
