@@ -2,3 +2,4 @@ pub mod Laws
 pub mod Computing
 pub mod Logs
 pub mod Ways
+pub mod Instances

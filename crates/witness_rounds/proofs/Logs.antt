@@ -17,7 +17,7 @@ use Rattle.witness_rounds.specs.Rounds.{valueOf, U, A, B, RoundShown, ro
 use Rattle.witness_rounds.proofs.Computing.{computing}
 use Rattle.witness_rounds.proofs.Laws.{unplaceable, caseFor, accepts, taken-anew, taken-at}
 
-read-u : readChart chartU ≡ acceptedAs (valueOf chartU)
+pub read-u : readChart chartU ≡ acceptedAs (valueOf chartU)
 unfolding computing
 read-u = refl
 

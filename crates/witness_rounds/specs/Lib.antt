@@ -1,3 +1,4 @@
 pub mod Charts
 pub mod Rounds
+pub mod Cases
 pub mod Witnesses

@@ -1,0 +1,212 @@
+-- Every case has its instance: charts and monitors by computing their tests, logs by walking their records. Assumes nothing.
+use mathlib.Core.Path.{_≡_, refl, sym, ap, subst, _∙_}
+use mathlib.Core.Bool.{Bool, true, false, _&&_}
+use mathlib.Core.List.{List, [], _∷_}
+use Prim.Native.Nat.{ℕ, zero, suc, _+_, _*_, _≤_, _<_}
+use native.Mathlib.Omega.{arith}
+use native.Mathlib.Nat.{not-suc-le-zero}
+use lib.Dec.{ltb}
+use lib.ListN.{length, getD}
+use borrow.Author.Tests.{ltb-true}
+use Rattle.wire.specs.Bytes.{word16, word32}
+use Rattle.model.specs.declared.Monitor.{Monitor}
+use Rattle.model.specs.declared.Record.{Record}
+use Rattle.model.specs.Chart.{zeroChart}
+use Rattle.model.specs.Monitor.{zeroMonitor}
+use Rattle.chart_reader.specs.Read.{readChart, acceptedAs}
+use Rattle.chart_value.specs.Given.{Given}
+use Rattle.chart_value.specs.WellFormed.{wellFormed}
+use Rattle.chart_value.proofs.Sound.{sound}
+use Rattle.rounds.specs.Base.{Snoc, ε, _▸_, size}
+use Rattle.rounds.specs.Feeds.{refused, toldBroken, entered}
+use Rattle.rounds.specs.Machine.{Monitor as AbstractMonitor, Fit, feed, after}
+use Rattle.rounds.proofs.Facts.{clash, and-left, and-right}
+use Rattle.rounds.proofs.Fitness.{after-fit}
+use Rattle.runs.specs.Taken.{Taken, statusOf, Acceptable}
+use Rattle.runs.proofs.Demand2.{demand-2}
+use Rattle.stepping.specs.Monitors.{monitorAt}
+use Rattle.monitor.specs.Feed.{logRecord}
+use Rattle.monitor.specs.Fit.{closedUpward, restsUnlessBroken, momentsFit, countsFit, breakFits, fits}
+use Rattle.monitor.specs.Runs.{logged, RunOver}
+use Rattle.monitor.proofs.Fitness.{of-fit, fit-exactly}
+use Rattle.monitor.proofs.Runs.{zero-fresh, feeding}
+use Rattle.log_reader.specs.Record as found
+use Rattle.claims.specs.Examples.{chartU}
+use Rattle.claims.specs.Demand1 as cases
+use Rattle.claims.specs.Demand1.{FeedsAs, FindsAs, Walk, refusedLog, JudgesAs}
+use Rattle.claims.proofs.Demand1.{reads-just}
+use Rattle.witness_rounds.specs.Charts.{passed, undo, headings, references, written}
+use Rattle.witness_rounds.specs.Rounds.{U, verdictAs}
+use Rattle.witness_rounds.specs.Cases.{valueU, stored, ticks, Cases}
+use Rattle.witness_rounds.proofs.Computing.{computing}
+use Rattle.witness_rounds.proofs.Logs.{read-u, accepted-u}
+
+abbrev smallTest : List ℕ → Bool
+smallTest [] = true
+smallTest (b ∷ s) = ltb b 256 && smallTest s
+
+small : (s : List ℕ) → smallTest s ≡ true → (i : ℕ) → i < length s → getD s i 0 < 256
+small [] h i l = absurd (not-suc-le-zero l)
+small (b ∷ s) h zero l = ltb-true b 256 (and-left (ltb b 256) (smallTest s) h)
+small (b ∷ s) h (suc i) l = small s (and-right (ltb b 256) (smallTest s) h) i (omega (arith, l))
+
+given-u : Given valueU
+given-u = record { bytes = chartU; small = small chartU refl; accepted = read-u }
+
+zeros-not : ¬ Given zeroChart
+unfolding computing
+zeros-not g = clash (sound (g .bytes) zeroChart (g .accepted) .fine) refl
+
+fit : (m : Monitor) → length (m .at .resets) ≡ 8 → fits U m ≡ true → Fit U (monitorAt m)
+fit m p q = fit-exactly U accepted-u m p true (sym q) .0 refl
+
+unfit : FeedsAs valueU (stored 7 0 3 0 0) (undo 100) (refused 21) (stored 7 0 3 0 0)
+unfolding computing fits closedUpward restsUnlessBroken momentsFit countsFit breakFits
+unfit = cases.unfit given-u (λ F. clash (of-fit U accepted-u (stored 7 0 3 0 0) F) refl)
+
+broken-again : FeedsAs valueU (stored 1 110 2 2 1) (undo 120) (toldBroken 2 1) (stored 1 110 2 2 1)
+unfolding computing fits closedUpward restsUnlessBroken momentsFit countsFit breakFits
+broken-again = cases.broken-again given-u (fit (stored 1 110 2 2 1) refl refl) (λ z. omega (arith, z))
+
+time-falls : FeedsAs valueU (stored 0 100 1 0 0) (undo 99) (refused 22) (stored 0 100 1 0 0)
+unfolding computing fits closedUpward restsUnlessBroken momentsFit countsFit breakFits
+time-falls = cases.time-falls given-u (fit (stored 0 100 1 0 0) refl refl) refl (omega arith)
+
+too-many : FeedsAs valueU (stored 0 100 1000000 0 0) (undo 100) (refused 23) (stored 0 100 1000000 0 0)
+unfolding computing fits closedUpward restsUnlessBroken momentsFit countsFit breakFits
+too-many = cases.too-many given-u (fit (stored 0 100 1000000 0 0) refl refl) refl (omega arith) (omega arith)
+
+-- undo, fed to a fresh monitor: the monitor of a list of one feed
+takes : (n : Monitor) × FeedsAs valueU zeroMonitor (undo 100) entered n
+unfolding computing
+takes =
+    let G = feeding valueU refl accepted-u in
+    let X : RunOver valueU (ε ▸ undo 100) = G .exists (ε ▸ undo 100) in
+    let z : monitorAt zeroMonitor ≡ after U ε = zero-fresh in
+    let L : monitorAt (X .monitor) ≡ feed U (monitorAt zeroMonitor) (logRecord (undo 100)) .next
+    = G .leads (X .run) ∙ ap (λ (m : AbstractMonitor). feed U m (logRecord (undo 100)) .next) (sym z) in
+    let P : Acceptable U (monitorAt zeroMonitor) (logRecord (undo 100))
+    = record { fit = subst (Fit U) (sym z) (after-fit U accepted-u ε); unbroken = refl; forward = omega arith; room = omega arith } in
+    let D = demand-2 U accepted-u in (
+      X .monitor,
+      cases.takes given-u P entered (X .monitor)
+          (subst (λ (m : AbstractMonitor). Taken U (statusOf U (monitorAt zeroMonitor)) (logRecord (undo 100)) (statusOf U m) entered) (sym L)
+          (D .given (monitorAt zeroMonitor) (logRecord (undo 100)) P))
+          (subst (Fit U) (sym L) (D .stays-fit (monitorAt zeroMonitor) (logRecord (undo 100)) P)),
+    )
+
+message : FindsAs (written (ε ▸ undo 100) []) 0 (found.handed (undo 100) 9)
+message = cases.message refl (omega arith)
+
+two : Walk (written (ε ▸ undo 100 ▸ passed 110) []) (ε ▸ undo 100 ▸ passed 110) 14 110
+two =
+    cases.step (cases.step cases.start (undo 100) 9 (cases.message refl (omega arith)) (omega arith) (omega arith)) (passed 110) 14
+    (cases.time refl (omega arith)) (omega arith) (omega arith)
+
+-- a log of n records of time 0: the byte at each place, and a walk over the first k of them
+module _ where
+  ticks-length : (n : ℕ) → length (ticks n) ≡ 5 * n
+  unfolding ticks
+  ticks-length zero = refl
+  ticks-length (suc n) = let h : length (ticks n) ≡ 5 * n = ticks-length n in omega arith
+
+  -- the byte of each record, and zeros after it
+  head-at : (n k : ℕ) → k < n → getD (ticks n) (5 * k) 0 ≡ 2
+  unfolding ticks
+  head-at zero k h = absurd (not-suc-le-zero h)
+  head-at (suc n) zero h = refl
+  head-at (suc n) (suc k) h =
+      let q : 5 * suc k ≡ suc (suc (suc (suc (suc (5 * k))))) = omega arith in
+      ap (λ (i : ℕ). getD (ticks (suc n)) i 0) q ∙ head-at n k (omega arith)
+
+  zero-at : (n k i : ℕ) → k < n → 5 * k < i → i < 5 * k + 5 → getD (ticks n) i 0 ≡ 0
+  unfolding ticks
+  zero-at zero k i h a b = absurd (not-suc-le-zero h)
+  zero-at (suc n) zero zero h a b = absurd (omega arith)
+  zero-at (suc n) zero (suc zero) h a b = refl
+  zero-at (suc n) zero (suc (suc zero)) h a b = refl
+  zero-at (suc n) zero (suc (suc (suc zero))) h a b = refl
+  zero-at (suc n) zero (suc (suc (suc (suc zero)))) h a b = refl
+  zero-at (suc n) zero (suc (suc (suc (suc (suc i))))) h a b = absurd (omega arith)
+  zero-at (suc n) (suc k) zero h a b = absurd (omega arith)
+  zero-at (suc n) (suc k) (suc zero) h a b = absurd (omega arith)
+  zero-at (suc n) (suc k) (suc (suc zero)) h a b = absurd (omega arith)
+  zero-at (suc n) (suc k) (suc (suc (suc zero))) h a b = absurd (omega arith)
+  zero-at (suc n) (suc k) (suc (suc (suc (suc zero)))) h a b = absurd (omega arith)
+  zero-at (suc n) (suc k) (suc (suc (suc (suc (suc i))))) h a b = zero-at n k i (omega arith) (omega arith) (omega arith)
+
+  time-at : (n k : ℕ) → k < n → found.timeAt (ticks n) (5 * k) ≡ passed 0
+  time-at n k h =
+      rw (
+        zero-at n k (5 * k + 1) h (omega arith) (omega arith),
+        zero-at n k (5 * k + 1 + 1) h (omega arith) (omega arith),
+        zero-at n k (5 * k + 1 + 2) h (omega arith) (omega arith),
+        zero-at n k (5 * k + 1 + 2 + 1) h (omega arith) (omega arith),
+      )
+
+  tick : (n k : ℕ) → k < n → FindsAs (ticks n) (5 * k) (found.handed (passed 0) (5 * k + 5))
+  tick n k h =
+      subst (λ (r : Record). FindsAs (ticks n) (5 * k) (found.handed r (5 * k + 5))) (time-at n k h)
+      (cases.time (head-at n k h) (let l : length (ticks n) ≡ 5 * n = ticks-length n in omega arith))
+
+  abbrev copies : ℕ → Snoc Record
+  copies zero = ε
+  copies (suc k) = copies k ▸ passed 0
+
+  copies-size : (k : ℕ) → size (copies k) ≡ k
+  copies-size zero = refl
+  copies-size (suc k) = ap suc (copies-size k)
+
+  walk : (n k : ℕ) → k ≤ n → k ≤ 1000000 → Walk (ticks n) (copies k) (5 * k) 0
+  walk n zero h m = cases.start
+  walk n (suc k) h m =
+      let s : size (copies k) ≡ k = copies-size k in
+      let q : 5 * k + 5 ≡ 5 * suc k = omega arith in
+      subst (λ (p : ℕ). Walk (ticks n) (copies k ▸ passed 0) p 0) q
+      (cases.step (walk n k (omega arith) (omega arith)) (passed 0) (5 * k + 5) (tick n k (omega arith)) (omega arith) (omega arith))
+
+overflow : (k : ℕ) → k ≡ 1000000 → JudgesAs valueU (ticks (suc k)) (refusedLog 23 (5 * k))
+overflow k q =
+    let s : size (copies k) ≡ k = copies-size k in
+    cases.overflows given-u (walk (suc k) k (omega arith) (omega arith)) (passed 0) (5 * k + 5) (tick (suc k) k (omega arith)) (omega arith)
+    (omega arith)
+
+judges : JudgesAs valueU (written (ε ▸ undo 100 ▸ references 120 ▸ headings 140) []) (record { number = 0; offset = 0; verdict = verdictAs 0 1 0 3 0 0 })
+unfolding computing
+judges =
+    cases.judges given-u
+    (cases.step (cases.step (cases.step cases.start (undo 100) 9 (cases.message refl (omega arith)) (omega arith) (omega arith))
+    (references 120) 18 (cases.message refl (omega arith)) (omega arith) (omega arith)) (headings 140) 27 (cases.message refl (omega arith)) (omega arith) (omega arith))
+    (cases.ends (omega arith))
+
+pub each-case : Cases
+unfolding computing
+each-case = record {
+  accepts = reads-just chartU (acceptedAs valueU) (sym read-u) .holds;
+  refuses = reads-just [] (record { number = 1; offset = 0; chart = zeroChart }) refl .holds;
+  makes = cases.makes given-u;
+  no-chart = cases.no-chart zeros-not;
+  not-a-chart = cases.not-a-chart zeros-not;
+  unfit = unfit;
+  broken-again = broken-again;
+  time-falls = time-falls;
+  too-many = too-many;
+  takes = takes;
+  ends = cases.ends (omega arith);
+  unknown = cases.unknown (omega arith) (λ z. omega (arith, z)) (λ z. omega (arith, z));
+  message-cut = cases.message-cut (omega arith) refl (omega arith);
+  time-cut = cases.time-cut (omega arith) refl (omega arith);
+  message = message;
+  time = cases.time refl (omega arith);
+  start = cases.start;
+  step = two;
+  not-given = cases.not-given zeros-not;
+  no-record = cases.no-record given-u
+      (cases.step cases.start (passed 7) 5 (cases.time refl (omega arith)) (omega arith) (omega arith)) 31
+      (cases.unknown (omega arith) (λ z. omega (arith, z)) (λ z. omega (arith, z)));
+  falls = cases.falls given-u
+      (cases.step cases.start (undo 100) 9 (cases.message refl (omega arith)) (omega arith) (omega arith)) (headings 99) 18
+      (cases.message refl (omega arith)) (omega arith);
+  overflows = overflow 1000000 refl;
+  judges = judges;
+}

@@ -1,0 +1,72 @@
+-- Every case of the first demand's claims, with an instance: charts, monitors, places and logs that it is about.
+use mathlib.Core.List.{List, [], _∷_}
+use Prim.Native.Nat.{ℕ, zero, suc}
+use lib.ListN.{replicate}
+use Rattle.model.specs.declared.Chart.{Chart}
+use Rattle.model.specs.declared.Monitor.{Monitor}
+use Rattle.model.specs.declared.Record.{Record}
+use Rattle.model.specs.Chart.{zeroChart}
+use Rattle.model.specs.Monitor.{zeroMonitor}
+use Rattle.rounds.specs.Base.{Snoc, ε, _▸_}
+use Rattle.rounds.specs.Feeds.{refused, toldBroken, entered}
+use Rattle.chart_reader.specs.Read.{acceptedAs}
+use Rattle.log_reader.specs.Record as found
+use Rattle.monitor.specs.declared.MadeAnswer.the-variants.{Fresh, NoChart}
+use Rattle.claims.specs.Examples.{chartU}
+use Rattle.claims.specs.Demand1.{ReadsAs, MakesAs, FeedsAs, FindsAs, Walk, refusedLog, JudgesAs}
+use Rattle.witness_rounds.specs.Charts.{passed, undo, headings, references, written}
+use Rattle.witness_rounds.specs.Rounds.{valueOf, verdictAs}
+
+-- chart U as a value
+abbrev pub valueU : Chart
+valueU = valueOf chartU
+
+-- a monitor with these regions fired, all clocks reset at 0, and no round kept or dropped
+abbrev pub stored : ℕ → ℕ → ℕ → ℕ → ℕ → Monitor
+stored fired now records break reason =
+    record {
+      at = record { fired = fired; resets = replicate 8 (record { 0 = 0 }) };
+      now = record { 0 = now };
+      records = records;
+      kept = 0;
+      dropped = 0;
+      «break_record» = break;
+      reason = reason;
+    }
+
+-- a log of n records of time 0
+unfoldable pub ticks : ℕ → List ℕ
+ticks zero = []
+ticks (suc n) = 0x02 ∷ 0 ∷ 0 ∷ 0 ∷ 0 ∷ ticks n
+
+pub record Cases : Type 0 where
+  -- reading a chart: chart U, and no byte at all
+  pub accepts : ReadsAs chartU (acceptedAs valueU)
+  pub refuses : ReadsAs [] (record { number = 1; offset = 0; chart = zeroChart })
+  -- making a monitor: of chart U, and of zeros, which no bytes give
+  pub makes : MakesAs valueU (record { answer = Fresh; monitor = zeroMonitor })
+  pub no-chart : MakesAs zeroChart (record { answer = NoChart; monitor = zeroMonitor })
+  -- feeding: no chart; every region fired; broken at record 2; a time below now; a record too many; undo is taken
+  pub not-a-chart : FeedsAs zeroChart zeroMonitor (undo 100) (refused 20) zeroMonitor
+  pub unfit : FeedsAs valueU (stored 7 0 3 0 0) (undo 100) (refused 21) (stored 7 0 3 0 0)
+  pub broken-again : FeedsAs valueU (stored 1 110 2 2 1) (undo 120) (toldBroken 2 1) (stored 1 110 2 2 1)
+  pub time-falls : FeedsAs valueU (stored 0 100 1 0 0) (undo 99) (refused 22) (stored 0 100 1 0 0)
+  pub too-many : FeedsAs valueU (stored 0 100 1000000 0 0) (undo 100) (refused 23) (stored 0 100 1000000 0 0)
+  pub takes : (n : Monitor) × FeedsAs valueU zeroMonitor (undo 100) entered n
+  -- one record: past the end; an unknown byte; a message and a time cut short; both whole
+  pub ends : FindsAs [] 3 (found.end 3)
+  pub unknown : FindsAs (0x03 ∷ []) 0 (found.refused 31 0)
+  pub message-cut : FindsAs (0x01 ∷ 0 ∷ 1 ∷ []) 0 (found.refused 30 0)
+  pub time-cut : FindsAs (0x02 ∷ 0 ∷ []) 0 (found.refused 30 0)
+  pub message : FindsAs (written (ε ▸ undo 100) []) 0 (found.handed (undo 100) 9)
+  pub time : FindsAs (written (ε ▸ passed 7) []) 0 (found.handed (passed 7) 5)
+  -- records from the left: none, and two
+  pub start : Walk [] ε 0 0
+  pub step : Walk (written (ε ▸ undo 100 ▸ passed 110) []) (ε ▸ undo 100 ▸ passed 110) 14 110
+  -- judging: no chart; an unknown byte after a record; a time that falls; record 1,000,001; a verdict
+  pub not-given : JudgesAs zeroChart [] (refusedLog 20 0)
+  pub no-record : JudgesAs valueU (written (ε ▸ passed 7) (0x03 ∷ [])) (refusedLog 31 5)
+  pub falls : JudgesAs valueU (written (ε ▸ undo 100 ▸ headings 99) []) (refusedLog 22 9)
+  pub overflows : JudgesAs valueU (ticks 1000001) (refusedLog 23 5000000)
+  pub judges : JudgesAs valueU (written (ε ▸ undo 100 ▸ references 120 ▸ headings 140) [])
+      (record { number = 0; offset = 0; verdict = verdictAs 0 1 0 3 0 0 })
