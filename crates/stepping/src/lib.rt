@@ -486,10 +486,9 @@ fn break_round(m: Monitor, t: Moment, reason: u8, place: Place) -> Step
 {
     let before = m.tally;
     let tally = counted_broken(before, t, reason);
-    let broken = tally.broken;
     let next = Monitor { at: place, tally };
     Step {
-        answer: Answer::Broken(broken.at, reason),
+        answer: Answer::Broken(tally.broken.at, reason),
         next,
     }
 }
@@ -597,15 +596,13 @@ pub fn feed_fit<'a>(
     ensures back { λ r. ⌜ HandsBack m r ⌝ }
 {
     let tally = m.tally;
-    let now = tally.now;
-    let broken = tally.broken;
-    if broken.at != 0 {
+    if tally.broken.at != 0 {
         return Step {
-            answer: Answer::Broken(broken.at, broken.reason),
+            answer: Answer::Broken(tally.broken.at, tally.broken.reason),
             next: m,
         };
     }
-    if t.0 < now.0 {
+    if t.0 < tally.now.0 {
         return Step {
             answer: Answer::Refused(FeedRefusal::TimeFalls),
             next: m,

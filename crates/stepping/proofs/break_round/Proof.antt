@@ -11,7 +11,7 @@ counted-broken-requires c κs = search needs
 
 returns : tie.Need-returns
 unfolding breakRound
-returns c = λ C code. let e = c .before .counted-broken .ensures in rw (e, ap (λ (x : Tally). x .broken .at) e)
+returns c = λ C code. let e = c .counted-broken .ensures in rw (e, ap (λ (x : Tally). x .broken .at) e)
 
 pub break-round-spec : {M : Type 1} → statement M
 break-round-spec = tie.close (tie.spec counted-broken-requires returns)

@@ -24,7 +24,7 @@ returns-3 c = (
 
 accept-requires : tie.Need-accept-requires
 accept-requires c κs =
-    let P = c .before .before .before .before .before .before .before .before .before .before .pre in
+    let P = c .before .before .before .before .before .before .before .before .pre in
     let F = P .1 .0 in
     (P .0, ((omega (arith, c .if3 .left), F .counts), ((λ x. omega (arith, F .moments x, c .before .before .if2 .left)), P .1 .1)))
 
