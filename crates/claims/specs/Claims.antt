@@ -41,12 +41,12 @@ pub record AnswersTell : Type 0 where
 pub record Views (m : Monitor) : Type 0 where
   pub fired : (i : ℕ) → monitorAt m .at .fired i ≡ contains (m .at .fired) i
   pub clocks : (k : ℕ) → monitorAt m .at .clocks k ≡ getD (m .at .resets) k (record { 0 = 0 }) .0
-  pub now : monitorAt m .now ≡ m .now .0
-  pub records : monitorAt m .records ≡ m .records
-  pub kept : monitorAt m .kept ≡ m .kept
-  pub dropped : monitorAt m .dropped ≡ m .dropped
-  pub break : monitorAt m .break ≡ m .«break_record»
-  pub reason : monitorAt m .reason ≡ m .reason
+  pub now : monitorAt m .tally .now ≡ m .tally .now .0
+  pub records : monitorAt m .tally .records ≡ m .tally .records
+  pub kept : monitorAt m .tally .kept ≡ m .tally .kept
+  pub dropped : monitorAt m .tally .dropped ≡ m .tally .dropped
+  pub break : monitorAt m .tally .broken .at ≡ m .tally .broken .at
+  pub reason : monitorAt m .tally .broken .reason ≡ m .tally .broken .reason
 
 -- the second and the third demand of the chart that c shows, and the real operation, of which they speak by this
 pub record Demands (c : Chart) : Type 0 where

@@ -37,7 +37,7 @@ judgedU log standing kept dropped records break reason =
     record {
       chart = chartU;
       log = log;
-      report = Judged (record { standing = standing; kept = kept; dropped = dropped; records = records; «break_record» = break; reason = reason });
+      report = Judged (record { standing = standing; kept = kept; dropped = dropped; records = records; broken = break; reason = reason });
     }
 
 -- a chart that is refused, with an empty log

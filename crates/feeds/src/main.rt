@@ -33,15 +33,15 @@ fn put_moments(moments: [Moment; CLOCK_PLACES]) {
 
 fn put_monitor(m: Monitor) {
     let at = m.at;
-    let now = m.now;
+    let tally = m.tally;
     let moments = at.resets;
     put_number(at.fired);
-    put_number(now.0);
-    put_number(m.records);
-    put_number(m.kept);
-    put_number(m.dropped);
-    put_number(m.break_record);
-    put_number(m.reason as u32);
+    put_number(tally.now.0);
+    put_number(tally.records);
+    put_number(tally.kept);
+    put_number(tally.dropped);
+    put_number(tally.broken.at);
+    put_number(tally.broken.reason as u32);
     put_moments(moments);
 }
 

@@ -42,11 +42,11 @@ pub record Small (m : Monitor) : Type 0 where
   pub fired : m .at .fired < 2 ^ 32
   pub places : length (m .at .resets) ≡ 8
   pub moments : (k : ℕ) → k < 8 → momentsOf (m .at .resets) k < 2 ^ 32
-  pub now : m .now .0 < 2 ^ 32
-  pub records : m .records < 2 ^ 32
-  pub kept : m .kept < 2 ^ 32
-  pub dropped : m .dropped < 2 ^ 32
-  pub break : m .«break_record» < 2 ^ 32
+  pub now : m .tally .now .0 < 2 ^ 32
+  pub records : m .tally .records < 2 ^ 32
+  pub kept : m .tally .kept < 2 ^ 32
+  pub dropped : m .tally .dropped < 2 ^ 32
+  pub break : m .tally .broken .at < 2 ^ 32
 
 -- the eight moments are the whole list
 eight : (r : List Moment) → length r ≡ 8
@@ -78,11 +78,11 @@ monitor-told m rest s =
       word-told (momentsOf r 5) (s .moments 5 (omega arith)),
       word-told (momentsOf r 6) (s .moments 6 (omega arith)),
       word-told (momentsOf r 7) (s .moments 7 (omega arith)),
-      word-told (m .now .0) (s .now),
-      word-told (m .records) (s .records),
-      word-told (m .kept) (s .kept),
-      word-told (m .dropped) (s .dropped),
-      word-told (m .«break_record») (s .break),
+      word-told (m .tally .now .0) (s .now),
+      word-told (m .tally .records) (s .records),
+      word-told (m .tally .kept) (s .kept),
+      word-told (m .tally .dropped) (s .dropped),
+      word-told (m .tally .broken .at) (s .break),
       eight r (s .places),
     )
 

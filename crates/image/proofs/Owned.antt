@@ -28,14 +28,15 @@ pub owned : (m : Monitor) (vs : List Val) → Is (row monitor.the-type) m vs →
 owned m vs p =
     let at = p .1 .1 .0 in
     let r = at .1 .1 .1 .0 in
+    let tally = p .1 .1 .1 .0 in
     let size : length (m .at .resets) ≡ 8 = sym (length-map (m .at .resets) _) ∙ r .1 .0 .1 in
     record {
       fired = at .1 .1 .0 .1;
       places = size;
       moments = λ k h. each-at _ Moment (moment.the-type .to) _ (m .at .resets) (r .0) k (record { 0 = 0 }) (r .1 .1) (omega arith) .1 .1 .1 .0 .1;
-      now = p .1 .1 .1 .0 .1 .1 .0 .1;
-      records = p .1 .1 .1 .1 .0 .1;
-      kept = p .1 .1 .1 .1 .1 .0 .1;
-      dropped = p .1 .1 .1 .1 .1 .1 .0 .1;
-      break = p .1 .1 .1 .1 .1 .1 .1 .0 .1;
+      now = tally .1 .1 .0 .1 .1 .0 .1;
+      records = tally .1 .1 .1 .0 .1;
+      kept = tally .1 .1 .1 .1 .0 .1;
+      dropped = tally .1 .1 .1 .1 .1 .0 .1;
+      break = tally .1 .1 .1 .1 .1 .1 .0 .1 .1 .0 .1;
     }

@@ -5,6 +5,7 @@ use mathlib.Core.List.{List, [], _∷_, _++_}
 use lib.ListN.{getD}
 use Rattle.wire.specs.Bytes.{word32}
 use Rattle.model.specs.declared.Moment.{Moment}
+use Rattle.model.specs.declared.Tally.{Tally}
 use Rattle.model.specs.declared.Monitor.{Monitor}
 use Rattle.stepping.specs.Monitors.{momentsOf}
 
@@ -33,11 +34,11 @@ momentNumbers r =
     momentsOf r 0 ∷ momentsOf r 1 ∷ momentsOf r 2 ∷ momentsOf r 3 ∷ momentsOf r 4 ∷ momentsOf r 5 ∷ momentsOf r 6 ∷ momentsOf r 7 ∷ []
 
 -- what stands behind them
-abbrev pub countBytes : Monitor → List ℕ
-countBytes m = wordsBytes (m .now .0 ∷ m .records ∷ m .kept ∷ m .dropped ∷ m .«break_record» ∷ []) ++ (m .reason ∷ [])
+abbrev pub tallyBytes : Tally → List ℕ
+tallyBytes x = wordsBytes (x .now .0 ∷ x .records ∷ x .kept ∷ x .dropped ∷ x .broken .at ∷ []) ++ (x .broken .reason ∷ [])
 
 unfoldable pub monitorBytes : Monitor → List ℕ
-monitorBytes m = wordBytes (m .at .fired) ++ (wordsBytes (momentNumbers (m .at .resets)) ++ countBytes m)
+monitorBytes m = wordBytes (m .at .fired) ++ (wordsBytes (momentNumbers (m .at .resets)) ++ tallyBytes (m .tally))
 
 abbrev pub momentIn : List ℕ → ℕ → Moment
 momentIn s i = record { 0 = word32 s i }
@@ -46,15 +47,16 @@ abbrev pub momentsIn : List ℕ → List Moment
 momentsIn s =
     momentIn s 4 ∷ momentIn s 8 ∷ momentIn s 12 ∷ momentIn s 16 ∷ momentIn s 20 ∷ momentIn s 24 ∷ momentIn s 28 ∷ momentIn s 32 ∷ []
 
--- the monitor whose image starts a list of bytes; a byte past the end reads as 0
-unfoldable pub monitorIn : List ℕ → Monitor
-monitorIn s =
+abbrev pub tallyIn : List ℕ → Tally
+tallyIn s =
     record {
-      at = record { fired = word32 s 0; resets = momentsIn s };
       now = momentIn s 36;
       records = word32 s 40;
       kept = word32 s 44;
       dropped = word32 s 48;
-      «break_record» = word32 s 52;
-      reason = getD s 56 0;
+      broken = record { at = word32 s 52; reason = getD s 56 0 };
     }
+
+-- the monitor whose image starts a list of bytes; a byte past the end reads as 0
+unfoldable pub monitorIn : List ℕ → Monitor
+monitorIn s = record { at = record { fired = word32 s 0; resets = momentsIn s }; tally = tallyIn s }

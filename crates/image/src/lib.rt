@@ -1,14 +1,16 @@
 // A monitor as bytes at the start of a buffer, and read from there; numbers with the most significant byte first.
+use model::Break;
 use model::CLOCK_PLACES;
 use model::Moment;
 use model::Monitor;
 use model::Place;
+use model::Tally;
 ghost use mathlib.Core.Path.{_≡_};
 ghost use mathlib.Core.List.{_∷_, []};
 ghost use Prim.Native.Nat.{_+_, _≤_, _%_};
 ghost use lib.ListN.{length};
 ghost use Rattle.text.specs.Text.{Wrote};
-ghost use Rattle.image.specs.Image.{wordBytes, wordsBytes, longBytes, word64, monitorSize, momentNumbers, countBytes, monitorBytes, momentIn, momentsIn, monitorIn};
+ghost use Rattle.image.specs.Image.{wordBytes, wordsBytes, longBytes, word64, monitorSize, momentNumbers, tallyBytes, monitorBytes, momentIn, momentsIn, tallyIn, monitorIn};
 
 // The bytes of a monitor.
 pub const MONITOR_SIZE: usize = 57;
@@ -63,14 +65,13 @@ fn put_moments(out: &mut [u8], at: usize, resets: [Moment; CLOCK_PLACES]) -> usi
 }
 
 // The moment, the counts and the break.
-fn put_counts(out: &mut [u8], at: usize, m: Monitor) -> usize
+fn put_tally(out: &mut [u8], at: usize, x: Tally) -> usize
     requires { ⌜ at + 21 ≤ length (now out) ⌝ }
-    ensures { λ r. ⌜ Wrote (now (out .entry)) at (countBytes m) (now (out .exit)) r ⌝ }
+    ensures { λ r. ⌜ Wrote (now (out .entry)) at (tallyBytes x) (now (out .exit)) r ⌝ }
 {
-    let now = m.now;
-    let second = put_four(out, at, now.0, m.records, m.kept, m.dropped);
-    let third = put_word32(out, second, m.break_record);
-    text::put_byte(out, third, m.reason)
+    let second = put_four(out, at, x.now.0, x.records, x.kept, x.dropped);
+    let third = put_word32(out, second, x.broken.at);
+    text::put_byte(out, third, x.broken.reason)
 }
 
 // The monitor at the start of the buffer: read from there it is the same.
@@ -81,9 +82,10 @@ pub fn put_monitor(out: &mut [u8], m: Monitor) -> usize
 {
     let at = m.at;
     let resets = at.resets;
+    let tally = m.tally;
     let second = put_word32(out, 0, at.fired);
     let third = put_moments(out, second, resets);
-    put_counts(out, third, m)
+    put_tally(out, third, tally)
 }
 
 // A number in eight bytes.
@@ -138,6 +140,24 @@ fn moments_at(bytes: &[u8]) -> [Moment; CLOCK_PLACES]
     ]
 }
 
+// The tally in the 21 bytes from 36 on.
+fn tally_at(bytes: &[u8]) -> Tally
+    ensures { λ r. ⌜ r ≡ tallyIn (now (bytes .entry)) ⌝ }
+{
+    let now = moment_at(bytes, 36);
+    let broken = Break {
+        at: wire::word32_at(bytes, 52),
+        reason: wire::byte_at(bytes, 56),
+    };
+    Tally {
+        now,
+        records: wire::word32_at(bytes, 40),
+        kept: wire::word32_at(bytes, 44),
+        dropped: wire::word32_at(bytes, 48),
+        broken,
+    }
+}
+
 // The monitor whose image starts the bytes; a byte past the end reads as 0.
 pub fn monitor_at(bytes: &[u8]) -> Monitor
     ensures value { λ r. ⌜ r ≡ monitorIn (now (bytes .entry)) ⌝ }
@@ -148,14 +168,6 @@ pub fn monitor_at(bytes: &[u8]) -> Monitor
         fired: wire::word32_at(bytes, 0),
         resets,
     };
-    let now = moment_at(bytes, 36);
-    Monitor {
-        at,
-        now,
-        records: wire::word32_at(bytes, 40),
-        kept: wire::word32_at(bytes, 44),
-        dropped: wire::word32_at(bytes, 48),
-        break_record: wire::word32_at(bytes, 52),
-        reason: wire::byte_at(bytes, 56),
-    }
+    let tally = tally_at(bytes);
+    Monitor { at, tally }
 }

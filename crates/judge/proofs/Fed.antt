@@ -67,23 +67,23 @@ code-of s at e place q = by (leb (length s) at) (eqb (getD s at 0) messageByte) 
     by false false c false f x = let z : _≡_ {A = ℕ} 0 1 = cc in absurd (omega arith)
 
 -- a broken monitor stays as it is
-unmoved : (C : Abstract) (m : AbstractMonitor) (e : LogRecord) → m .break ≢ 0 → feed C m e .next ≡ m
+unmoved : (C : Abstract) (m : AbstractMonitor) (e : LogRecord) → m .tally .broken .at ≢ 0 → feed C m e .next ≡ m
 unfolding feed
-unmoved C m e b = rw (ne-eqb (m .break) 0 b)
+unmoved C m e b = rw (ne-eqb (m .tally .broken .at) 0 b)
 
-still : (C : Abstract) (n : ℕ) (s : List ℕ) (at : ℕ) (es : Snoc Record) → after C (logged es) .break ≢ 0
+still : (C : Abstract) (n : ℕ) (s : List ℕ) (at : ℕ) (es : Snoc Record) → after C (logged es) .tally .broken .at ≢ 0
     → after C (logged (recordsFrom n s at es)) ≡ after C (logged es)
 unfolding recordsFrom after
 still C zero s at es b = refl
 still C (suc n) s at es b = by (nextAt s at) (λ p e c. still C n s p (es ▸ e) c)
   where
-    by : (x : Next) → ((p : ℕ) (e : Record) → after C (logged (es ▸ e)) .break ≢ 0 → after C (logged (recordsFrom n s p (es ▸ e))) ≡ after C (logged (es ▸ e)))
+    by : (x : Next) → ((p : ℕ) (e : Record) → after C (logged (es ▸ e)) .tally .broken .at ≢ 0 → after C (logged (recordsFrom n s p (es ▸ e))) ≡ after C (logged (es ▸ e)))
         → after C (logged (onRecord (λ e place. recordsFrom n s place (es ▸ e)) x es)) ≡ after C (logged es)
     by End i = refl
     by (Refused f) i = refl
     by (Taken e p) i =
         let u = unmoved C (after C (logged es)) (logRecord e) b in
-        i p e (λ z. b (sym (ap (λ (x : AbstractMonitor). x .break) u) ∙ z)) ∙ u
+        i p e (λ z. b (sym (ap (λ (x : AbstractMonitor). x .tally .broken .at) u) ∙ z)) ∙ u
 
 -- the records fed before a place, and what is left gives the whole
 pub record SoFar (C : Abstract) (s : List ℕ) (m : Monitor) (at left : ℕ) : Type 0 where
@@ -122,10 +122,10 @@ module _ {C : Abstract} {s : List ℕ} {m : Monitor} {at left : ℕ} (S : SoFar 
     fed-bad h f q = done (sym (one-record s at left h (S .before) (Refused f) q) ∙ S .rest)
 
     -- behind a break the rest changes nothing
-    pub fed-broken : m .«break_record» ≢ 0 → monitorAt m ≡ after D (logged (recordsIn s))
+    pub fed-broken : m .tally .broken .at ≢ 0 → monitorAt m ≡ after D (logged (recordsIn s))
     fed-broken b =
         S .monitor
-        ∙ sym (still C left s at (S .before) (λ e. b (ap (λ (x : AbstractMonitor). x .break) (S .monitor) ∙ e)))
+        ∙ sym (still C left s at (S .before) (λ e. b (ap (λ (x : AbstractMonitor). x .tally .broken .at) (S .monitor) ∙ e)))
         ∙ ap₂ (λ (C : Abstract) (es : Snoc Record). after C (logged es)) shows (S .rest)
 
     pub fed-end : left ≡ 0 → monitorAt m ≡ after D (logged (recordsIn s))
@@ -149,11 +149,11 @@ pub verdict-same : (C : Abstract) (p : ℕ) (m : Monitor) → p ≡ C .prechart 
 unfolding standingBy standingOf prechartDone
 verdict-same C p m e F = λ i. record {
   standing =
-      cond (not (eqb (m .«break_record») 0)) 3
+      cond (not (eqb (m .tally .broken .at) 0)) 3
       (cond (none-fired (C .regions) (m .at .fired) (F .within) i) 0 (cond (not (allBelow (e i) (contains (m .at .fired)))) 1 2));
-  kept = m .kept;
-  dropped = m .dropped;
-  records = m .records;
-  «break_record» = m .«break_record»;
-  reason = m .reason;
+  kept = m .tally .kept;
+  dropped = m .tally .dropped;
+  records = m .tally .records;
+  broken = m .tally .broken .at;
+  reason = m .tally .broken .reason;
 }

@@ -67,8 +67,8 @@ passed s at last n l f e place q = by (ltb (timeOf e .0) (last .0)) (leb mostRec
 module _ (C : Abstract) (m : AbstractMonitor) (e : LogRecord) where
   -- the record is counted, and now is its time
   record Counted (x : AbstractStep) : Type 0 where
-    now : x .next .now ≡ e .time
-    records : x .next .records ≡ suc (m .records)
+    now : x .next .tally .now ≡ e .time
+    records : x .next .tally .records ≡ suc (m .tally .records)
 
   either-counted : (b : Bool) (x y : AbstractStep) → Counted x → Counted y → Counted (cond b x y)
   either-counted true x y p q = p
@@ -86,25 +86,25 @@ module _ (C : Abstract) (m : AbstractMonitor) (e : LogRecord) where
   unfolding accept goOn
   accept-counted = either-counted (chartMessage C e) (conclude C m e (place C (m .at) e)) (goOn C m e quiet (m .at)) (conclude-counted (place C (m .at) e)) (record { now = refl; records = refl })
 
-  accept-fed : m .break ≡ 0 → ltb (e .time) (m .now) ≡ false → leb mostRecords (m .records) ≡ false → accept C m e ≡ feed C m e
+  accept-fed : m .tally .broken .at ≡ 0 → ltb (e .time) (m .tally .now) ≡ false → leb mostRecords (m .tally .records) ≡ false → accept C m e ≡ feed C m e
   unfolding feed
-  accept-fed b t n = rw (eq-eqb (m .break) 0 b, t, n)
+  accept-fed b t n = rw (eq-eqb (m .tally .broken .at) 0 b, t, n)
 
 -- the records taken before a place, the check as far, and no break
 pub record Going (C : Abstract) (s : List ℕ) (m : Monitor) (at : ℕ) : Type 0 where
   pub left : ℕ
   pub room : length s ≤ at + left
   pub taken : SoFar C s m at left
-  pub checked : Left s at (m .now) (m .records)
-  pub whole : m .«break_record» ≡ 0
+  pub checked : Left s at (m .tally .now) (m .tally .records)
+  pub whole : m .tally .broken .at ≡ 0
 
 pub going-start : {C : Abstract} {s : List ℕ} (m : Monitor) → m ≡ zeroMonitor → Going C s m 0
 going-start {s = s} m e = record {
   left = length s;
   room = omega arith;
   taken = at-start m e;
-  checked = subst (λ (x : Monitor). Left s 0 (x .now) (x .records)) (sym e) (left-first s);
-  whole = ap (λ (x : Monitor). x .«break_record») e;
+  checked = subst (λ (x : Monitor). Left s 0 (x .tally .now) (x .tally .records)) (sym e) (left-first s);
+  whole = ap (λ (x : Monitor). x .tally .broken .at) e;
 }
 
 module _ {C : Abstract} {s : List ℕ} {m : Monitor} {at : ℕ} (G : Going C s m at) where
@@ -118,13 +118,13 @@ module _ {C : Abstract} {s : List ℕ} {m : Monitor} {at : ℕ} (G : Going C s m
   ]
 
   module _ (f : So (isFine (checkLog s))) (e : Record) (to : ℕ) (q : nextAt s at ≡ Taken e to) where
-    here : Passed s (m .now) (m .records) e to
-    here = passed s at (m .now) (m .records) (G .checked) f e to q
+    here : Passed s (m .tally .now) (m .tally .records) e to
+    here = passed s at (m .tally .now) (m .tally .records) (G .checked) f e to q
 
-    pub taken-later : m .now .0 ≤ timeOf e .0
+    pub taken-later : m .tally .now .0 ≤ timeOf e .0
     taken-later = ltb-false _ _ (here .later)
 
-    pub taken-few : m .records < mostRecords
+    pub taken-few : m .tally .records < mostRecords
     taken-few = leb-false _ _ (here .few)
 
     module _ (r : Step) (code t : ℕ) (p : code ≡ recordCode e) (u : t ≡ timeOf e .0) (a : stepOf r ≡ accept C (monitorAt m) (recordOf code t)) where
@@ -134,16 +134,16 @@ module _ {C : Abstract} {s : List ℕ} {m : Monitor} {at : ℕ} (G : Going C s m
           let b = accept-fed C (monitorAt m) (recordOf code t) (G .whole) (rw u (here .later)) (here .few) in
           fed-one (G .taken) (some-left l) e to q r code t p u (a ∙ b)
 
-      pub going-on : r .next .«break_record» ≡ 0 → Going C s (r .next) to
+      pub going-on : r .next .tally .broken .at ≡ 0 → Going C s (r .next) to
       going-on z =
           let A = accept-counted C (monitorAt m) (recordOf code t) in
-          let x : r .next .now .0 ≡ timeOf e .0 = ap (λ (w : AbstractStep). w .next .now) a ∙ A .now ∙ u in
-          let y : r .next .records ≡ m .records + 1 = ap (λ (w : AbstractStep). w .next .records) a ∙ A .records ∙ omega arith in
-          let v : r .next .now ≡ timeOf e = λ i. record { 0 = x i } in
+          let x : r .next .tally .now .0 ≡ timeOf e .0 = ap (λ (w : AbstractStep). w .next .tally .now) a ∙ A .now ∙ u in
+          let y : r .next .tally .records ≡ m .tally .records + 1 = ap (λ (w : AbstractStep). w .next .tally .records) a ∙ A .records ∙ omega arith in
+          let v : r .next .tally .now ≡ timeOf e = λ i. record { 0 = x i } in
           record {
             left = G .left - 1;
             room = omega (arith, G .room, taken-past s at e to q);
             taken = taken-one;
-            checked = subst (λ (w : Moment). Left s to w (r .next .records)) (sym v) (subst (λ (k : ℕ). Left s to (timeOf e) k) (sym y) (here .rest));
+            checked = subst (λ (w : Moment). Left s to w (r .next .tally .records)) (sym v) (subst (λ (k : ℕ). Left s to (timeOf e) k) (sym y) (here .rest));
             whole = z;
           }

@@ -36,7 +36,7 @@ owed = 2
 
 unfoldable pub standingOf : Abstract → AbstractMonitor → ℕ
 standingOf C m =
-    cond (not (eqb (m .break) 0)) broken
+    cond (not (eqb (m .tally .broken .at) 0)) broken
     (cond (allBelow (C .regions) (λ i. not (m .at .fired i))) nothingFired
     (cond (not (prechartDone C (m .at .fired))) inPrechart owed))
 
@@ -45,15 +45,15 @@ abbrev pub verdictOf : Abstract → AbstractMonitor → Verdict
 verdictOf C m =
     record {
       standing = standingOf C m;
-      kept = m .kept;
-      dropped = m .dropped;
-      records = m .records;
-      «break_record» = m .break;
-      reason = m .reason;
+      kept = m .tally .kept;
+      dropped = m .tally .dropped;
+      records = m .tally .records;
+      broken = m .tally .broken .at;
+      reason = m .tally .broken .reason;
     }
 
 abbrev pub zeroVerdict : Verdict
-zeroVerdict = record { standing = 0; kept = 0; dropped = 0; records = 0; «break_record» = 0; reason = 0 }
+zeroVerdict = record { standing = 0; kept = 0; dropped = 0; records = 0; broken = 0; reason = 0 }
 
 -- What judging says: 0 and the verdict, or a refusal with its offset and zeros for the verdict.
 pub record Said : Type 0 where

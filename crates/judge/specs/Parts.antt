@@ -27,7 +27,7 @@ isFine (Refused k offset) = false
 -- `standingOf`, with the number of prechart regions
 unfoldable pub standingBy : ℕ → Monitor → ℕ
 standingBy prechart m =
-    cond (not (eqb (m .«break_record») 0)) broken
+    cond (not (eqb (m .tally .broken .at) 0)) broken
     (cond (eqb (m .at .fired) 0) nothingFired
     (cond (not (allBelow prechart (contains (m .at .fired)))) inPrechart owed))
 
@@ -36,9 +36,9 @@ abbrev pub verdictBy : ℕ → Monitor → Verdict
 verdictBy prechart m =
     record {
       standing = standingBy prechart m;
-      kept = m .kept;
-      dropped = m .dropped;
-      records = m .records;
-      «break_record» = m .«break_record»;
-      reason = m .reason;
+      kept = m .tally .kept;
+      dropped = m .tally .dropped;
+      records = m .tally .records;
+      broken = m .tally .broken .at;
+      reason = m .tally .broken .reason;
     }

@@ -117,7 +117,7 @@ pub struct Verdict {
     pub kept: u32,
     pub dropped: u32,
     pub records: u32,
-    pub break_record: u32,
+    pub broken: u32,
     pub reason: u8,
 }
 
@@ -197,7 +197,7 @@ fn feed_log(c: Chart, log: &[u8]) -> Monitor
                     time_of(e),
                 );
                 m = s.next;
-                if m.break_record != 0 {
+                if m.tally.broken.at != 0 {
                     return m;
                 }
                 at = place;
@@ -212,7 +212,7 @@ fn standing(prechart: usize, m: Monitor) -> u8
     ensures { λ r. ⌜ r ≡ standingBy prechart m ⌝ }
 {
     let at = m.at;
-    if m.break_record != 0 {
+    if m.tally.broken.at != 0 {
         return BROKEN;
     }
     if at.fired == 0 {
@@ -229,13 +229,14 @@ pub fn verdict_of(prechart: usize, m: Monitor) -> Verdict
     requires { ⌜ prechart ≤ mostRegions ⌝ }
     ensures { λ r. ⌜ r ≡ verdictBy prechart m ⌝ }
 {
+    let tally = m.tally;
     Verdict {
         standing: standing(prechart, m),
-        kept: m.kept,
-        dropped: m.dropped,
-        records: m.records,
-        break_record: m.break_record,
-        reason: m.reason,
+        kept: tally.kept,
+        dropped: tally.dropped,
+        records: tally.records,
+        broken: tally.broken.at,
+        reason: tally.broken.reason,
     }
 }
 
@@ -247,7 +248,7 @@ fn refused(answer: JudgeAnswer) -> Judgement
         kept: 0,
         dropped: 0,
         records: 0,
-        break_record: 0,
+        broken: 0,
         reason: 0,
     };
     Judgement { answer, verdict }

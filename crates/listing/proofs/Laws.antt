@@ -17,10 +17,10 @@ six h a b c d e f s n = simp (append-assoc, append-nil)
 
 pub verdict-joined : (v : Verdict)
     → (bytesOf "STANDING KEPT DROPPED RECORDS BREAK REASON\n" ++ threeFields (v .standing) (v .kept) (v .dropped) 32)
-    ++ threeFields (v .records) (v .«break_record») (v .reason) 10 ≡ verdictLines v
+    ++ threeFields (v .records) (v .broken) (v .reason) 10 ≡ verdictLines v
 unfolding verdictLines bytesOf
 verdict-joined v = six (bytesOf "STANDING KEPT DROPPED RECORDS BREAK REASON\n") (decimalOf (v .standing)) (decimalOf (v .kept))
-    (decimalOf (v .dropped)) (decimalOf (v .records)) (decimalOf (v .«break_record»)) (decimalOf (v .reason)) (32 ∷ []) (10 ∷ [])
+    (decimalOf (v .dropped)) (decimalOf (v .records)) (decimalOf (v .broken)) (decimalOf (v .reason)) (32 ∷ []) (10 ∷ [])
 
 refusal : (p a t b s n : List ℕ) → ((p ++ (a ++ s)) ++ t) ++ (b ++ n) ≡ p ++ (a ++ ((s ++ t) ++ (b ++ (n ++ []))))
 refusal p a t b s n = simp (append-assoc, append-nil)

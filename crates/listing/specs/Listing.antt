@@ -21,7 +21,7 @@ verdictLines v =
     joined (
     bytesOf "STANDING KEPT DROPPED RECORDS BREAK REASON\n" ∷
     decimalOf (v .standing) ∷ bytesOf " " ∷ decimalOf (v .kept) ∷ bytesOf " " ∷ decimalOf (v .dropped) ∷ bytesOf " " ∷
-    decimalOf (v .records) ∷ bytesOf " " ∷ decimalOf (v .«break_record») ∷ bytesOf " " ∷ decimalOf (v .reason) ∷ bytesOf "\n" ∷ [])
+    decimalOf (v .records) ∷ bytesOf " " ∷ decimalOf (v .broken) ∷ bytesOf " " ∷ decimalOf (v .reason) ∷ bytesOf "\n" ∷ [])
 
 abbrev pub partName : Part → List ℕ
 partName Input = bytesOf "input"

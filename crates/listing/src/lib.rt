@@ -59,7 +59,7 @@ fn put_verdict(out: &mut [u8], v: Verdict) -> usize
         out,
         second,
         v.records as u64,
-        v.break_record as u64,
+        v.broken as u64,
         v.reason as u64,
         b'\n',
     )

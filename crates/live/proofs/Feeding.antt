@@ -71,10 +71,10 @@ broken-clashes e = let z : _≡_ {A = ℕ} 0 1 = cc in omega arith
 
 machine-never : (C : Abstract) (m : AbstractMonitor) (e : LogRecord) → feed C m e .answer ≡ refused (feedRefusalNumber NotAChart) → ⊥
 unfolding feed Taken
-machine-never C m e h = elim (split (eqb (m .break) 0)) [
-  | inl p ↦ elim (split (ltb (e .time) (m .now))) [
+machine-never C m e h = elim (split (eqb (m .tally .broken .at) 0)) [
+  | inl p ↦ elim (split (ltb (e .time) (m .tally .now))) [
     | inl q ↦ let z = same-number (rw (p, q) at h) in omega arith
-    | inr q ↦ elim (split (leb mostRecords (m .records))) [
+    | inr q ↦ elim (split (leb mostRecords (m .tally .records))) [
       | inl r ↦ let z = same-number (rw (p, q, r) at h) in omega arith
       | inr r ↦ subst Taken (rw (p, q, r) at h) (accept-taken C m e)
     ]
@@ -122,7 +122,7 @@ module _ (c : Chart) (l : List ℕ) (m : Monitor) (e : Record) (s : Step) (q : m
     bytes = rw (← q, g);
     next = sym q ∙ sym (elim (either (isRefused (s .answer)) (isBroken m) g) [
       | inl x ↦ b .refused x
-      | inr x ↦ b .broken (eqb-false (m .«break_record») 0 (not-true _ x))
+      | inr x ↦ b .broken (eqb-false (m .tally .broken .at) 0 (not-true _ x))
     ]);
   }
 

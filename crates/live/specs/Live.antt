@@ -85,7 +85,7 @@ pub record Holds (chart l : List ℕ) : Type 0 where
 -- The bytes after a feed: as they were where it was refused or the monitor is broken already, else the monitor handed back, and all
 -- other bytes as they were.
 abbrev pub isBroken : Monitor → Bool
-isBroken m = not (eqb (m .«break_record») 0)
+isBroken m = not (eqb (m .tally .broken .at) 0)
 
 unfoldable pub bytesFed : List ℕ → Step → List ℕ
 bytesFed l s = cond (isRefused (s .answer) || isBroken (monitorIn l)) l (monitorBytes (s .next) ++ drop monitorSize l)

@@ -132,7 +132,7 @@ fn feed_chart(chart: Chart, bytes: &mut [u8], e: Record) -> u8
     let s = monitor::feed(chart, m, e);
     let answer = s.answer;
     let next = s.next;
-    if is_refused(answer) | (m.break_record != 0) {
+    if is_refused(answer) | (m.tally.broken.at != 0) {
         return stepping::answer_number(answer);
     }
     image::put_monitor(bytes, next);
@@ -196,7 +196,7 @@ fn refused(k: FeedRefusal) -> LiveVerdict
         kept: 0,
         dropped: 0,
         records: 0,
-        break_record: 0,
+        broken: 0,
         reason: 0,
     };
     LiveVerdict {

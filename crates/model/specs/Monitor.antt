@@ -1,6 +1,7 @@
 -- A monitor as a value: its zeros.
 use lib.ListN.{replicate}
 use Rattle.model.specs.declared.Place.{Place}
+use Rattle.model.specs.declared.Tally.{Tally}
 use Rattle.model.specs.declared.Monitor.{Monitor}
 use Rattle.model.specs.Chart.{mostClocks}
 
@@ -8,5 +9,8 @@ use Rattle.model.specs.Chart.{mostClocks}
 abbrev pub zeroPlace : Place
 zeroPlace = record { fired = 0; resets = replicate mostClocks (record { 0 = 0 }) }
 
+abbrev pub zeroTally : Tally
+zeroTally = record { now = record { 0 = 0 }; records = 0; kept = 0; dropped = 0; broken = record { at = 0; reason = 0 } }
+
 abbrev pub zeroMonitor : Monitor
-zeroMonitor = record { at = zeroPlace; now = record { 0 = 0 }; records = 0; kept = 0; dropped = 0; «break_record» = 0; reason = 0 }
+zeroMonitor = record { at = zeroPlace; tally = zeroTally }

@@ -171,15 +171,25 @@ pub struct Place {
     pub resets: [Moment; CLOCK_PLACES],
 }
 
-// What a monitor holds; `break_record` and `reason` are zeros while nothing is broken.
-pub struct Monitor {
-    pub at: Place,
+// Where and why a log is broken: the record's number and the reason, both zero if there is no break.
+pub struct Break {
+    pub at: u32,
+    pub reason: u8,
+}
+
+// The last record's time, the counts of records, kept rounds and dropped rounds, and the break.
+pub struct Tally {
     pub now: Moment,
     pub records: u32,
     pub kept: u32,
     pub dropped: u32,
-    pub break_record: u32,
-    pub reason: u8,
+    pub broken: Break,
+}
+
+// What a monitor holds.
+pub struct Monitor {
+    pub at: Place,
+    pub tally: Tally,
 }
 
 // Nothing fired, all else zero.
@@ -189,13 +199,13 @@ pub fn zero_monitor() -> Monitor
     let zero = Moment(0);
     let resets = [zero; CLOCK_PLACES];
     let at = Place { fired: 0, resets };
-    Monitor {
-        at,
+    let broken = Break { at: 0, reason: 0 };
+    let tally = Tally {
         now: zero,
         records: 0,
         kept: 0,
         dropped: 0,
-        break_record: 0,
-        reason: 0,
-    }
+        broken,
+    };
+    Monitor { at, tally }
 }

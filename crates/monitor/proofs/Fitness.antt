@@ -66,7 +66,7 @@ module _ (C : Abstract) (A : Accepted C) (m : Monitor) where
         | inr p ↦ rw p
       ])
 
-  rests-of : So (restsUnlessBroken C fired (m .«break_record»)) → m .«break_record» ≡ 0 → (j : ℕ) → So (plain C j) → ¬ Ready C (contains fired) j
+  rests-of : So (restsUnlessBroken C fired (m .tally .broken .at)) → m .tally .broken .at ≡ 0 → (j : ℕ) → So (plain C j) → ¬ Ready C (contains fired) j
   unfolding restsUnlessBroken
   rests-of e b = plain-none C A (contains fired) (none-of (readyPlain C (contains fired)) (rw b at e))
     where
@@ -74,26 +74,26 @@ module _ (C : Abstract) (A : Accepted C) (m : Monitor) where
       none-of none e = refl
       none-of (some i) e = clash e refl
 
-  of-rests : (m .«break_record» ≡ 0 → (j : ℕ) → So (plain C j) → ¬ Ready C (contains fired) j) → So (restsUnlessBroken C fired (m .«break_record»))
+  of-rests : (m .tally .broken .at ≡ 0 → (j : ℕ) → So (plain C j) → ¬ Ready C (contains fired) j) → So (restsUnlessBroken C fired (m .tally .broken .at))
   unfolding restsUnlessBroken
-  of-rests f = elim (split (eqb (m .«break_record») 0)) [
+  of-rests f = elim (split (eqb (m .tally .broken .at) 0)) [
     | inl e ↦ rw (e, plain-is-none C A (contains fired) (f (eqb-true _ _ e)))
     | inr e ↦ rw e
   ]
 
-  moments-of : length (m .at .resets) ≡ mostClocks → So (momentsFit (C .clocks) (m .at .resets) (m .now .0)) → (k : ℕ) → (momentsOf (m .at .resets) k ≤ m .now .0) × (C .clocks ≤ k → momentsOf (m .at .resets) k ≡ 0)
+  moments-of : length (m .at .resets) ≡ mostClocks → So (momentsFit (C .clocks) (m .at .resets) (m .tally .now .0)) → (k : ℕ) → (momentsOf (m .at .resets) k ≤ m .tally .now .0) × (C .clocks ≤ k → momentsOf (m .at .resets) k ≡ 0)
   unfolding momentsFit
   moments-of size e k = by (decLt k mostClocks)
     where
-      by : Dec (k < mostClocks) → (momentsOf (m .at .resets) k ≤ m .now .0) × (C .clocks ≤ k → momentsOf (m .at .resets) k ≡ 0)
+      by : Dec (k < mostClocks) → (momentsOf (m .at .resets) k ≤ m .tally .now .0) × (C .clocks ≤ k → momentsOf (m .at .resets) k ≡ 0)
       by (yes l) =
-          let f = all-at mostClocks (λ k. leb (momentsOf (m .at .resets) k) (m .now .0) && (ltb k (C .clocks) || eqb (momentsOf (m .at .resets) k) 0)) e k l in (
-            leb-true _ _ (and-left (leb (momentsOf (m .at .resets) k) (m .now .0)) _ f),
-            λ h. eqb-true _ _ (rw (le-ltb k (C .clocks) h) at (and-right (leb (momentsOf (m .at .resets) k) (m .now .0)) (ltb k (C .clocks) || eqb (momentsOf (m .at .resets) k) 0) f)),
+          let f = all-at mostClocks (λ k. leb (momentsOf (m .at .resets) k) (m .tally .now .0) && (ltb k (C .clocks) || eqb (momentsOf (m .at .resets) k) 0)) e k l in (
+            leb-true _ _ (and-left (leb (momentsOf (m .at .resets) k) (m .tally .now .0)) _ f),
+            λ h. eqb-true _ _ (rw (le-ltb k (C .clocks) h) at (and-right (leb (momentsOf (m .at .resets) k) (m .tally .now .0)) (ltb k (C .clocks) || eqb (momentsOf (m .at .resets) k) 0) f)),
           )
       by (no l) = let z = beyond size k (omega arith) in (omega arith, λ h. z)
 
-  of-moments : ((k : ℕ) → momentsOf (m .at .resets) k ≤ m .now .0) → ((k : ℕ) → C .clocks ≤ k → momentsOf (m .at .resets) k ≡ 0) → So (momentsFit (C .clocks) (m .at .resets) (m .now .0))
+  of-moments : ((k : ℕ) → momentsOf (m .at .resets) k ≤ m .tally .now .0) → ((k : ℕ) → C .clocks ≤ k → momentsOf (m .at .resets) k ≡ 0) → So (momentsFit (C .clocks) (m .at .resets) (m .tally .now .0))
   unfolding momentsFit
   of-moments f g =
       all-of mostClocks _ (λ k l. and-of (le-leb _ _ (f k)) (by k (decLt k (C .clocks))))
@@ -103,33 +103,33 @@ module _ (C : Abstract) (A : Accepted C) (m : Monitor) where
       by k (no h) = let q : C .clocks ≤ k = omega arith in or-right (ltb k (C .clocks)) (eq-eqb _ _ (g k q))
 
   Breaks : Type 0
-  Breaks = ((m .«break_record» ≡ 0) × (m .reason ≡ 0))
-      ⊎ ((1 ≤ m .«break_record») × (m .«break_record» ≤ m .records) × ((m .reason ≡ noReadyRegion) ⊎ (m .reason ≡ conditionFails)))
+  Breaks = ((m .tally .broken .at ≡ 0) × (m .tally .broken .reason ≡ 0))
+      ⊎ ((1 ≤ m .tally .broken .at) × (m .tally .broken .at ≤ m .tally .records) × ((m .tally .broken .reason ≡ noReadyRegion) ⊎ (m .tally .broken .reason ≡ conditionFails)))
 
-  break-of : So (breakFits (m .records) (m .«break_record») (m .reason)) → Breaks
+  break-of : So (breakFits (m .tally .records) (m .tally .broken)) → Breaks
   unfolding breakFits Breaks
-  break-of e = elim (or-cases (eqb (m .«break_record») 0 && eqb (m .reason) 0) _ e) [
-    | inl p ↦ inl (eqb-true _ _ (and-left (eqb (m .«break_record») 0) _ p), eqb-true _ _ (and-right (eqb (m .«break_record») 0) _ p))
+  break-of e = elim (or-cases (eqb (m .tally .broken .at) 0 && eqb (m .tally .broken .reason) 0) _ e) [
+    | inl p ↦ inl (eqb-true _ _ (and-left (eqb (m .tally .broken .at) 0) _ p), eqb-true _ _ (and-right (eqb (m .tally .broken .at) 0) _ p))
     | inr p ↦
-        let q = and-right (leb 1 (m .«break_record»)) _ p in
+        let q = and-right (leb 1 (m .tally .broken .at)) _ p in
         inr (
-          leb-true _ _ (and-left (leb 1 (m .«break_record»)) _ p),
-          leb-true _ _ (and-left (leb (m .«break_record») (m .records)) _ q),
-          elim (or-cases (eqb (m .reason) noReadyRegion) _ (and-right (leb (m .«break_record») (m .records)) _ q)) [
+          leb-true _ _ (and-left (leb 1 (m .tally .broken .at)) _ p),
+          leb-true _ _ (and-left (leb (m .tally .broken .at) (m .tally .records)) _ q),
+          elim (or-cases (eqb (m .tally .broken .reason) noReadyRegion) _ (and-right (leb (m .tally .broken .at) (m .tally .records)) _ q)) [
             | inl x ↦ inl (eqb-true _ _ x)
             | inr x ↦ inr (eqb-true _ _ x)
           ],
         )
   ]
 
-  of-break : Breaks → So (breakFits (m .records) (m .«break_record») (m .reason))
+  of-break : Breaks → So (breakFits (m .tally .records) (m .tally .broken))
   unfolding breakFits Breaks
   of-break (inl p) = or-left _ (and-of (eq-eqb _ _ (p .0)) (eq-eqb _ _ (p .1)))
   of-break (inr p) =
-      or-right (eqb (m .«break_record») 0 && eqb (m .reason) 0)
+      or-right (eqb (m .tally .broken .at) 0 && eqb (m .tally .broken .reason) 0)
       (and-of (le-leb _ _ (p .0)) (and-of (le-leb _ _ (p .1)) (elim (p .2) [
         | inl x ↦ or-left _ (eq-eqb _ _ x)
-        | inr x ↦ or-right (eqb (m .reason) noReadyRegion) (eq-eqb _ _ x)
+        | inr x ↦ or-right (eqb (m .tally .broken .reason) noReadyRegion) (eq-eqb _ _ x)
       ])))
 
   fit-of : length (m .at .resets) ≡ mostClocks → So (fits C m) → Fit C (monitorAt m)
@@ -138,21 +138,21 @@ module _ (C : Abstract) (A : Accepted C) (m : Monitor) where
       let e₁ = and-right (closedUpward C fired) _ e in
       let e₂ = and-right (within (C .regions) fired) _ e₁ in
       let e₃ = and-right (not (full C (contains fired))) _ e₂ in
-      let e₄ = and-right (restsUnlessBroken C fired (m .«break_record»)) _ e₃ in
-      let e₅ = and-right (momentsFit (C .clocks) (m .at .resets) (m .now .0)) _ e₄ in
-      let counts = and-left (leb (m .records) mostRecords && leb (m .kept + m .dropped) (m .records)) _ e₅ in
+      let e₄ = and-right (restsUnlessBroken C fired (m .tally .broken .at)) _ e₃ in
+      let e₅ = and-right (momentsFit (C .clocks) (m .at .resets) (m .tally .now .0)) _ e₄ in
+      let counts = and-left (leb (m .tally .records) mostRecords && leb (m .tally .kept + m .tally .dropped) (m .tally .records)) _ e₅ in
       let w = and-left (within (C .regions) fired) _ e₁ in
-      let ms = moments-of size (and-left (momentsFit (C .clocks) (m .at .resets) (m .now .0)) _ e₄) in
+      let ms = moments-of size (and-left (momentsFit (C .clocks) (m .at .resets) (m .tally .now .0)) _ e₄) in
       record {
         closed = closed-of (and-left (closedUpward C fired) _ e) w;
         within = λ i p. member-lt (C .regions) fired i (within-true _ _ w) p;
         unfinished = full-false C (contains fired) (not-true _ (and-left (not (full C (contains fired))) _ e₂));
-        settled = rests-of (and-left (restsUnlessBroken C fired (m .«break_record»)) _ e₃);
+        settled = rests-of (and-left (restsUnlessBroken C fired (m .tally .broken .at)) _ e₃);
         moments = λ k. ms k .0;
         unused = λ k. ms k .1;
-        few = leb-true _ _ (and-left (leb (m .records) mostRecords) _ counts);
-        counts = leb-true _ _ (and-right (leb (m .records) mostRecords) _ counts);
-        break-fits = break-of (and-right (leb (m .records) mostRecords && leb (m .kept + m .dropped) (m .records)) _ e₅);
+        few = leb-true _ _ (and-left (leb (m .tally .records) mostRecords) _ counts);
+        counts = leb-true _ _ (and-right (leb (m .tally .records) mostRecords) _ counts);
+        break-fits = break-of (and-right (leb (m .tally .records) mostRecords && leb (m .tally .kept + m .tally .dropped) (m .tally .records)) _ e₅);
       }
 
   pub of-fit : Fit C (monitorAt m) → So (fits C m)
@@ -194,13 +194,13 @@ module _ {h : Head} {keys above resets terms : List ℕ} (K : Compiled h keys ab
       → set ≡ within (h .count) (m .at .fired)
       → all ≡ allBelow (h .count) (contains (m .at .fired))
       → foundOf o ≡ first (h .count) (λ i. contains (h .plain) i && readyBy above (m .at .fired) i) → rests ≡ isNone (foundOf o)
-      → moments ≡ momentsFit (h .clocks) (m .at .resets) (m .now .0) → counts ≡ countsFit m
-      → break ≡ breakFits (m .records) (m .«break_record») (m .reason)
-      → (closed && (set && (not all && ((not (eqb (m .«break_record») 0) || rests) && (moments && (counts && break)))))) ≡ fits compiled m
+      → moments ≡ momentsFit (h .clocks) (m .at .resets) (m .tally .now .0) → counts ≡ countsFit (m .tally)
+      → break ≡ breakFits (m .tally .records) (m .tally .broken)
+      → (closed && (set && (not all && ((not (eqb (m .tally .broken .at) 0) || rests) && (moments && (counts && break)))))) ≡ fits compiled m
   unfolding fits full restsUnlessBroken
   tested closed set all rests moments counts break o e₁ e₂ e₃ f e₄ e₅ e₆ e₇ =
       let n = found-plain K (m .at .fired) o refl f in
-      λ i. (e₁ ∙ closed-same) i && (e₂ i && (not (e₃ i) && ((not (eqb (m .«break_record») 0) || (e₄ ∙ ap isNone (sym n)) i) && (e₅ i && (e₆ i && e₇ i)))))
+      λ i. (e₁ ∙ closed-same) i && (e₂ i && (not (e₃ i) && ((not (eqb (m .tally .broken .at) 0) || (e₄ ∙ ap isNone (sym n)) i) && (e₅ i && (e₆ i && e₇ i)))))
 
   -- what `is_fit` promises, from the test alone
   pub fit-test : length (m .at .resets) ≡ mostClocks → (r : Bool) → r ≡ fits compiled m → (r ≡ fits compiled m) × ((r ≡ true) ↔ Fit compiled (monitorAt m))

@@ -21,6 +21,7 @@ use Rattle.chart_value.proofs.Facts.{wf-of}
 use Rattle.rounds.specs.Base.{Snoc, ε, _▸_}
 use Rattle.rounds.specs.Chart.{Accepted}
 use Rattle.rounds.specs.Rows.{LogRecord}
+use Rattle.rounds.specs.Tally.{freshTally}
 use Rattle.rounds.specs.Feeds.{Answer as Told, refused, toldBroken, timeFalls, tooManyRecords, mostRecords}
 use Rattle.rounds.specs.Machine.{Monitor as AbstractMonitor, Step as AbstractStep, Fit, fresh, feed, after, answers}
 use Rattle.rounds.specs.Demand3.{Demand3}
@@ -36,7 +37,7 @@ use Rattle.stepping.proofs.Back.{Taken, accept-taken}
 use Rattle.monitor.specs.Feed.{logRecord, feedOf}
 use Rattle.monitor.specs.Runs.{Run, none-yet, one-more, RunOver, logged, Feeding, ViewTells}
 use Rattle.monitor.proofs.Fitness.{of-fit}
-use Rattle.monitor.proofs.Storing.{told-as, stored-as}
+use Rattle.monitor.proofs.Storing.{told-as, stored-as, storedTally}
 
 -- the monitor of zeros is the machine's fresh one
 zero-moments : (k : ℕ) → momentsOf (zeroMonitor .at .resets) k ≡ 0
@@ -54,12 +55,7 @@ zero-moments k = by (decLt k mostClocks)
 pub zero-fresh : monitorAt zeroMonitor ≡ fresh
 zero-fresh = λ i. record {
   at = record { fired = fun-ext contains-empty i; clocks = fun-ext zero-moments i };
-  now = 0;
-  records = 0;
-  kept = 0;
-  dropped = 0;
-  break = 0;
-  reason = 0;
+  tally = freshTally;
 }
 
 module _ (c : Chart) (wf : wellFormed c ≡ true) (A : Accepted (chartOf c)) where
@@ -128,10 +124,10 @@ module _ (c : Chart) (wf : wellFormed c ≡ true) (A : Accepted (chartOf c)) whe
   never-said : (k : FeedRefusal) → feedRefusalNumber k ≢ timeFalls → feedRefusalNumber k ≢ tooManyRecords → (m : AbstractMonitor) (e : LogRecord)
       → feed (chartOf c) m e .answer ≡ refused (feedRefusalNumber k) → ⊥
   unfolding feed Taken
-  never-said k n l m e h = elim (split (eqb (m .break) 0)) [
-    | inl p ↦ elim (split (ltb (e .time) (m .now))) [
+  never-said k n l m e h = elim (split (eqb (m .tally .broken .at) 0)) [
+    | inl p ↦ elim (split (ltb (e .time) (m .tally .now))) [
       | inl q ↦ n (sym (same-number (rw (p, q) at h)))
-      | inr q ↦ elim (split (leb mostRecords (m .records))) [
+      | inr q ↦ elim (split (leb mostRecords (m .tally .records))) [
         | inl r ↦ l (sym (same-number (rw (p, q, r) at h)))
         | inr r ↦ subst Taken (rw (p, q, r) at h) (accept-taken (chartOf c) m e)
       ]
@@ -171,10 +167,5 @@ view-tells m n p q e =
     (λ i l j. record { 0 = e j .at .clocks i }) in
     λ i. record {
       at = record { fired = f i; resets = r i };
-      now = record { 0 = e i .now };
-      records = e i .records;
-      kept = e i .kept;
-      dropped = e i .dropped;
-      «break_record» = e i .break;
-      reason = e i .reason;
+      tally = storedTally (e i .tally);
     }

@@ -16,10 +16,12 @@ use lib.Pow.{pow-lt, pow-mono}
 use Rattle.bitset.specs.Set.{contains, single, inserted}
 use Rattle.bitset.proofs.Laws.{contains-inserted, member-lt}
 use Rattle.model.specs.declared.Moment.{Moment}
+use Rattle.model.specs.declared.Tally.{Tally}
 use Rattle.model.specs.declared.Monitor.{Monitor}
 use Rattle.model.specs.Chart.{mostRegions, mostClocks}
 use Rattle.rounds.specs.Chart.{Chart as Abstract}
 use Rattle.rounds.specs.Rows.{LogRecord}
+use Rattle.rounds.specs.Tally.{Tally as AbstractTally}
 use Rattle.rounds.specs.Feeds.{Answer as Told, refused, toldBroken, toldKept, toldDropped, entered, moved, quiet, mostRecords}
 use Rattle.rounds.specs.Machine.{Monitor as AbstractMonitor, Fit, accept, feed}
 use Rattle.rounds.proofs.Facts.{split, or-right}
@@ -85,6 +87,16 @@ unfolding moments
 moments-length zero f = refl
 moments-length (suc n) f = ap suc (moments-length n (λ k. f (suc k)))
 
+-- the tally as a value
+abbrev pub storedTally : AbstractTally → Tally
+storedTally x = record {
+  now = record { 0 = x .now };
+  records = x .records;
+  kept = x .kept;
+  dropped = x .dropped;
+  broken = record { at = x .broken .at; reason = x .broken .reason };
+}
+
 pub record StoredAs (x : AbstractMonitor) : Type 0 where
   pub monitor : Monitor
   pub shows : monitorAt monitor ≡ x
@@ -105,24 +117,14 @@ module _ (C : Abstract) (few : C .regions ≤ mostRegions) (clocks : C .clocks �
   stored-as = record {
     monitor = record {
       at = record { fired = setOf mostRegions (x .at .fired); resets = moments mostClocks (x .at .clocks) };
-      now = record { 0 = x .now };
-      records = x .records;
-      kept = x .kept;
-      dropped = x .dropped;
-      «break_record» = x .break;
-      reason = x .reason;
+      tally = storedTally (x .tally);
     };
     shows = λ i. record {
       at = record {
         fired = fun-ext fired i;
         clocks = fun-ext (moments-tell mostClocks (x .at .clocks) (λ k h. F .unused k (omega arith))) i;
       };
-      now = x .now;
-      records = x .records;
-      kept = x .kept;
-      dropped = x .dropped;
-      break = x .break;
-      reason = x .reason;
+      tally = x .tally;
     };
     stored = record {
       bits = set-small mostRegions (x .at .fired);
@@ -147,15 +149,15 @@ taken-told quiet t = record { answer = Quiet; tells = refl }
 
 pub told-as : (C : Abstract) (m : AbstractMonitor) (e : LogRecord) → ToldAs (feed C m e .answer)
 unfolding feed
-told-as C m e = elim (split (eqb (m .break) 0)) [
-  | inl p ↦ elim (split (ltb (e .time) (m .now))) [
+told-as C m e = elim (split (eqb (m .tally .broken .at) 0)) [
+  | inl p ↦ elim (split (ltb (e .time) (m .tally .now))) [
     | inl q ↦ record { answer = Refused TimeFalls; tells = rw (p, q) }
-    | inr q ↦ elim (split (leb mostRecords (m .records))) [
+    | inr q ↦ elim (split (leb mostRecords (m .tally .records))) [
       | inl r ↦ record { answer = Refused TooManyRecords; tells = rw (p, q, r) }
       | inr r ↦
           let t = taken-told (accept C m e .answer) (accept-taken C m e) in
           record { answer = t .answer; tells = rw (p, q, r) (t .tells) }
     ]
   ]
-  | inr p ↦ record { answer = Broken (m .break) (m .reason); tells = rw p }
+  | inr p ↦ record { answer = Broken (m .tally .broken .at) (m .tally .broken .reason); tells = rw p }
 ]

@@ -6,6 +6,8 @@ use Prim.Native.Nat.{ℕ, _+_}
 use lib.Dec.{eqb, leb, ltb}
 use Rattle.bitset.specs.Set.{contains, within}
 use Rattle.model.specs.declared.Moment.{Moment}
+use Rattle.model.specs.declared.Break.{Break}
+use Rattle.model.specs.declared.Tally.{Tally}
 use Rattle.model.specs.declared.Monitor.{Monitor}
 use Rattle.model.specs.Chart.{mostClocks}
 use Rattle.rounds.specs.Base.{allBelow}
@@ -33,14 +35,14 @@ momentsFit clocks resets t =
     allBelow mostClocks (λ k. leb (momentsOf resets k) t && (ltb k clocks || eqb (momentsOf resets k) 0))
 
 -- "the break is two zeros, or a record from 1 to the count with reason 1 or 2"
-unfoldable pub breakFits : ℕ → ℕ → ℕ → Bool
-breakFits records break reason =
-    eqb break 0 && eqb reason 0
-    || leb 1 break && (leb break records && (eqb reason noReadyRegion || eqb reason conditionFails))
+unfoldable pub breakFits : ℕ → Break → Bool
+breakFits records b =
+    eqb (b .at) 0 && eqb (b .reason) 0
+    || leb 1 (b .at) && (leb (b .at) records && (eqb (b .reason) noReadyRegion || eqb (b .reason) conditionFails))
 
 -- "records are at most 1,000,000; kept plus dropped is at most records"
-unfoldable pub countsFit : Monitor → Bool
-countsFit m = leb (m .records) mostRecords && leb (m .kept + m .dropped) (m .records)
+unfoldable pub countsFit : Tally → Bool
+countsFit x = leb (x .records) mostRecords && leb (x .kept + x .dropped) (x .records)
 
 unfoldable pub fits : Abstract → Monitor → Bool
 fits C m =
@@ -49,6 +51,6 @@ fits C m =
     && (within (C .regions) (m .at .fired)
     -- "not all are fired"
     && (not (full C (contains (m .at .fired)))
-    && (restsUnlessBroken C (m .at .fired) (m .«break_record»)
-    && (momentsFit (C .clocks) (m .at .resets) (m .now .0)
-    && (countsFit m && breakFits (m .records) (m .«break_record») (m .reason))))))
+    && (restsUnlessBroken C (m .at .fired) (m .tally .broken .at)
+    && (momentsFit (C .clocks) (m .at .resets) (m .tally .now .0)
+    && (countsFit (m .tally) && breakFits (m .tally .records) (m .tally .broken))))))

@@ -1,4 +1,5 @@
 // Making a monitor and feeding it records.
+use model::Break;
 use model::CLOCK_PLACES;
 use model::Chart;
 use model::MOST_RECORDS;
@@ -6,6 +7,7 @@ use model::MOST_REGIONS;
 use model::Moment;
 use model::Monitor;
 use model::Record;
+use model::Tally;
 use stepping::Answer;
 use stepping::CONDITION_FAILS;
 use stepping::FeedRefusal;
@@ -76,19 +78,19 @@ fn wide(x: u32) -> u64
 }
 
 // Records are at most 1,000,000, and kept plus dropped at most records.
-fn counts_fit(m: Monitor) -> bool
-    ensures { λ r. ⌜ r ≡ countsFit m ⌝ }
+fn counts_fit(x: Tally) -> bool
+    ensures { λ r. ⌜ r ≡ countsFit x ⌝ }
 {
-    (m.records <= MOST_RECORDS) & (wide(m.kept) + wide(m.dropped) <= wide(m.records))
+    (x.records <= MOST_RECORDS) & (wide(x.kept) + wide(x.dropped) <= wide(x.records))
 }
 
 // The break is two zeros, or a record from 1 to the count with reason 1 or 2.
-fn break_fits(records: u32, broken: u32, reason: u8) -> bool
-    ensures { λ r. ⌜ r ≡ breakFits records broken reason ⌝ }
+fn break_fits(records: u32, b: Break) -> bool
+    ensures { λ r. ⌜ r ≡ breakFits records b ⌝ }
 {
-    let whole = (broken == 0) & (reason == 0);
-    let known = (reason == NO_READY_REGION) | (reason == CONDITION_FAILS);
-    whole | ((1 <= broken) & ((broken <= records) & known))
+    let whole = (b.at == 0) & (b.reason == 0);
+    let known = (b.reason == NO_READY_REGION) | (b.reason == CONDITION_FAILS);
+    whole | ((1 <= b.at) & ((b.at <= records) & known))
 }
 
 fn is_nothing(f: Found) -> bool
@@ -116,13 +118,14 @@ pub fn is_fit<'a>(
     let at = m.at;
     let fired = at.fired;
     let moments = at.resets;
+    let tally = m.tally;
     let count = h.count;
     let rests = is_nothing(stepping::ready_plain(h.plain, above, fired));
-    let settled = (m.break_record != 0) | rests;
-    let counted = counts_fit(m) & break_fits(m.records, m.break_record, m.reason);
+    let settled = (tally.broken.at != 0) | rests;
+    let counted = counts_fit(tally) & break_fits(tally.records, tally.broken);
     let set = bitset::within(count as u32, fired)
         & (!stepping::all_fired(count, fired)
-            & (settled & (moments_fit(h.clocks, moments, m.now) & counted)));
+            & (settled & (moments_fit(h.clocks, moments, tally.now) & counted)));
     closed_upward(above, count, fired) & set
 }
 

@@ -9,4 +9,4 @@ places = 6
 
 -- "standing, kept, dropped, records, break, reason"
 abbrev pub verdictNumbers : Verdict → List ℕ
-verdictNumbers v = v .standing ∷ v .kept ∷ v .dropped ∷ v .records ∷ v .«break_record» ∷ v .reason ∷ []
+verdictNumbers v = v .standing ∷ v .kept ∷ v .dropped ∷ v .records ∷ v .broken ∷ v .reason ∷ []

@@ -33,7 +33,7 @@ pub fn put_verdict(out: &mut [u64], v: Verdict)
         v.kept as u64,
         v.dropped as u64,
         v.records as u64,
-        v.break_record as u64,
+        v.broken as u64,
         v.reason as u64,
     );
 }

@@ -24,9 +24,9 @@ module _ (C : Chart) (m : Monitor) (e : LogRecord) where
       → feed C m e ≡ onFound (refusal rs e) (accept C m e) (λ k. record { answer = refused k; next = m })
   unfolding feed refusal AtLast
   feed-unbroken {rs} G =
-      let b : not (eqb (m .break) 0) ≡ false = ap not (eq-eqb (m .break) 0 (G .at-last .no-break)) in
-      let n : ltb (e .time) (m .now) ≡ ltb (e .time) (lastMoment rs) = ap (ltb (e .time)) (G .now) in
-      let r : leb mostRecords (m .records) ≡ leb mostRecords (size rs) = ap (leb mostRecords) (G .records) in
+      let b : not (eqb (m .tally .broken .at) 0) ≡ false = ap not (eq-eqb (m .tally .broken .at) 0 (G .at-last .no-break)) in
+      let n : ltb (e .time) (m .tally .now) ≡ ltb (e .time) (lastMoment rs) = ap (ltb (e .time)) (G .now) in
+      let r : leb mostRecords (m .tally .records) ≡ leb mostRecords (size rs) = ap (leb mostRecords) (G .records) in
       elim (split (ltb (e .time) (lastMoment rs))) [
         | inl t ↦ rw (b, n ∙ t, t)
         | inr t ↦ elim (split (leb mostRecords (size rs))) [
@@ -35,9 +35,9 @@ module _ (C : Chart) (m : Monitor) (e : LogRecord) where
         ]
       ]
 
-  feed-broken : m .break ≢ 0 → feed C m e ≡ record { answer = toldBroken (m .break) (m .reason); next = m }
+  feed-broken : m .tally .broken .at ≢ 0 → feed C m e ≡ record { answer = toldBroken (m .tally .broken .at) (m .tally .broken .reason); next = m }
   unfolding feed
-  feed-broken h = rw (ap not (ne-eqb (m .break) 0 h))
+  feed-broken h = rw (ap not (ne-eqb (m .tally .broken .at) 0 h))
 
 module _ (C : Chart) (A : Accepted C) where
   -- a stretch that has just opened
@@ -45,7 +45,7 @@ module _ (C : Chart) (A : Accepted C) where
   unfolding Lawful chartMessages messageRegions
   opens t = record { one-for-one = refl; placed = tt; settled = opening-settled C A }
 
-  opens-unbroken : (t : ℕ) (m : Monitor) → m .at .fired ≡ stands ε → m .at .clocks ≡ opened C t → m .break ≡ 0 → m .reason ≡ 0
+  opens-unbroken : (t : ℕ) (m : Monitor) → m .at .fired ≡ stands ε → m .at .clocks ≡ opened C t → m .tally .broken .at ≡ 0 → m .tally .broken .reason ≡ 0
       → Unbroken C t ε m
   unfolding resetMoment
   opens-unbroken t m f c b r = record {

@@ -9,6 +9,7 @@ use borrow.Author.Tests.{eqb-true, ltb-false, ltb-true, leb-false, not-false}
 use Rattle.rounds.specs.Base.{Snoc, ε, _▸_}
 use Rattle.rounds.specs.Chart.{Chart, Accepted}
 use Rattle.rounds.specs.Rows.{LogRecord, chartMessage, plain, Ready, values, opened, Full}
+use Rattle.rounds.specs.Tally.{noBreak}
 use Rattle.rounds.specs.Feeds.{mostRecords, noReadyRegion, conditionFails}
 use Rattle.rounds.specs.Machine.{Place, Monitor, fresh, Move, stuck, fails, rests, readyPlain, readyFor, fire, unfired, settle, place, opening, full, prechartDone, goOn, keepRound, dropRound, breakRound, conclude, accept, feed, after, Fit}
 use Rattle.rounds.proofs.Facts.{split, or-right, or-cases, found}
@@ -83,13 +84,17 @@ module _ (C : Chart) (A : Accepted C) where
   ]
 
   -- an accepted record, counted
-  module _ (m : Monitor) (e : LogRecord) (F : Fit C m) (later : m .now ≤ e .time) (room : m .records < mostRecords)
-      (unbroken : m .break ≡ 0) where
+  module _ (m : Monitor) (e : LogRecord) (F : Fit C m) (later : m .tally .now ≤ e .time) (room : m .tally .records < mostRecords)
+      (unbroken : m .tally .broken .at ≡ 0) where
     at-now : FitPlace (e .time) (m .at)
     at-now = record { closed = F .closed; within = F .within; moments = λ c. omega (arith, F .moments c, later); unused = F .unused }
 
-    unbroken-fits : (p : Place) (k d : ℕ) → FitPlace (e .time) p → ¬ Full C (p .fired) → Settled p → k + d ≤ suc (m .records)
-        → Fit C (record { at = p; now = e .time; records = suc (m .records); kept = k; dropped = d; break = 0; reason = 0 })
+    -- at place p, with k kept and d dropped rounds and no break
+    abbrev unbrokenAt : Place → ℕ → ℕ → Monitor
+    unbrokenAt p k d = record { at = p; tally = record { now = e .time; records = suc (m .tally .records); kept = k; dropped = d; broken = noBreak } }
+
+    unbroken-fits : (p : Place) (k d : ℕ) → FitPlace (e .time) p → ¬ Full C (p .fired) → Settled p → k + d ≤ suc (m .tally .records)
+        → Fit C (unbrokenAt p k d)
     unfolding Settled
     unbroken-fits p k d P n r h = record {
       closed = P .closed;
@@ -103,18 +108,17 @@ module _ (C : Chart) (A : Accepted C) where
       break-fits = inl (refl, refl);
     }
 
-    opening-fit : (k d : ℕ) → k + d ≤ suc (m .records)
-        → Fit C (record { at = opening C (e .time); now = e .time; records = suc (m .records); kept = k; dropped = d; break = 0; reason = 0 })
+    opening-fit : (k d : ℕ) → k + d ≤ suc (m .tally .records) → Fit C (unbrokenAt (opening C (e .time)) k d)
     unfolding opening Settled
     opening-fit k d h = unbroken-fits (opening C (e .time)) k d (opening-fits (e .time)) (opening-lacks C A) (opening-settled C A) h
 
     drop-fit : Fit C (dropRound C m e .next)
     unfolding dropRound
-    drop-fit = opening-fit (m .kept) (suc (m .dropped)) (omega (arith, F .counts))
+    drop-fit = opening-fit (m .tally .kept) (suc (m .tally .dropped)) (omega (arith, F .counts))
 
     keep-fit : Fit C (keepRound C m e .next)
     unfolding keepRound
-    keep-fit = opening-fit (suc (m .kept)) (m .dropped) (omega (arith, F .counts))
+    keep-fit = opening-fit (suc (m .tally .kept)) (m .tally .dropped) (omega (arith, F .counts))
 
     break-fit : (k : ℕ) (p : Place) → (k ≡ noReadyRegion) ⊎ (k ≡ conditionFails) → FitPlace (e .time) p → ¬ Full C (p .fired)
         → Fit C (breakRound C m e k p .next)
@@ -143,26 +147,26 @@ module _ (C : Chart) (A : Accepted C) where
     ]
     conclude-fit (rests p) S = elim (split (full C (p .fired))) [
       | inl q ↦ rw q keep-fit
-      | inr q ↦ rw q (unbroken-fits p (m .kept) (m .dropped) (S .0) (full-false C (p .fired) q) (S .1) (omega (arith, F .counts)))
+      | inr q ↦ rw q (unbroken-fits p (m .tally .kept) (m .tally .dropped) (S .0) (full-false C (p .fired) q) (S .1) (omega (arith, F .counts)))
     ]
 
     accept-fit : Fit C (accept C m e .next)
     unfolding accept goOn Settled
     accept-fit = elim (split (chartMessage C e)) [
       | inl q ↦ rw q (conclude-fit (place C (m .at) e) (place-fits (m .at) e at-now))
-      | inr q ↦ rw q (unbroken-fits (m .at) (m .kept) (m .dropped) at-now (F .unfinished) (F .settled unbroken) (omega (arith, F .counts)))
+      | inr q ↦ rw q (unbroken-fits (m .at) (m .tally .kept) (m .tally .dropped) at-now (F .unfinished) (F .settled unbroken) (omega (arith, F .counts)))
     ]
 
   pub feed-fit : (m : Monitor) (e : LogRecord) → Fit C m → Fit C (feed C m e .next)
   unfolding feed
-  feed-fit m e F = elim (split (not (eqb (m .break) 0))) [
+  feed-fit m e F = elim (split (not (eqb (m .tally .broken .at) 0))) [
     | inl b ↦ rw b F
-    | inr b ↦ elim (split (ltb (e .time) (m .now))) [
+    | inr b ↦ elim (split (ltb (e .time) (m .tally .now))) [
       | inl t ↦ rw (b, t) F
-      | inr t ↦ elim (split (leb mostRecords (m .records))) [
+      | inr t ↦ elim (split (leb mostRecords (m .tally .records))) [
         | inl r ↦ rw (b, t, r) F
-        | inr r ↦ rw (b, t, r) (accept-fit m e F (ltb-false (e .time) (m .now) t) (leb-false mostRecords (m .records) r)
-            (eqb-true (m .break) 0 (not-false (eqb (m .break) 0) b)))
+        | inr r ↦ rw (b, t, r) (accept-fit m e F (ltb-false (e .time) (m .tally .now) t) (leb-false mostRecords (m .tally .records) r)
+            (eqb-true (m .tally .broken .at) 0 (not-false (eqb (m .tally .broken .at) 0) b)))
       ]
     ]
   ]

@@ -11,9 +11,9 @@ use Rattle.rounds.specs.Machine.{Monitor, feed, after, answers, Fit}
 
 -- "the break is zeros, or the number of accepted records and the broken stretch's reason": behind a broken stretch, the latter
 pub record Broken (k : ℕ) (rs : Snoc LogRecord) (m : Monitor) : Type 0 where
-  pub at-last-accepted : m .break ≡ size rs
-  pub not-zero : m .break ≢ 0
-  pub of-stretch : m .reason ≡ k
+  pub at-last-accepted : m .tally .broken .at ≡ size rs
+  pub not-zero : m .tally .broken .at ≢ 0
+  pub of-stretch : m .tally .broken .reason ≡ k
 
 module _ (C : Chart) where
   -- in an unended one, zeros; and "an unended last stretch's row has exactly the fired regions", with the monitor's clocks
@@ -23,8 +23,8 @@ module _ (C : Chart) where
     pub lacks-one : ¬ Full C (stands row)
     pub has-fired : m .at .fired ≡ stands row
     pub has-clocks : m .at .clocks ≡ resetMoment C o (chartMessages C s) row
-    pub no-break : m .break ≡ 0
-    pub no-reason : m .reason ≡ 0
+    pub no-break : m .tally .broken .at ≡ 0
+    pub no-reason : m .tally .broken .reason ≡ 0
 
   -- what the monitor holds of the last stretch
   unfoldable pub AtLast : Last → Snoc LogRecord → Monitor → Type 0
@@ -33,10 +33,10 @@ module _ (C : Chart) where
 
   -- "the monitor's kept, dropped and break are what the stretches give", and so are its time and its count of records
   pub record Agrees (rs : Snoc LogRecord) (es : Snoc Stretch) (last : Last) (m : Monitor) : Type 0 where
-    pub now : m .now ≡ lastMoment rs
-    pub records : m .records ≡ size rs
-    pub kept : m .kept ≡ keptAmong es
-    pub dropped : m .dropped ≡ droppedAmong es
+    pub now : m .tally .now ≡ lastMoment rs
+    pub records : m .tally .records ≡ size rs
+    pub kept : m .tally .kept ≡ keptAmong es
+    pub dropped : m .tally .dropped ≡ droppedAmong es
     pub at-last : AtLast last rs m
 
   -- up to each of these records the round runs on: a lawful row lacks a region

@@ -8,6 +8,7 @@ use lib.Dec.{eqb, ltb, leb}
 use Rattle.rounds.specs.Base.{Snoc, ε, _▸_, allBelow, countBelow, first, onFound}
 use Rattle.rounds.specs.Chart.{Chart}
 use Rattle.rounds.specs.Rows.{LogRecord, chartMessage, plain, Ready, Full, values, opened}
+use Rattle.rounds.specs.Tally.{Tally, freshTally, counted, countedKept, countedDropped, countedBroken}
 use Rattle.rounds.specs.Feeds.{timeFalls, tooManyRecords, mostRecords, noReadyRegion, conditionFails, Answer, refused, toldBroken, toldKept, toldDropped, entered, moved, quiet}
 
 -- "the set of fired regions, each clock's reset moment"
@@ -15,27 +16,14 @@ pub record Place : Type 0 where
   pub fired : ℕ → Bool
   pub clocks : ℕ → ℕ
 
--- "now, the counts of records, kept rounds and dropped rounds, and the break (record and reason, zeros if none)"
+-- with "now, the counts of records, kept rounds and dropped rounds, and the break (record and reason, zeros if none)": the tally
 pub record Monitor : Type 0 where
   pub at : Place
-  pub now : ℕ
-  pub records : ℕ
-  pub kept : ℕ
-  pub dropped : ℕ
-  pub break : ℕ
-  pub reason : ℕ
+  pub tally : Tally
 
 -- "Fresh: nothing fired, all else zero."
 abbrev pub fresh : Monitor
-fresh = record {
-  at = record { fired = λ i. false; clocks = λ c. 0 };
-  now = 0;
-  records = 0;
-  kept = 0;
-  dropped = 0;
-  break = 0;
-  reason = 0;
-}
+fresh = record { at = record { fired = λ i. false; clocks = λ c. 0 }; tally = freshTally }
 
 -- what a feed gives
 pub record Step : Type 0 where
@@ -98,62 +86,21 @@ module _ (C : Chart) where
 
   -- Step 1, "The record is counted; now becomes its time", in each of the four that follow. The round runs on at place p:
   unfoldable pub goOn : Monitor → LogRecord → Answer → Place → Step
-  goOn m e a p = record {
-    answer = a;
-    next = record {
-      at = p;
-      now = e .time;
-      records = suc (m .records);
-      kept = m .kept;
-      dropped = m .dropped;
-      break = 0;
-      reason = 0;
-    };
-  }
+  goOn m e a p = record { answer = a; next = record { at = p; tally = counted (m .tally) (e .time) } }
 
   -- "Kept or dropped returns to the opening"
   unfoldable pub keepRound : Monitor → LogRecord → Step
-  keepRound m e = record {
-    answer = toldKept;
-    next = record {
-      at = opening (e .time);
-      now = e .time;
-      records = suc (m .records);
-      kept = suc (m .kept);
-      dropped = m .dropped;
-      break = 0;
-      reason = 0;
-    };
-  }
+  keepRound m e = record { answer = toldKept; next = record { at = opening (e .time); tally = countedKept (m .tally) (e .time) } }
 
   unfoldable pub dropRound : Monitor → LogRecord → Step
-  dropRound m e = record {
-    answer = toldDropped;
-    next = record {
-      at = opening (e .time);
-      now = e .time;
-      records = suc (m .records);
-      kept = m .kept;
-      dropped = suc (m .dropped);
-      break = 0;
-      reason = 0;
-    };
-  }
+  dropRound m e = record { answer = toldDropped; next = record { at = opening (e .time); tally = countedDropped (m .tally) (e .time) } }
 
   -- "A break stores its record and reason; fired regions and clocks are those just before the failing region, or, for reason 1,
   -- before the record": the place p.
   unfoldable pub breakRound : Monitor → LogRecord → ℕ → Place → Step
   breakRound m e k p = record {
-    answer = toldBroken (suc (m .records)) k;
-    next = record {
-      at = p;
-      now = e .time;
-      records = suc (m .records);
-      kept = m .kept;
-      dropped = m .dropped;
-      break = suc (m .records);
-      reason = k;
-    };
+    answer = toldBroken (suc (m .tally .records)) k;
+    next = record { at = p; tally = countedBroken (m .tally) (e .time) k };
   }
 
   -- Step 6, "A chart message with no ready region: in the prechart the round is dropped, also if nothing was fired", "In the main chart
@@ -172,9 +119,9 @@ module _ (C : Chart) where
   -- "a broken monitor answers broken again, with record and reason, and nothing changes. Otherwise 22 the time is below now; 23 it
   -- would be record 1,000,001." "A refusal gives the monitor as it came."
   unfoldable pub feed : Monitor → LogRecord → Step
-  feed m e = cond (not (eqb (m .break) 0)) (record { answer = toldBroken (m .break) (m .reason); next = m })
-      (cond (ltb (e .time) (m .now)) (record { answer = refused timeFalls; next = m })
-      (cond (leb mostRecords (m .records)) (record { answer = refused tooManyRecords; next = m })
+  feed m e = cond (not (eqb (m .tally .broken .at) 0)) (record { answer = toldBroken (m .tally .broken .at) (m .tally .broken .reason); next = m })
+      (cond (ltb (e .time) (m .tally .now)) (record { answer = refused timeFalls; next = m })
+      (cond (leb mostRecords (m .tally .records)) (record { answer = refused tooManyRecords; next = m })
       (accept m e)))
 
   -- the monitor after a list of feeds from a fresh one, and the feeds' answers
@@ -195,14 +142,14 @@ pub record Fit (C : Chart) (m : Monitor) : Type 0 where
   -- "not all are fired"
   pub unfinished : ¬ Full C (m .at .fired)
   -- "no plain region is ready unless broken"
-  pub settled : m .break ≡ 0 → (j : ℕ) → So (plain C j) → ¬ Ready C (m .at .fired) j
+  pub settled : m .tally .broken .at ≡ 0 → (j : ℕ) → So (plain C j) → ¬ Ready C (m .at .fired) j
   -- "reset moments are at most now, unused ones zero"
-  pub moments : (c : ℕ) → m .at .clocks c ≤ m .now
+  pub moments : (c : ℕ) → m .at .clocks c ≤ m .tally .now
   pub unused : (c : ℕ) → C .clocks ≤ c → m .at .clocks c ≡ 0
   -- "records are at most 1,000,000"
-  pub few : m .records ≤ mostRecords
+  pub few : m .tally .records ≤ mostRecords
   -- "kept plus dropped is at most records"
-  pub counts : m .kept + m .dropped ≤ m .records
+  pub counts : m .tally .kept + m .tally .dropped ≤ m .tally .records
   -- "and the break is two zeros, or a record from 1 to the count with reason 1 or 2"
-  pub break-fits : ((m .break ≡ 0) × (m .reason ≡ 0))
-      ⊎ ((1 ≤ m .break) × (m .break ≤ m .records) × ((m .reason ≡ noReadyRegion) ⊎ (m .reason ≡ conditionFails)))
+  pub break-fits : ((m .tally .broken .at ≡ 0) × (m .tally .broken .reason ≡ 0))
+      ⊎ ((1 ≤ m .tally .broken .at) × (m .tally .broken .at ≤ m .tally .records) × ((m .tally .broken .reason ≡ noReadyRegion) ⊎ (m .tally .broken .reason ≡ conditionFails)))

@@ -51,7 +51,7 @@ not-refused Moved t = refl
 not-refused Quiet t = refl
 
 pub taken-back : (C : Chart) (v : AbstractMonitor) (e : LogRecord) (m : Monitor) (r : Step) → answerOf (r .answer) ≡ accept C v e .answer
-    → m .«break_record» ≡ 0 → HandsBack m r
+    → m .tally .broken .at ≡ 0 → HandsBack m r
 taken-back C v e m r q z = record {
   refused = λ p. clash p (not-refused (r .answer) (subst Taken (sym q) (accept-taken C v e)));
   broken = λ n. absurd (n z);

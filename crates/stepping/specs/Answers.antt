@@ -49,4 +49,4 @@ isRefused Quiet = false
 -- "A refusal gives the monitor as it came", and so does a broken monitor's answer: every field of it
 pub record HandsBack (m : Monitor) (r : Step) : Type 0 where
   pub refused : So (isRefused (r .answer)) → r .next ≡ m
-  pub broken : m .«break_record» ≢ 0 → r .next ≡ m
+  pub broken : m .tally .broken .at ≢ 0 → r .next ≡ m

@@ -1,4 +1,5 @@
 // One record taken by a fit monitor. A chart comes as numbers: its head, and four arrays lent beside it.
+use model::Break;
 use model::CLOCK_PLACES;
 use model::Length;
 use model::MOST_RECORDS;
@@ -7,6 +8,7 @@ use model::MOST_TERMS;
 use model::Moment;
 use model::Monitor;
 use model::Place;
+use model::Tally;
 ghost use mathlib.Core.Path.{_≡_};
 ghost use mathlib.Core.Bool.{So, _&&_, not, cond};
 ghost use mathlib.Core.List.{List};
@@ -19,10 +21,11 @@ ghost use Rattle.rounds.specs.Base.{first, allBelow, someBelow};
 ghost use Rattle.rounds.specs.Chart.{Chart};
 ghost use Rattle.rounds.specs.Rows.{Ready};
 ghost use Rattle.rounds.specs.Feeds.{mostRecords, entered, moved};
+ghost use Rattle.rounds.specs.Tally.{counted as tallied, countedKept, countedDropped, countedBroken};
 ghost use Rattle.rounds.specs.Machine.{stuck, opening as opened, goOn, keepRound, dropRound, breakRound, conclude as concluded, accept as accepted, feed as fed, Fit};
 ghost use Rattle.stepping.specs.declared.Rest.the-variants.{Fails as FailsAt};
 ghost use Rattle.stepping.specs.Answers.{feedRefusalNumber, answerNumber, answerOf, HandsBack};
-ghost use Rattle.stepping.specs.Monitors.{momentsOf, placeAt, monitorAt, stepOf};
+ghost use Rattle.stepping.specs.Monitors.{momentsOf, placeAt, tallyAt, monitorAt, stepOf};
 ghost use Rattle.stepping.specs.View.{bias, boundOf, bounded, Within, conditionBy, planChart, recordOf, Compiled};
 ghost use Rattle.stepping.specs.Parts.{readyBy, foundOf, Covers, soughtBy, valueAt, Testable, fireBy, takenAt, moveOf};
 
@@ -372,84 +375,121 @@ fn opening(clocks: usize, t: Moment) -> Place
     Place { fired: 0, resets }
 }
 
-// The record is counted, and the round runs on at a place.
+// A record at moment t is counted, and the round runs on.
+fn counted(x: Tally, t: Moment) -> Tally
+    requires { ⌜ x .records < mostRecords ⌝ }
+    ensures { λ r. ⌜ tallyAt r ≡ tallied (tallyAt x) (t .0) ⌝ }
+{
+    let broken = Break { at: 0, reason: 0 };
+    Tally {
+        now: t,
+        records: x.records + 1,
+        kept: x.kept,
+        dropped: x.dropped,
+        broken,
+    }
+}
+
+// A record at moment t is counted, and so is a kept round.
+fn counted_kept(x: Tally, t: Moment) -> Tally
+    requires { ⌜ (x .records < mostRecords) × (x .kept ≤ x .records) ⌝ }
+    ensures { λ r. ⌜ tallyAt r ≡ countedKept (tallyAt x) (t .0) ⌝ }
+{
+    let broken = Break { at: 0, reason: 0 };
+    Tally {
+        now: t,
+        records: x.records + 1,
+        kept: x.kept + 1,
+        dropped: x.dropped,
+        broken,
+    }
+}
+
+// A record at moment t is counted, and so is a dropped round.
+fn counted_dropped(x: Tally, t: Moment) -> Tally
+    requires { ⌜ (x .records < mostRecords) × (x .dropped ≤ x .records) ⌝ }
+    ensures { λ r. ⌜ tallyAt r ≡ countedDropped (tallyAt x) (t .0) ⌝ }
+{
+    let broken = Break { at: 0, reason: 0 };
+    Tally {
+        now: t,
+        records: x.records + 1,
+        kept: x.kept,
+        dropped: x.dropped + 1,
+        broken,
+    }
+}
+
+// A record at moment t is counted, and it is the break.
+fn counted_broken(x: Tally, t: Moment, reason: u8) -> Tally
+    requires { ⌜ x .records < mostRecords ⌝ }
+    ensures { λ r. ⌜ tallyAt r ≡ countedBroken (tallyAt x) (t .0) reason ⌝ }
+{
+    let n = x.records + 1;
+    let broken = Break { at: n, reason };
+    Tally {
+        now: t,
+        records: n,
+        kept: x.kept,
+        dropped: x.dropped,
+        broken,
+    }
+}
+
+// The round runs on at a place.
 fn go_on(m: Monitor, t: Moment, answer: Answer, place: Place) -> Step
-    requires { ⌜ m .records < mostRecords ⌝ }
+    requires { ⌜ m .tally .records < mostRecords ⌝ }
     ensures { λ r. ⌜ ((C : Chart) (code : ℕ) → stepOf r ≡ goOn C (monitorAt m) (recordOf code (t .0)) (answerOf answer) (placeAt place)) ⌝ }
 {
-    Step {
-        answer,
-        next: Monitor {
-            at: place,
-            now: t,
-            records: m.records + 1,
-            kept: m.kept,
-            dropped: m.dropped,
-            break_record: 0,
-            reason: 0,
-        },
-    }
+    let before = m.tally;
+    let tally = counted(before, t);
+    let next = Monitor { at: place, tally };
+    Step { answer, next }
 }
 
-// The record is counted, and the round is kept.
+// The round is kept.
 fn keep_round(clocks: usize, m: Monitor, t: Moment) -> Step
     requires { ⌜ clocks ≤ mostClocks ⌝ }
-    requires { ⌜ (m .records < mostRecords) × (m .kept ≤ m .records) ⌝ }
+    requires { ⌜ (m .tally .records < mostRecords) × (m .tally .kept ≤ m .tally .records) ⌝ }
     ensures { λ r. ⌜ ((C : Chart) (code : ℕ) → C .clocks ≡ clocks → stepOf r ≡ keepRound C (monitorAt m) (recordOf code (t .0))) ⌝ }
 {
-    let place = opening(clocks, t);
+    let at = opening(clocks, t);
+    let before = m.tally;
+    let tally = counted_kept(before, t);
+    let next = Monitor { at, tally };
     Step {
         answer: Answer::Kept,
-        next: Monitor {
-            at: place,
-            now: t,
-            records: m.records + 1,
-            kept: m.kept + 1,
-            dropped: m.dropped,
-            break_record: 0,
-            reason: 0,
-        },
+        next,
     }
 }
 
-// The record is counted, and the round is dropped.
+// The round is dropped.
 fn drop_round(clocks: usize, m: Monitor, t: Moment) -> Step
     requires { ⌜ clocks ≤ mostClocks ⌝ }
-    requires { ⌜ (m .records < mostRecords) × (m .dropped ≤ m .records) ⌝ }
+    requires { ⌜ (m .tally .records < mostRecords) × (m .tally .dropped ≤ m .tally .records) ⌝ }
     ensures { λ r. ⌜ ((C : Chart) (code : ℕ) → C .clocks ≡ clocks → stepOf r ≡ dropRound C (monitorAt m) (recordOf code (t .0))) ⌝ }
 {
-    let place = opening(clocks, t);
+    let at = opening(clocks, t);
+    let before = m.tally;
+    let tally = counted_dropped(before, t);
+    let next = Monitor { at, tally };
     Step {
         answer: Answer::Dropped,
-        next: Monitor {
-            at: place,
-            now: t,
-            records: m.records + 1,
-            kept: m.kept,
-            dropped: m.dropped + 1,
-            break_record: 0,
-            reason: 0,
-        },
+        next,
     }
 }
 
-// The record is counted, and the round is broken at it.
+// The round is broken, and the place stays.
 fn break_round(m: Monitor, t: Moment, reason: u8, place: Place) -> Step
-    requires { ⌜ m .records < mostRecords ⌝ }
+    requires { ⌜ m .tally .records < mostRecords ⌝ }
     ensures { λ r. ⌜ ((C : Chart) (code : ℕ) → stepOf r ≡ breakRound C (monitorAt m) (recordOf code (t .0)) reason (placeAt place)) ⌝ }
 {
-    let n = m.records + 1;
+    let before = m.tally;
+    let tally = counted_broken(before, t, reason);
+    let next = Monitor { at: place, tally };
     Step {
-        answer: Answer::Broken(n, reason),
-        next: Monitor {
-            at: place,
-            now: t,
-            records: n,
-            kept: m.kept,
-            dropped: m.dropped,
-            break_record: n,
-            reason,
-        },
+        answer: Answer::Broken(tally.broken.at, reason),
+        next,
     }
 }
 
@@ -466,7 +506,7 @@ fn entered_or_moved(before: bool, after: bool) -> Answer
 // Step 6: a chart message with no ready region.
 fn unplaced(h: Head, m: Monitor, t: Moment) -> Step
     requires { ⌜ (h .prechart ≤ mostRegions) × (h .clocks ≤ mostClocks) ⌝ }
-    requires { ⌜ (m .records < mostRecords) × (m .kept + m .dropped ≤ m .records) ⌝ }
+    requires { ⌜ (m .tally .records < mostRecords) × (m .tally .kept + m .tally .dropped ≤ m .tally .records) ⌝ }
     ensures { λ r. ⌜ ((keys above resets terms : List ℕ) (code : ℕ) → stepOf r ≡ concluded (planChart h keys above resets terms) (monitorAt m) (recordOf code (t .0)) stuck) ⌝ }
 {
     let at = m.at;
@@ -479,7 +519,7 @@ fn unplaced(h: Head, m: Monitor, t: Moment) -> Step
 // Steps 5 and 7.
 fn conclude(h: Head, m: Monitor, t: Moment, s: Settled) -> Step
     requires { ⌜ (h .count ≤ mostRegions) × (h .prechart ≤ mostRegions) × (h .clocks ≤ mostClocks) ⌝ }
-    requires { ⌜ (m .records < mostRecords) × (m .kept + m .dropped ≤ m .records) ⌝ }
+    requires { ⌜ (m .tally .records < mostRecords) × (m .tally .kept + m .tally .dropped ≤ m .tally .records) ⌝ }
     requires { ⌜ ((i : ℕ) → s .rest ≡ FailsAt i → i < mostRegions) ⌝ }
     ensures { λ r. ⌜ ((keys above resets terms : List ℕ) (code : ℕ) → stepOf r ≡ concluded (planChart h keys above resets terms) (monitorAt m) (recordOf code (t .0)) (moveOf s)) ⌝ }
 {
@@ -517,7 +557,7 @@ pub fn accept<'a>(
     t: Moment,
 ) -> Step
     requires { ⌜ Compiled h (now keys) (now above) (now resets) (now terms) ⌝ }
-    requires { ⌜ (m .records < mostRecords) × (m .kept + m .dropped ≤ m .records) ⌝ }
+    requires { ⌜ (m .tally .records < mostRecords) × (m .tally .kept + m .tally .dropped ≤ m .tally .records) ⌝ }
     requires { ⌜ ((c : ℕ) → momentsOf (m .at .resets) c ≤ t .0) ⌝ }
     requires { ⌜ Covers (h .count) (now keys) code among ⌝ }
     ensures { λ r. ⌜ stepOf r ≡ accepted (planChart h (now (keys .entry)) (now (above .entry)) (now (resets .entry)) (now (terms .entry))) (monitorAt m) (recordOf code (t .0)) ⌝ }
@@ -555,20 +595,20 @@ pub fn feed_fit<'a>(
     ensures step { λ r. ⌜ stepOf r ≡ fed (planChart h (now (keys .entry)) (now (above .entry)) (now (resets .entry)) (now (terms .entry))) (monitorAt m) (recordOf code (t .0)) ⌝ }
     ensures back { λ r. ⌜ HandsBack m r ⌝ }
 {
-    let now = m.now;
-    if m.break_record != 0 {
+    let tally = m.tally;
+    if tally.broken.at != 0 {
         return Step {
-            answer: Answer::Broken(m.break_record, m.reason),
+            answer: Answer::Broken(tally.broken.at, tally.broken.reason),
             next: m,
         };
     }
-    if t.0 < now.0 {
+    if t.0 < tally.now.0 {
         return Step {
             answer: Answer::Refused(FeedRefusal::TimeFalls),
             next: m,
         };
     }
-    if MOST_RECORDS <= m.records {
+    if MOST_RECORDS <= tally.records {
         return Step {
             answer: Answer::Refused(FeedRefusal::TooManyRecords),
             next: m,

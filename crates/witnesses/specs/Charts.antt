@@ -35,7 +35,7 @@ judged chart log standing kept dropped records break reason =
             kept = kept;
             dropped = dropped;
             records = records;
-            «break_record» = break;
+            broken = break;
             reason = reason;
           });
     }

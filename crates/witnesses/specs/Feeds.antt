@@ -44,12 +44,13 @@ abbrev pub stored : ℕ → ℕ → ℕ → ℕ → ℕ → ℕ → Monitor
 stored fired reset now records break reason =
     record {
       at = record { fired = fired; resets = record { 0 = reset } ∷ replicate 7 (record { 0 = 0 }) };
-      now = record { 0 = now };
-      records = records;
-      kept = 0;
-      dropped = 0;
-      «break_record» = break;
-      reason = reason;
+      tally = record {
+        now = record { 0 = now };
+        records = records;
+        kept = 0;
+        dropped = 0;
+        broken = record { at = break; reason = reason };
+      };
     }
 
 -- The chart that is read from some bytes, a monitor and a record; the answer, and its number.

@@ -11,41 +11,12 @@ moments-at-requires c κs = search needs
 word32-at-requires : tie.Need-word32-at-requires
 word32-at-requires c κs = search needs
 
-moment-at-requires : tie.Need-moment-at-requires
-moment-at-requires c κs = search needs
-
-word32-at-requires-2 : tie.Need-word32-at-requires-2
-word32-at-requires-2 c κs = search needs
-
-word32-at-requires-3 : tie.Need-word32-at-requires-3
-word32-at-requires-3 c κs = search needs
-
-word32-at-requires-4 : tie.Need-word32-at-requires-4
-word32-at-requires-4 c κs = search needs
-
-word32-at-requires-5 : tie.Need-word32-at-requires-5
-word32-at-requires-5 c κs = search needs
-
-byte-at-requires : tie.Need-byte-at-requires
-byte-at-requires c κs = search needs
+tally-at-requires : tie.Need-tally-at-requires
+tally-at-requires c κs = search needs
 
 returns : tie.Need-returns
 unfolding monitorIn
-returns c = (
-  rw (c .byte-at .ensures .0, c .before .word32-at5 .ensures .0, c .before .before .word32-at4 .ensures .0, c .before .before .before .word32-at3 .ensures .0, c .before .before .before .before .word32-at2 .ensures .0, c .before .before .before .before .before .moment-at .ensures, c .before .before .before .before .before .before .word32-at .ensures .0, c .before .before .before .before .before .before .before .moments-at .ensures),
-  refl,
-)
+returns c = (rw (c .tally-at .ensures, c .before .word32-at .ensures .0, c .before .before .moments-at .ensures), refl)
 
 pub monitor-at-spec : {M : Type 1} → statement M
-monitor-at-spec =
-    tie.close
-    (tie.spec
-    moments-at-requires
-    word32-at-requires
-    moment-at-requires
-    word32-at-requires-2
-    word32-at-requires-3
-    word32-at-requires-4
-    word32-at-requires-5
-    byte-at-requires
-    returns)
+monitor-at-spec = tie.close (tie.spec moments-at-requires word32-at-requires tally-at-requires returns)

@@ -33,8 +33,8 @@ closed-upward-requires c κs = search needs
 
 returns : tie.Need-returns
 returns c =
-    let K = c .before .before .before .before .before .before .before .before .before .before .before .pre in
-    let m = c .before .before .before .before .before .before .before .before .before .before .before .args .m in
+    let K = c .before .before .before .before .before .before .before .before .before .before .before .before .pre in
+    let m = c .before .before .before .before .before .before .before .before .before .before .before .before .args .m in
     fit-test K m (c .before .moments-fit .ensures .1) _
     (tested K m _ _ _ _ _ _ _ (c .before .before .before .before .before .before .before .before .ready-plain .result) (c .closed-upward .ensures) (c .before .before .before .within .ensures) (c .before .before .all-fired .ensures)
     (c .before .before .before .before .before .before .before .before .ready-plain .ensures _ (K .within)) (c .before .before .before .before .before .before .before .is-nothing .ensures) (c .before .moments-fit .ensures .0) (c .before .before .before .before .before .counts-fit .ensures)

@@ -1,5 +1,4 @@
--- Field by field. Assumes nothing.
-use native.Mathlib.Numerals.{add-one}
+-- By the opening and the tally. Assumes nothing.
 use borrow.Author.Needs.{needs}
 use Rattle.rounds.specs.Machine.{dropRound}
 use Rattle.stepping.proofs.drop_round.Statement.{statement}
@@ -8,15 +7,12 @@ use Rattle.stepping.proofs.drop_round.Tie as tie
 opening-requires : tie.Need-opening-requires
 opening-requires c κs = search needs
 
-add-t6 : tie.Need-add-t6
-add-t6 c = search needs
-
-add-t7 : tie.Need-add-t7
-add-t7 c = search needs
+counted-dropped-requires : tie.Need-counted-dropped-requires
+counted-dropped-requires c κs = search needs
 
 returns : tie.Need-returns
 unfolding dropRound
-returns c = λ C code q. simp add-one (rw (c .before .before .opening .ensures C q))
+returns c = λ C code q. rw (c .counted-dropped .ensures, c .before .before .opening .ensures C q)
 
 pub drop-round-spec : {M : Type 1} → statement M
-drop-round-spec = tie.close (tie.spec opening-requires add-t6 add-t7 returns)
+drop-round-spec = tie.close (tie.spec opening-requires counted-dropped-requires returns)

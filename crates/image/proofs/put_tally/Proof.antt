@@ -1,8 +1,8 @@
--- `image::put_counts` meets its contract: five words and a byte. Assumes nothing.
+-- `image::put_tally` meets its contract: five words and a byte. Assumes nothing.
 use Rattle.text.proofs.Laws.{then}
 use borrow.Author.Needs.{needs}
-use Rattle.image.proofs.put_counts.Statement.{statement}
-use Rattle.image.proofs.put_counts.Tie as tie
+use Rattle.image.proofs.put_tally.Statement.{statement}
+use Rattle.image.proofs.put_tally.Tie as tie
 
 put-four-requires : tie.Need-put-four-requires
 put-four-requires c κs = search needs
@@ -19,7 +19,7 @@ same-length c = search needs
 returns : tie.Need-returns
 returns c = then (then (c .before .before .before .before .before .before .before .before .before .before .put-four .ensures) (c .before .before .before .before .before .before .put-word32 .ensures)) (c .before .before .put-byte .ensures)
 
-pub put-counts-spec : {M : Type 1} → statement M
-put-counts-spec =
+pub put-tally-spec : {M : Type 1} → statement M
+put-tally-spec =
     tie.close
     (tie.spec put-four-requires put-word32-requires put-byte-requires same-length returns)
