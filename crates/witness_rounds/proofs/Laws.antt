@@ -97,7 +97,7 @@ caseFor b (toldBroken n k) = cond b 7 5
 
 -- a monitor's status, with its configuration written out
 abbrev pub statusWith : Config → Monitor → Status
-statusWith z m = statusAs z (m .now) (m .records) (m .kept) (m .dropped) (m .break) (m .reason)
+statusWith z m = statusAs z (m .tally .now) (m .tally .records) (m .tally .kept) (m .tally .dropped) (m .tally .broken .at) (m .tally .broken .reason)
 
 -- one more record, behind the records fs
 module _ (C : Chart) (A : Accepted C) (fs : Snoc LogRecord) (e : LogRecord) where
@@ -106,18 +106,18 @@ module _ (C : Chart) (A : Accepted C) (fs : Snoc LogRecord) (e : LogRecord) wher
 
   -- which is not refused
   unfoldable pub accepts : Bool
-  accepts = eqb (m .break) 0 && (leb (m .now) (e .time) && ltb (m .records) mostRecords)
+  accepts = eqb (m .tally .broken .at) 0 && (leb (m .tally .now) (e .time) && ltb (m .tally .records) mostRecords)
 
   acceptable : So accepts → Acceptable C m e
   unfolding accepts
   acceptable h =
-      let b = and-left (eqb (m .break) 0) (leb (m .now) (e .time) && ltb (m .records) mostRecords) h in
-      let k = and-right (eqb (m .break) 0) (leb (m .now) (e .time) && ltb (m .records) mostRecords) h in
+      let b = and-left (eqb (m .tally .broken .at) 0) (leb (m .tally .now) (e .time) && ltb (m .tally .records) mostRecords) h in
+      let k = and-right (eqb (m .tally .broken .at) 0) (leb (m .tally .now) (e .time) && ltb (m .tally .records) mostRecords) h in
       record {
         fit = after-fit C A fs;
-        unbroken = eqb-true (m .break) 0 b;
-        forward = leb-true (m .now) (e .time) (and-left (leb (m .now) (e .time)) (ltb (m .records) mostRecords) k);
-        room = ltb-true (m .records) mostRecords (and-right (leb (m .now) (e .time)) (ltb (m .records) mostRecords) k);
+        unbroken = eqb-true (m .tally .broken .at) 0 b;
+        forward = leb-true (m .tally .now) (e .time) (and-left (leb (m .tally .now) (e .time)) (ltb (m .tally .records) mostRecords) k);
+        room = ltb-true (m .tally .records) mostRecords (and-right (leb (m .tally .now) (e .time)) (ltb (m .tally .records) mostRecords) k);
       }
 
   module _ (P : Acceptable C m e) where
@@ -135,10 +135,10 @@ module _ (C : Chart) (A : Accepted C) (fs : Snoc LogRecord) (e : LogRecord) wher
     numbered (keeps h z M f) = refl
     numbered (fails-cold h i y T t) =
         let F = terminates-fails C (statusOf C m) e at-rest T t .0 in
-        rw (of-failure C A (m .at) e (m .now) (P .fit .moments) (P .forward) h i F .1)
+        rw (of-failure C A (m .at) e (m .tally .now) (P .fit .moments) (P .forward) h i F .1)
     numbered (fails-hot h i y T b) =
         let F = blocked-fails C (statusOf C m) e at-rest h T b .0 in
-        rw (of-failure C A (m .at) e (m .now) (P .fit .moments) (P .forward) h i F .1)
+        rw (of-failure C A (m .at) e (m .tally .now) (P .fit .moments) (P .forward) h i F .1)
     numbered (unmatched-prechart h U n) = rw (of-unmatched C A (m .at) e U)
     numbered (unmatched-main h U d) = rw (of-unmatched C A (m .at) e U)
 
@@ -146,7 +146,7 @@ module _ (C : Chart) (A : Accepted C) (fs : Snoc LogRecord) (e : LogRecord) wher
         → Turn C (statusOf C m) e i (configAt C (e .time) p)
     unfolding configAt
     turn-failing i p c q =
-        turn-of C (statusOf C m) e at-rest (failure-of C A (m .at) e (m .now) (P .fit .moments) (P .forward) c i p q)
+        turn-of C (statusOf C m) e at-rest (failure-of C A (m .at) e (m .tally .now) (P .fit .moments) (P .forward) c i p q)
 
   -- taken by this case, with the machine's status, whose configuration is z
   abbrev TakenSo : ℕ → Config → Answer → Type 0
@@ -159,7 +159,7 @@ module _ (C : Chart) (A : Accepted C) (fs : Snoc LogRecord) (e : LogRecord) wher
   abbrev v : Step
   v = feed C m e
 
-  taken-by : (n : ℕ) (z : Config) (a : Answer) → So accepts → configAt C (v .next .now) (v .next .at) ≡ z
+  taken-by : (n : ℕ) (z : Config) (a : Answer) → So accepts → configAt C (v .next .tally .now) (v .next .at) ≡ z
       → v .answer ≡ a → Case a ≡ n → TakenSo n z a
   taken-by n z a h p q c =
       let P : Acceptable C m e = acceptable h in
@@ -170,16 +170,16 @@ module _ (C : Chart) (A : Accepted C) (fs : Snoc LogRecord) (e : LogRecord) wher
       (T, numbered P T ∙ c)
 
   -- a round opens
-  pub taken-anew : (n : ℕ) (a : Answer) → So accepts → v .next .at ≡ opening C (v .next .now)
+  pub taken-anew : (n : ℕ) (a : Answer) → So accepts → v .next .at ≡ opening C (v .next .tally .now)
       → v .answer ≡ a → Case a ≡ n → TakenSo n initial a
   taken-anew n a h p q c =
-      taken-by n initial a h (ap (configAt C (v .next .now)) p ∙ opening-config C (v .next .now)) q c
+      taken-by n initial a h (ap (configAt C (v .next .tally .now)) p ∙ opening-config C (v .next .tally .now)) q c
 
   -- the round runs on, or is broken
   pub taken-at : (n : ℕ) (r : Row) (l : List ℕ) (a : Answer) → So accepts → v .next .at .fired ≡ stands r
-      → table (C .clocks) (values C (v .next .now) (v .next .at .clocks)) ≡ l → v .answer ≡ a → Case a ≡ n
+      → table (C .clocks) (values C (v .next .tally .now) (v .next .at .clocks)) ≡ l → v .answer ≡ a → Case a ≡ n
       → TakenSo n (configOf r l) a
-  taken-at n r l a h f k q c = taken-by n (configOf r l) a h (config-at C (v .next .now) (v .next .at) r l f k) q c
+  taken-at n r l a h f k q c = taken-by n (configOf r l) a h (config-at C (v .next .tally .now) (v .next .at) r l f k) q c
 
   -- the condition of region i fails when it is its turn
   pub turn-at : (i : ℕ) (p : Place) (r : Row) (l : List ℕ) → So accepts → So (chartMessage C e)

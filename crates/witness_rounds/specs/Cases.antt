@@ -26,12 +26,13 @@ abbrev pub stored : ℕ → ℕ → ℕ → ℕ → ℕ → Monitor
 stored fired now records break reason =
     record {
       at = record { fired = fired; resets = replicate 8 (record { 0 = 0 }) };
-      now = record { 0 = now };
-      records = records;
-      kept = 0;
-      dropped = 0;
-      «break_record» = break;
-      reason = reason;
+      tally = record {
+        now = record { 0 = now };
+        records = records;
+        kept = 0;
+        dropped = 0;
+        broken = record { at = break; reason = reason };
+      };
     }
 
 -- a log of n records of time 0

@@ -45,11 +45,14 @@ configOf row clocks = record { cut = stands row; valuation = λ x. getD clocks x
 
 abbrev pub statusAs : Config → ℕ → ℕ → ℕ → ℕ → ℕ → ℕ → Status
 statusAs config now n k d break reason =
-    record { config = config; now = now; records = n; kept = k; dropped = d; break = break; reason = reason }
+    record {
+      config = config;
+      tally = record { now = now; records = n; kept = k; dropped = d; broken = record { at = break; reason = reason } };
+    }
 
 abbrev pub verdictAs : ℕ → ℕ → ℕ → ℕ → ℕ → ℕ → Verdict
 verdictAs standing k d n break reason =
-    record { standing = standing; kept = k; dropped = d; records = n; «break_record» = break; reason = reason }
+    record { standing = standing; kept = k; dropped = d; records = n; broken = break; reason = reason }
 
 -- Behind the records s, record e is taken by the case of this number, with this status after it and this answer. The
 -- cases: 0 passes, 1 moves, 2 enters, 3 keeps, 4 fails cold, 5 fails hot, 6 unmatched in the prechart, 7 in the main
