@@ -1,7 +1,7 @@
 //! Fixed charts, and long logs that mostly keep their rounds.
 
-use lsc_reference::fast::{Plan, State};
-use lsc_reference::random::{log_pieces, Rng};
+use crate::fast::{Plan, State};
+use crate::random::{log_pieces, Rng};
 use lsc_reference::value::*;
 
 /// Document 01's chart U: after undo, headings and references within 40 ticks.
@@ -166,7 +166,7 @@ fn message(region: &RegionValue, time: u32) -> RecordValue {
 #[cfg(test)]
 mod tests {
     use super::*;
-    use lsc_reference::fast::judge;
+    use crate::fast::judge;
     use lsc_reference::reader::read_chart;
 
     #[test]

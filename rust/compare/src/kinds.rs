@@ -8,8 +8,8 @@ mod values;
 mod whole;
 
 use crate::difference::{Both, Difference};
+use crate::random::{shrink, Rng};
 use crate::seen::Seen;
-use lsc_reference::random::{shrink, Rng};
 use lsc_reference::value::Answer;
 
 pub use bytes::compare as compare_bytes;

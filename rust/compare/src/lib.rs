@@ -6,17 +6,20 @@
 #![forbid(unsafe_code)]
 
 pub mod charts;
+pub mod coverage;
 pub mod difference;
+pub mod fast;
 pub mod hex;
 pub mod kinds;
 pub mod limits;
 pub mod measure;
 pub mod plot;
+pub mod random;
 pub mod seen;
 
 use difference::Difference;
 use kinds::{Kind, KINDS};
-use lsc_reference::random::Rng;
+use random::Rng;
 use seen::Seen;
 
 /// Which inputs a run takes: `count` of them from number `first`, all drawn from `seed`.

@@ -5,7 +5,7 @@ use crate::difference::{same, Both, Difference};
 use crate::kinds::{compare_bytes, compare_judge, compare_print, compare_values, Compare};
 use crate::seen::Seen;
 use lsc::call;
-use lsc_reference::random::printing_input;
+use lsc_reference::print::input_of;
 use lsc_reference::reader::read_chart;
 use lsc_reference::value::*;
 
@@ -55,7 +55,7 @@ fn judged() -> Vec<Case> {
 fn printed() -> Vec<Case> {
     let mut cases: Vec<Case> = Vec::new();
     for length in [65_535, 65_536, 65_537, 70_000] {
-        let mut input = printing_input(&U, &[]);
+        let mut input = input_of(&U, &[]);
         while input.len() + 5 <= length {
             input.extend(RecordValue::Time(7).to_image());
         }

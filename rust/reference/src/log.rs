@@ -84,6 +84,11 @@ pub fn read_log(bytes: &[u8]) -> Result<Vec<RecordValue>, (u8, usize)> {
     }
 }
 
+/// The records as a log's bytes.
+pub fn write_log(records: &[RecordValue]) -> Vec<u8> {
+    records.iter().flat_map(RecordValue::to_image).collect()
+}
+
 /// "Standing, the first that applies: 3 broken, 0 nothing fired (also where there is no
 /// prechart; choice), 1 in the prechart, 2 owed in the main chart."
 pub fn standing(chart: &ChartValue, monitor: &MonitorValue) -> u8 {

@@ -45,6 +45,14 @@ pub fn respond(input: &[u8]) -> String {
     }
 }
 
+/// The input that holds a chart's bytes and a log's.
+pub fn input_of(chart: &[u8], log: &[u8]) -> Vec<u8> {
+    let mut input = (chart.len() as u16).to_be_bytes().to_vec();
+    input.extend(chart);
+    input.extend(log);
+    input
+}
+
 fn refused(part: &str, code: u8, offset: usize) -> String {
     format!("refused {part} {code} at {offset}\n")
 }

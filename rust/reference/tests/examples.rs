@@ -1,72 +1,38 @@
 //! Document 01's examples, and the edges its rules name.
 
-use lsc_reference::log::{judge, read_record, Next, Verdict};
-use lsc_reference::print::respond;
+use lsc_reference::declarative::Rows;
+use lsc_reference::examples::{headings, message, references, undo, CHART_U, OVER_CHART_U};
+use lsc_reference::log::{judge, read_record, write_log, Next, Verdict};
+use lsc_reference::print::{input_of, respond, HEADER};
 use lsc_reference::reader::read_chart;
 use lsc_reference::value::*;
-use lsc_reference::{declarative, fast, monitor, random, well_formed};
-
-const CHART_U: [u8; 38] = [
-    0x10, 0x04, 0x01, 0x20, 0x00, 0x01, 0x00, 0x01, 0x40, 0x01, 0x50, 0x20, 0x01, 0x00, 0x00, 0x02,
-    0x30, 0x00, 0x01, 0x00, 0x00, 0x00, 0x28, 0x32, 0x20, 0x02, 0x03, 0x00, 0x03, 0x30, 0x00, 0x01,
-    0x00, 0x00, 0x00, 0x28, 0x32, 0x7F,
-];
-
-fn message(source: u8, destination: u8, label: u16, time: u32) -> RecordValue {
-    RecordValue::Message {
-        source,
-        destination,
-        label,
-        time,
-    }
-}
-
-fn undo(time: u32) -> RecordValue {
-    message(0, 1, 1, time)
-}
-
-fn headings(time: u32) -> RecordValue {
-    message(1, 0, 2, time)
-}
-
-fn references(time: u32) -> RecordValue {
-    message(2, 3, 3, time)
-}
+use lsc_reference::{monitor, well_formed};
 
 fn printed(chart: &[u8], records: &[RecordValue]) -> String {
-    respond(&random::printing_input(chart, &random::log_bytes(records)))
+    respond(&input_of(chart, &write_log(records)))
 }
 
 fn numbers(chart: &[u8], records: &[RecordValue]) -> String {
     let text = printed(chart, records);
-    let rest = text
-        .strip_prefix("STANDING KEPT DROPPED RECORDS BREAK REASON\n")
-        .expect("a header");
-    rest.strip_suffix('\n').expect("a line feed").to_string()
+    let lines: Vec<&str> = text.split('\n').collect();
+    assert_eq!((lines.len(), lines[0], lines[2]), (3, HEADER, ""));
+    lines[1].to_string()
 }
 
 #[test]
 fn chart_u() {
-    let chart = &CHART_U;
     assert_eq!(
-        printed(chart, &[undo(100), references(120), headings(140)]),
+        printed(&CHART_U, OVER_CHART_U[0].0),
         "STANDING KEPT DROPPED RECORDS BREAK REASON\n0 1 0 3 0 0\n"
     );
-    let cases: [(&[RecordValue], &str); 7] = [
-        (&[undo(100), references(120), headings(141)], "3 0 0 3 3 2"),
-        (&[undo(100), headings(120)], "2 0 0 2 0 0"),
-        (&[undo(100), headings(120), headings(130)], "3 0 0 3 3 1"),
-        (&[undo(100), undo(110)], "3 0 0 2 2 1"),
-        (&[headings(5)], "0 0 1 1 0 0"),
-        (&[undo(100), message(3, 2, 3, 110)], "2 0 0 2 0 0"),
-        (&[], "0 0 0 0 0 0"),
-    ];
-    for (records, expected) in cases {
-        assert_eq!(numbers(chart, records), expected);
-        let value = read_chart(chart).unwrap();
-        let log = random::log_bytes(records);
-        assert_eq!(judge(&value, &log), fast::judge(&value, &log));
-        let meaning = declarative::Rows::of(&value).meaning(records);
+    let value = read_chart(&CHART_U).unwrap();
+    for (records, expected) in OVER_CHART_U {
+        if expected.starts_with("refused") {
+            assert_eq!(printed(&CHART_U, records), format!("{expected}\n"));
+            continue;
+        }
+        assert_eq!(numbers(&CHART_U, records), expected);
+        let meaning = Rows::of(&value).meaning(records);
         let end: Vec<u32> = expected
             .split(' ')
             .map(|word| word.parse().unwrap())
@@ -76,13 +42,9 @@ fn chart_u() {
             [end[1], end[2], end[4]]
         );
     }
-    assert_eq!(
-        printed(chart, &[undo(100), undo(99)]),
-        "refused log 22 at 9\n"
-    );
     // Either order of the two that come back.
     assert_eq!(
-        numbers(chart, &[undo(100), headings(101), references(140)]),
+        numbers(&CHART_U, &[undo(100), headings(101), references(140)]),
         "0 1 0 3 0 0"
     );
 }
@@ -121,7 +83,6 @@ fn thirty_two_regions_are_read_and_a_33rd_refused() {
             Answer::Moved
         };
         assert_eq!(answer, expected);
-        assert_eq!(fast::feed(&chart, state, undo(0)), (answer, after));
         state = after;
     }
     state.fired = u32::MAX;
@@ -244,7 +205,7 @@ fn the_order_of_chart_faults() {
         0x10, 16, 8, 0x50, 0x20, 15, 0, 0xFF, 0xFF, 0x40, 0xFF, 0x21, 0xFF, 0xFF, 0x31, 7, 6, 4,
         0x80, 0, 0, 0, 0x7F,
     ];
-    assert!(fast::is_given(&read_chart(&widest).unwrap()));
+    assert!(well_formed::is_given(&read_chart(&widest).unwrap()));
 }
 
 #[test]
@@ -329,7 +290,7 @@ fn a_break_keeps_what_stood_before() {
 
 #[test]
 fn reading_one_record_at_every_place() {
-    let mut log = random::log_bytes(&[undo(100), RecordValue::Time(101)]);
+    let mut log = write_log(&[undo(100), RecordValue::Time(101)]);
     log.extend([1, 0, 0]);
     assert_eq!(read_record(&log, 0), Next::Taken(undo(100), 9));
     assert_eq!(
@@ -353,10 +314,8 @@ fn the_millionth_record_and_the_next() {
         ..Verdict::ZERO
     };
     assert_eq!(judge(&chart, &log), Ok(verdict));
-    assert_eq!(fast::judge(&chart, &log), Ok(verdict));
     log.extend(RecordValue::Time(9).to_image());
     assert_eq!(judge(&chart, &log), Err((23, 5_000_000)));
-    assert_eq!(fast::judge(&chart, &log), Err((23, 5_000_000)));
     // 22 comes before 23, 30 before both.
     let place = log.len() - 1;
     log[place] = 8;
@@ -372,7 +331,7 @@ fn the_program_s_input() {
     assert_eq!(respond(&[0, 1]), "refused input 41 at 0\n");
     assert_eq!(respond(&[0xFF; 65_536]), "refused input 41 at 0\n");
     assert_eq!(respond(&[0xFF; 65_537]), "refused input 40 at 0\n");
-    let mut input = random::printing_input(&CHART_U, &[]);
+    let mut input = input_of(&CHART_U, &[]);
     while input.len() + 5 <= 65_536 {
         input.extend(RecordValue::Time(0).to_image());
     }

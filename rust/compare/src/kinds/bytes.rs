@@ -3,10 +3,10 @@
 use super::live::{check_standing, feed_live, live_bytes, standing_numbers};
 use super::{number, Kind};
 use crate::difference::{same, Both, Hex};
+use crate::random::{self, Rng};
 use crate::seen::Seen;
 use lsc::LiveMonitor;
 use lsc_reference::monitor::{feed, is_fit};
-use lsc_reference::random::{self, Rng};
 use lsc_reference::reader::read_chart;
 use lsc_reference::value::*;
 

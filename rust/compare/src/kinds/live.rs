@@ -3,11 +3,11 @@
 
 use super::{filled, filled_places, number, Kind, BEYOND};
 use crate::difference::{same, Both, Hex};
+use crate::random::{self, Rng};
 use crate::seen::Seen;
 use lsc::{call, FeedRefusal, LiveMonitor};
-use lsc_reference::log::standing;
+use lsc_reference::log::{standing, write_log};
 use lsc_reference::monitor::feed;
-use lsc_reference::random::{self, Rng};
 use lsc_reference::reader::read_chart;
 use lsc_reference::value::*;
 
@@ -27,7 +27,7 @@ fn make(rng: &mut Rng) -> (Vec<u8>, Vec<u8>) {
     let (bytes, chart) = random::chart(rng, size);
     let count = rng.below(24);
     let feeds = random::feeds(rng, &chart, count);
-    (bytes, random::log_bytes(&feeds))
+    (bytes, write_log(&feeds))
 }
 
 /// The whole records of some bytes; other bytes are passed over.

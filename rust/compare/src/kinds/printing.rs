@@ -2,10 +2,10 @@
 
 use super::{filled, Kind};
 use crate::difference::{same, Both, Hex};
+use crate::random::{hostile_input, Rng};
 use crate::seen::Seen;
 use lsc::call;
 use lsc_reference::print::respond;
-use lsc_reference::random::{hostile_input, Rng};
 
 /// The bytes that `lsc_print` wants for any text.
 pub const ROOM: usize = 169;

@@ -5,10 +5,11 @@ use super::live::{feed_live, live_bytes, records};
 use super::{number, Kind};
 use crate::charts;
 use crate::difference::{same, Both, Hex};
+use crate::random::{self, Rng, Size};
 use crate::seen::Seen;
 use lsc::call;
 use lsc_reference::declarative::{Meaning, Rows};
-use lsc_reference::random::{self, Rng, Size};
+use lsc_reference::log::write_log;
 use lsc_reference::reader::read_chart;
 use lsc_reference::value::*;
 
@@ -33,7 +34,7 @@ fn make(rng: &mut Rng) -> (Vec<u8>, Vec<u8>) {
     };
     let count = rng.below(11);
     let feeds = random::feeds(rng, &chart, count);
-    (bytes, random::log_bytes(&feeds))
+    (bytes, write_log(&feeds))
 }
 
 /// The monitor that a list of feeds means: the row of the unended stretch as fired regions.

@@ -3,10 +3,10 @@
 
 use super::{filled, number, Kind, BEYOND};
 use crate::difference::{same, Both, Hex};
+use crate::random::{self, Rng};
 use crate::seen::Seen;
 use lsc::call;
 use lsc_reference::monitor::{feed, new};
-use lsc_reference::random::{self, Rng};
 use lsc_reference::value::*;
 
 pub const KIND: Kind = Kind {

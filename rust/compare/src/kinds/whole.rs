@@ -2,10 +2,10 @@
 
 use super::{filled_places, Kind};
 use crate::difference::{same, Both};
+use crate::random::{self, Rng, Size};
 use crate::seen::Seen;
 use lsc::{call, Part};
 use lsc_reference::log;
-use lsc_reference::random::{self, Rng, Size};
 use lsc_reference::reader::read_chart;
 use lsc_reference::value::{ChartValue, MAX_RECORDS};
 
@@ -34,7 +34,7 @@ fn some_log(rng: &mut Rng, chart: &ChartValue, size: Size) -> Vec<u8> {
         return random::hostile_log_bytes(rng, chart);
     }
     let count = rng.below(if size == Size::Large { 120 } else { 40 });
-    random::log_bytes(&random::records(rng, chart, count))
+    log::write_log(&random::records(rng, chart, count))
 }
 
 /// The number and the six places that the reference gives.

@@ -2,9 +2,9 @@
 
 use crate::subject::{check, proved, reference, scan, Subject, FED, LONG, ROUNDS};
 use lsc::call;
+use lsc_compare::fast;
 use lsc_compare::kinds::{feed_images, feed_live};
 use lsc_compare::measure::{interleaved, median, ratios};
-use lsc_reference::fast;
 use lsc_reference::reader::read_chart;
 use lsc_reference::value::*;
 use std::hint::black_box;

@@ -2,7 +2,7 @@
 
 use lsc::call;
 use lsc_compare::charts;
-use lsc_reference::fast;
+use lsc_compare::fast;
 use lsc_reference::log::read_log;
 use lsc_reference::reader::read_chart;
 use lsc_reference::value::{ChartValue, RecordValue};

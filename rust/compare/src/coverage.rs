@@ -1,6 +1,6 @@
 //! Counts of what a run of tests has reached.
 
-use crate::value::Answer;
+use lsc_reference::value::Answer;
 use std::collections::BTreeMap;
 
 /// Every refusal document 01 names.

@@ -1,8 +1,8 @@
 //! A second reader of charts, without state: every fault is asked of the list of commands
 //! up to the one at hand. It is compared with the reader on damaged charts.
 
-use lsc_reference::coverage::Coverage;
-use lsc_reference::random::{self, Rng};
+use lsc_compare::coverage::Coverage;
+use lsc_compare::random::{self, Rng};
 use lsc_reference::reader::read_chart;
 use lsc_reference::value::*;
 

@@ -1,13 +1,14 @@
 //! The modules against each other, on seeded random inputs, with counts of what was reached.
 
-use lsc_reference::coverage::Coverage;
+use lsc_compare::coverage::Coverage;
+use lsc_compare::fast;
+use lsc_compare::random::{self, Rng, Size};
 use lsc_reference::declarative::Rows;
-use lsc_reference::log::{judge, read_log, standing, Next};
+use lsc_reference::log::{judge, read_log, standing, write_log, Next};
 use lsc_reference::print::respond;
-use lsc_reference::random::{self, Rng, Size};
 use lsc_reference::reader::read_chart;
 use lsc_reference::value::*;
-use lsc_reference::{fast, log, monitor, well_formed};
+use lsc_reference::{log, monitor, well_formed};
 
 /// Lists of feeds over tiny charts: the steps against all rows.
 fn steps_against_rows(seed: u64, charts: usize, lists: usize) -> Coverage {
@@ -66,7 +67,7 @@ fn judges(seed: u64, charts: usize, logs: usize) -> Coverage {
         for _ in 0..logs {
             let log = if rng.chance(60) {
                 let count = rng.below(if size == Size::Large { 150 } else { 40 });
-                random::log_bytes(&random::records(&mut rng, &chart, count))
+                write_log(&random::records(&mut rng, &chart, count))
             } else {
                 random::hostile_log_bytes(&mut rng, &chart)
             };
@@ -253,7 +254,7 @@ fn programs(seed: u64, count: usize) -> Coverage {
 fn steps_and_rows_agree() {
     let seen = steps_against_rows(1, 1_500, 4);
     println!("steps against rows: {seen:?}");
-    assert!(lsc_reference::coverage::ANSWERS
+    assert!(lsc_compare::coverage::ANSWERS
         .iter()
         .all(|name| seen.answers.contains_key(name)));
 }
@@ -294,7 +295,7 @@ fn a_list_of_feeds_is_the_judge_s_verdict() {
             assert_eq!((answer, after), (fast_answer, quick));
             naive = after;
         }
-        let log = random::log_bytes(&records);
+        let log = write_log(&records);
         assert_eq!(read_log(&log), Ok(records));
         let verdict = judge(&chart, &log).unwrap();
         assert_eq!(verdict.standing, standing(&chart, &naive));
@@ -320,7 +321,7 @@ fn shrinking_finds_a_small_case() {
     let mut found = 0;
     while found < 20 {
         let (bytes, chart) = random::chart(&mut rng, Size::Small);
-        let log = random::log_bytes(&random::records(&mut rng, &chart, 20));
+        let log = write_log(&random::records(&mut rng, &chart, 20));
         if !fails(&bytes, &log) {
             continue;
         }

@@ -1,0 +1,185 @@
+//! A chart's order as masks, made only of a value that accepted bytes give.
+
+use lsc_reference::value::*;
+
+/// The masks that decide readiness. Bit i is region i + 1.
+#[derive(Clone, Copy, Debug)]
+pub struct Masks {
+    pub all: u32,
+    pub prechart: u32,
+    pub plain: u32,
+    pub clocks: u8,
+    /// Regions that share a line with this one, earlier in its half, and the prechart for a
+    /// main region. A set closed under this relation is closed under "above" too.
+    pub above: [u32; MAX_REGIONS],
+}
+
+/// The first `count` bits.
+fn low_bits(count: u8) -> u32 {
+    if count >= 32 {
+        u32::MAX
+    } else {
+        (1 << count) - 1
+    }
+}
+
+/// Whether the term's clocks and relation are such as a reader writes.
+fn term_is_sound(chart: &ChartValue, term: &TermValue) -> bool {
+    let clocks_fit = match term.left {
+        LeftValue::Clock(clock) => clock < chart.clocks,
+        LeftValue::Difference(first, second) => {
+            first < chart.clocks && second < chart.clocks && first != second
+        }
+    };
+    clocks_fit && term.relation <= 4
+}
+
+/// Whether the region's condition and resets are such as a reader writes.
+fn region_is_sound(chart: &ChartValue, region: &RegionValue, main: bool) -> bool {
+    let terms = usize::from(region.term_count);
+    if terms > MAX_TERMS {
+        return false;
+    }
+    let clock_set = low_bits(chart.clocks) as u8;
+    if region.resets & !clock_set != 0 || (region.hot && (terms == 0 || !main)) {
+        return false;
+    }
+    let (used, unused) = region.terms.split_at(terms);
+    used.iter().all(|term| term_is_sound(chart, term))
+        && unused.iter().all(|term| *term == TermValue::ZERO)
+}
+
+/// The lines that the region touches; none if no reader writes such an event.
+fn lines_of(chart: &ChartValue, region: &RegionValue) -> Option<u16> {
+    match region.event {
+        EventValue::Message {
+            source,
+            destination,
+            ..
+        } => {
+            let sound = source < chart.lines && destination < chart.lines && source != destination;
+            sound.then(|| 1 << source | 1 << destination)
+        }
+        EventValue::Plain(lines) => {
+            let line_set = low_bits(chart.lines) as u16;
+            let empty = region.term_count == 0 && region.resets == 0;
+            (lines != 0 && lines & !line_set == 0 && !empty).then_some(lines)
+        }
+    }
+}
+
+/// Puts a region on its lines; the regions that stood on them before.
+fn put(on_line: &mut [u32; 16], lines: u16, bit: u32) -> u32 {
+    let mut before = 0;
+    let mut left = lines;
+    while left != 0 {
+        let line = left.trailing_zeros() as usize;
+        left &= left - 1;
+        before |= on_line[line];
+        on_line[line] |= bit;
+    }
+    before
+}
+
+impl Masks {
+    /// The masks of a chart value; none if no accepted bytes give it (refusal 20).
+    pub fn of(chart: &ChartValue) -> Option<Masks> {
+        let counts_fit = (2..=16).contains(&chart.lines) && chart.clocks <= 8 && chart.count <= 32;
+        if !counts_fit || chart.prechart >= chart.count {
+            return None;
+        }
+        let mut masks = Masks {
+            all: low_bits(chart.count),
+            prechart: low_bits(chart.prechart),
+            plain: 0,
+            clocks: chart.clocks,
+            above: [0; MAX_REGIONS],
+        };
+        // Regions of this half on each line, so far.
+        let mut on_line = [0; 16];
+        let mut base = 0;
+        let (used, unused) = chart.regions.split_at(usize::from(chart.count));
+        for (place, region) in used.iter().enumerate() {
+            if place == usize::from(chart.prechart) {
+                on_line = [0; 16];
+                base = masks.prechart;
+            }
+            if !region_is_sound(chart, region, place >= usize::from(chart.prechart)) {
+                return None;
+            }
+            let bit = 1 << place;
+            let above = put(&mut on_line, lines_of(chart, region)?, bit) | base;
+            if matches!(region.event, EventValue::Plain(_)) {
+                if above == 0 {
+                    return None;
+                }
+                masks.plain |= bit;
+            }
+            masks.above[place] = above;
+        }
+        let rest_is_zero = unused.iter().all(|region| *region == RegionValue::ZERO);
+        rest_is_zero.then_some(masks)
+    }
+
+    /// Whether all above an unfired region are fired.
+    pub fn is_ready(&self, fired: u32, place: usize) -> bool {
+        self.above[place] & !fired == 0
+    }
+
+    /// The lowest ready region among those given, all unfired.
+    pub fn lowest_ready(&self, fired: u32, among: u32) -> Option<usize> {
+        let mut left = among;
+        while left != 0 {
+            let place = left.trailing_zeros() as usize;
+            if self.is_ready(fired, place) {
+                return Some(place);
+            }
+            left &= left - 1;
+        }
+        None
+    }
+
+    /// Refusal 21's test.
+    pub fn is_fit(&self, monitor: &MonitorValue) -> bool {
+        self.fired_fit(monitor.fired) && self.resets_fit(monitor) && self.break_fits(monitor)
+    }
+
+    /// Whether the fired regions are the chart's, closed upwards and not all.
+    fn fired_fit(&self, fired: u32) -> bool {
+        if fired & !self.all != 0 || fired == self.all {
+            return false;
+        }
+        let mut left = fired;
+        while left != 0 {
+            if !self.is_ready(fired, left.trailing_zeros() as usize) {
+                return false;
+            }
+            left &= left - 1;
+        }
+        true
+    }
+
+    /// Whether the reset moments are not behind now, and those of no clock zero.
+    fn resets_fit(&self, monitor: &MonitorValue) -> bool {
+        let (used, unused) = monitor.resets.split_at(usize::from(self.clocks));
+        used.iter().all(|&moment| moment <= monitor.now) && unused.iter().all(|&moment| moment == 0)
+    }
+
+    /// Whether the counts and the break go together.
+    fn break_fits(&self, monitor: &MonitorValue) -> bool {
+        let (fired, records) = (monitor.fired, monitor.records);
+        if records > MAX_RECORDS
+            || monitor.kept > records
+            || monitor.dropped > records - monitor.kept
+        {
+            return false;
+        }
+        match monitor.reason {
+            0 => {
+                monitor.break_record == 0 && self.lowest_ready(fired, self.plain & !fired).is_none()
+            }
+            1 | 2 => monitor.break_record != 0 && monitor.break_record <= records,
+            _ => false,
+        }
+    }
+}

@@ -1,0 +1,96 @@
+//! A running monitor, its moments in one row.
+
+use super::masks::Masks;
+use lsc_reference::value::*;
+
+/// Place of "now" among the moments, behind the eight clocks.
+pub const NOW: usize = MAX_CLOCKS;
+
+/// The clocks' reset moments, then now.
+pub type Moments = [u32; NOW + 1];
+
+/// A running monitor.
+#[derive(Clone, Copy, Debug)]
+pub struct State {
+    pub fired: u32,
+    pub(super) moments: Moments,
+    pub records: u32,
+    pub kept: u32,
+    pub dropped: u32,
+    pub break_record: u32,
+    pub reason: u8,
+}
+
+impl State {
+    pub const FRESH: State = State {
+        fired: 0,
+        moments: [0; NOW + 1],
+        records: 0,
+        kept: 0,
+        dropped: 0,
+        break_record: 0,
+        reason: 0,
+    };
+
+    pub fn now(&self) -> u32 {
+        self.moments[NOW]
+    }
+
+    pub(super) fn of(monitor: &MonitorValue) -> State {
+        let mut moments = [monitor.now; NOW + 1];
+        moments[..NOW].copy_from_slice(&monitor.resets);
+        State {
+            fired: monitor.fired,
+            moments,
+            records: monitor.records,
+            kept: monitor.kept,
+            dropped: monitor.dropped,
+            break_record: monitor.break_record,
+            reason: monitor.reason,
+        }
+    }
+
+    pub fn to_value(&self) -> MonitorValue {
+        let mut resets = [0; MAX_CLOCKS];
+        resets.copy_from_slice(&self.moments[..NOW]);
+        MonitorValue {
+            fired: self.fired,
+            resets,
+            now: self.moments[NOW],
+            records: self.records,
+            kept: self.kept,
+            dropped: self.dropped,
+            break_record: self.break_record,
+            reason: self.reason,
+        }
+    }
+
+    /// Counts a record, whose time becomes now.
+    #[inline]
+    pub(super) fn count(&mut self, time: u32) {
+        self.records += 1;
+        self.moments[NOW] = time;
+    }
+
+    /// Returns to the opening, at this moment.
+    pub(super) fn reopen(&mut self, masks: &Masks) {
+        self.fired = 0;
+        let now = self.moments[NOW];
+        self.moments[..usize::from(masks.clocks)].fill(now);
+    }
+
+    pub(super) fn drop_round(&mut self, masks: &Masks) -> Answer {
+        self.dropped += 1;
+        self.reopen(masks);
+        Answer::Dropped
+    }
+
+    pub(super) fn break_round(&mut self, reason: u8) -> Answer {
+        self.break_record = self.records;
+        self.reason = reason;
+        Answer::Broken {
+            record: self.records,
+            reason,
+        }
+    }
+}
