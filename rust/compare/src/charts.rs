@@ -89,7 +89,7 @@ pub fn keeping_log(chart: &ChartValue, count: usize, seed: u64) -> Vec<u8> {
     for _ in 0..count {
         let record = next_record(&mut rng, chart, &plan, &state);
         plan.take_record(&mut state, &record);
-        log.extend(record.to_image());
+        log.extend(record.to_bytes());
     }
     assert_eq!(state.reason, 0, "the log breaks its chart");
     log
@@ -102,7 +102,7 @@ pub fn breaking_log(chart: &ChartValue, log: &[u8]) -> Vec<u8> {
     let mut state = State::FRESH;
     let mut broken = Vec::with_capacity(log.len());
     for piece in log_pieces(log) {
-        let Some(record) = RecordValue::from_image(&piece) else {
+        let Some(record) = RecordValue::from_bytes(&piece) else {
             continue;
         };
         if state.reason != 0 {
@@ -115,7 +115,7 @@ pub fn breaking_log(chart: &ChartValue, log: &[u8]) -> Vec<u8> {
             next = again;
         }
         plan.take_record(&mut state, &next);
-        broken.extend(next.to_image());
+        broken.extend(next.to_bytes());
     }
     broken
 }
@@ -125,13 +125,12 @@ fn next_record(rng: &mut Rng, chart: &ChartValue, plan: &Plan, state: &State) ->
     let ready = plan.ready_messages(state);
     match rng.below(100) {
         0..=3 => return RecordValue::Time(time),
-        4..=7 => return message(&RegionValue::ZERO, time),
+        4..=7 => return FOREIGN.at(time),
         8..=12 if state.fired == 0 => {
             // A message of the chart that nothing awaits: the round is dropped.
             let last = usize::from(chart.count) - 1;
             let unready = (0..=last).rev().find(|&place| {
-                (ready >> place) & 1 == 0
-                    && matches!(chart.regions[place].event, EventValue::Message { .. })
+                (ready >> place) & 1 == 0 && chart.regions[place].message().is_some()
             });
             if let (Some(place), true) = (unready, chart.prechart > 0) {
                 return message(&chart.regions[place], time);
@@ -145,22 +144,16 @@ fn next_record(rng: &mut Rng, chart: &ChartValue, plan: &Plan, state: &State) ->
     message(&chart.regions[rng.pick(&places)], time)
 }
 
+/// A message of no region.
+const FOREIGN: Message = Message {
+    source: 1,
+    destination: 1,
+    label: 0xFFFF,
+};
+
 /// The region's message at a time; a foreign one for a plain region.
 fn message(region: &RegionValue, time: u32) -> RecordValue {
-    let (source, destination, label) = match region.event {
-        EventValue::Message {
-            source,
-            destination,
-            label,
-        } => (source, destination, label),
-        EventValue::Plain(_) => (1, 1, 0xFFFF),
-    };
-    RecordValue::Message {
-        source,
-        destination,
-        label,
-        time,
-    }
+    region.message().unwrap_or(FOREIGN).at(time)
 }
 
 #[cfg(test)]

@@ -5,6 +5,7 @@ use crate::difference::{same, Both, Difference};
 use crate::kinds::{compare_bytes, compare_judge, compare_print, compare_values, Compare};
 use crate::seen::Seen;
 use lsc::call;
+use lsc_reference::examples::undo;
 use lsc_reference::print::input_of;
 use lsc_reference::reader::read_chart;
 use lsc_reference::value::*;
@@ -36,12 +37,12 @@ pub fn run(seen: &mut Seen) -> Result<(), Box<Difference>> {
 fn judged() -> Vec<Case> {
     let chart = read_chart(&U).expect("chart U is read");
     let full = charts::keeping_log(&chart, MAX_RECORDS as usize, 3);
-    let with = |time: u32| [&full[..], &RecordValue::Time(time).to_image()].concat();
+    let with = |time: u32| [&full[..], &RecordValue::Time(time).to_bytes()].concat();
     let cut = |mut log: Vec<u8>| {
         log.pop();
         log
     };
-    let last = RecordValue::Time(u32::MAX).to_image();
+    let last = RecordValue::Time(u32::MAX).to_bytes();
     vec![
         ("1,000,000 records", compare_judge, U.to_vec(), full.clone()),
         ("1,000,001", compare_judge, U.to_vec(), with(u32::MAX)),
@@ -57,7 +58,7 @@ fn printed() -> Vec<Case> {
     for length in [65_535, 65_536, 65_537, 70_000] {
         let mut input = input_of(&U, &[]);
         while input.len() + 5 <= length {
-            input.extend(RecordValue::Time(7).to_image());
+            input.extend(RecordValue::Time(7).to_bytes());
         }
         let mut ragged = input.clone();
         ragged.resize(length, 2);
@@ -80,19 +81,13 @@ fn fed() -> Vec<Case> {
             now: 10,
             ..MonitorValue::ZERO
         };
-        let undo = RecordValue::Message {
-            source: 0,
-            destination: 1,
-            label: 1,
-            time: 10,
-        };
-        for record in [undo, RecordValue::Time(11), RecordValue::Time(9)] {
+        for record in [undo(10), RecordValue::Time(11), RecordValue::Time(9)] {
             let image = monitor.to_image().to_vec();
-            let second = [image.clone(), record.to_image()].concat();
+            let second = [image.clone(), record.to_bytes()].concat();
             let first = chart.to_image().to_vec();
             cases.push(("a full image", compare_values, first, second));
             let live = [image, (U.len() as u64).to_be_bytes().to_vec(), U.to_vec()].concat();
-            cases.push(("full live bytes", compare_bytes, live, record.to_image()));
+            cases.push(("full live bytes", compare_bytes, live, record.to_bytes()));
         }
     }
     cases

@@ -44,12 +44,12 @@ fn the_widest_heading_is_given() {
 #[test]
 fn the_millionth_record_and_the_next() {
     let chart = read_chart(&CHART_U).unwrap();
-    let mut log = RecordValue::Time(9).to_image().repeat(1_000_000);
+    let mut log = RecordValue::Time(9).to_bytes().repeat(1_000_000);
     let verdict = Verdict {
         records: 1_000_000,
         ..Verdict::ZERO
     };
     assert_eq!(fast::judge(&chart, &log), Ok(verdict));
-    log.extend(RecordValue::Time(9).to_image());
+    log.extend(RecordValue::Time(9).to_bytes());
     assert_eq!(fast::judge(&chart, &log), Err((23, 5_000_000)));
 }

@@ -123,7 +123,7 @@ fn feeds_of_values(seed: u64, charts: usize, feeds: usize) -> Coverage {
             let monitor = random::monitor_value(&mut rng, &chart);
             assert_eq!(MonitorValue::from_image(&monitor.to_image()), Some(monitor));
             let record = random::record_value(&mut rng, &chart, &monitor);
-            assert_eq!(RecordValue::from_image(&record.to_image()), Some(record));
+            assert_eq!(RecordValue::from_bytes(&record.to_bytes()), Some(record));
             let (answer, after) = monitor::feed(&chart, monitor, record);
             assert_eq!(
                 fast::feed(&chart, monitor, record),

@@ -210,11 +210,11 @@ fn value(commands: &[Command]) -> ChartValue {
         let region = &mut chart.regions[number];
         let o = commands[*start].operands;
         region.event = if commands[*start].byte == 0x20 {
-            EventValue::Message {
+            EventValue::Message(Message {
                 source: o[0],
                 destination: o[1],
                 label: u16::from(o[2]) * 256 + u16::from(o[3]),
-            }
+            })
         } else {
             EventValue::Plain(u16::from(o[0]) * 256 + u16::from(o[1]))
         };

@@ -58,18 +58,6 @@ pub fn all_rows(count: usize) -> Vec<Vec<usize>> {
     rows
 }
 
-/// The lines a region touches.
-fn lines(region: &RegionValue) -> BTreeSet<u8> {
-    match region.event {
-        EventValue::Message {
-            source,
-            destination,
-            ..
-        } => BTreeSet::from([source, destination]),
-        EventValue::Plain(set) => (0..16).filter(|line| set & (1 << line) != 0).collect(),
-    }
-}
-
 /// Every region's regions above, found by walking up until nothing is added.
 fn regions_above(chart: &ChartValue) -> Vec<BTreeSet<usize>> {
     let count = usize::from(chart.count);
@@ -77,7 +65,11 @@ fn regions_above(chart: &ChartValue) -> Vec<BTreeSet<usize>> {
     let directly = |b: usize| -> BTreeSet<usize> {
         let from = if b < prechart { 0 } else { prechart };
         (from..b)
-            .filter(|&a| !lines(&chart.regions[a]).is_disjoint(&lines(&chart.regions[b])))
+            .filter(|&a| {
+                chart.regions[a]
+                    .event
+                    .shares_line_with(&chart.regions[b].event)
+            })
             .collect()
     };
     (0..count)
@@ -95,31 +87,6 @@ fn regions_above(chart: &ChartValue) -> Vec<BTreeSet<usize>> {
             found
         })
         .collect()
-}
-
-/// A message without its time.
-fn message(record: &RecordValue) -> Option<(u8, u16, u8)> {
-    match *record {
-        RecordValue::Message {
-            source,
-            destination,
-            label,
-            ..
-        } => Some((source, label, destination)),
-        RecordValue::Time(_) => None,
-    }
-}
-
-/// A region's message.
-fn region_message(region: &RegionValue) -> Option<(u8, u16, u8)> {
-    match region.event {
-        EventValue::Message {
-            source,
-            destination,
-            label,
-        } => Some((source, label, destination)),
-        EventValue::Plain(_) => None,
-    }
 }
 
 impl<'a> Rows<'a> {
@@ -140,10 +107,10 @@ impl<'a> Rows<'a> {
     /// stretch of its chart messages.
     fn chart_messages(&self, stretch: &[RecordValue]) -> Vec<usize> {
         (0..stretch.len())
-            .filter(|&place| match message(&stretch[place]) {
+            .filter(|&place| match stretch[place].message() {
                 None => false,
                 Some(sent) => (0..usize::from(self.chart.count))
-                    .any(|region| region_message(self.region(region)) == Some(sent)),
+                    .any(|region| self.region(region).message() == Some(sent)),
             })
             .collect()
     }
@@ -157,9 +124,9 @@ impl<'a> Rows<'a> {
         let mut current = None;
         let mut records = Vec::new();
         for &region in row {
-            if let Some(carried) = region_message(self.region(region)) {
+            if let Some(carried) = self.region(region).message() {
                 let place = left.next()?;
-                if message(&stretch[place]) != Some(carried) {
+                if stretch[place].message() != Some(carried) {
                     return None;
                 }
                 current = Some(place);
@@ -188,7 +155,7 @@ impl<'a> Rows<'a> {
         (0..=row.len()).all(|place| {
             let stand = &row[..place];
             let due = (0..usize::from(self.chart.count)).find(|region| {
-                region_message(self.region(*region)).is_none()
+                self.region(*region).message().is_none()
                     && !stand.contains(region)
                     && self.above[*region].iter().all(|a| stand.contains(a))
             });
@@ -230,8 +197,7 @@ impl<'a> Rows<'a> {
         let value = |clock: u8| {
             time - i128::from(self.last_reset(row, records, stretch, opening, place, clock))
         };
-        (0..usize::from(region.term_count)).all(|term| {
-            let term = &region.terms[term];
+        region.condition().iter().all(|term| {
             let left = match term.left {
                 LeftValue::Clock(clock) => value(clock),
                 LeftValue::Difference(first, second) => value(first) - value(second),
@@ -326,7 +292,7 @@ impl<'a> Rows<'a> {
         let mut used = 0;
         let mut records = Vec::new();
         for &region in row {
-            if region_message(self.region(region)).is_some() {
+            if self.region(region).message().is_some() {
                 used += 1;
             }
             records.push(messages[used - 1]);

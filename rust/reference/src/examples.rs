@@ -1,6 +1,6 @@
 //! Chart U and the examples over it, for every test that wants them.
 
-use crate::value::RecordValue;
+use crate::value::{Message, RecordValue};
 
 /// "After undo (0 to 1, label 1), headings (1 to 0, label 2) and references (2 to 3, label 3)
 /// come back in either order, each within 40 ticks."
@@ -15,12 +15,12 @@ pub const CHART_U: [u8; 38] = [
 
 /// A message at a time.
 pub const fn message(source: u8, destination: u8, label: u16, time: u32) -> RecordValue {
-    RecordValue::Message {
+    let message = Message {
         source,
         destination,
         label,
-        time,
-    }
+    };
+    message.at(time)
 }
 
 /// Chart U's undo at a time.

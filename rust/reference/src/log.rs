@@ -53,7 +53,7 @@ pub fn read_record(bytes: &[u8], place: usize) -> Next {
     if rest.len() < length {
         return Next::Refused(30);
     }
-    match RecordValue::from_image(&rest[..length]) {
+    match RecordValue::from_bytes(&rest[..length]) {
         Some(record) => Next::Taken(record, place + length),
         None => Next::Refused(31),
     }
@@ -86,7 +86,7 @@ pub fn read_log(bytes: &[u8]) -> Result<Vec<RecordValue>, (u8, usize)> {
 
 /// The records as a log's bytes.
 pub fn write_log(records: &[RecordValue]) -> Vec<u8> {
-    records.iter().flat_map(RecordValue::to_image).collect()
+    records.iter().flat_map(RecordValue::to_bytes).collect()
 }
 
 /// "Standing, the first that applies: 3 broken, 0 nothing fired (also where there is no

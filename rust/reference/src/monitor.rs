@@ -9,18 +9,6 @@ pub struct Order {
     above: Vec<Vec<bool>>,
 }
 
-/// Whether the region touches the line.
-fn touches(region: &RegionValue, line: u8) -> bool {
-    match region.event {
-        EventValue::Message {
-            source,
-            destination,
-            ..
-        } => line == source || line == destination,
-        EventValue::Plain(lines) => (lines >> line) & 1 == 1,
-    }
-}
-
 impl Order {
     /// "Region a is directly above b if a has the lower number, both are in the same half,
     /// and they share a line. 'Above' is the transitive closure. Every prechart region is
@@ -32,10 +20,8 @@ impl Order {
         for (b, row) in above.iter_mut().enumerate() {
             for (a, flag) in row.iter_mut().enumerate() {
                 let same_half = (a < prechart) == (b < prechart);
-                let share = (0..chart.lines).any(|line| {
-                    touches(&chart.regions[a], line) && touches(&chart.regions[b], line)
-                });
-                *flag = a < b && same_half && share;
+                let (above, below) = (&chart.regions[a].event, &chart.regions[b].event);
+                *flag = a < b && same_half && above.shares_line_with(below);
             }
         }
         for middle in 0..count {
@@ -73,14 +59,10 @@ fn is_ready(chart: &ChartValue, order: &Order, fired: u32, region: usize) -> boo
     !has(fired, region) && (0..count).all(|a| !order.is_above(a, region) || has(fired, a))
 }
 
-fn is_plain(region: &RegionValue) -> bool {
-    matches!(region.event, EventValue::Plain(_))
-}
-
 /// The lowest-numbered ready plain region.
 fn ready_plain(chart: &ChartValue, order: &Order, fired: u32) -> Option<usize> {
     (0..usize::from(chart.count))
-        .find(|&r| is_plain(&chart.regions[r]) && is_ready(chart, order, fired, r))
+        .find(|&r| chart.regions[r].message().is_none() && is_ready(chart, order, fired, r))
 }
 
 /// "The phase is prechart while a prechart region is unfired, else main."
@@ -96,22 +78,20 @@ fn all_fired(chart: &ChartValue, fired: u32) -> bool {
 /// 'First minus second' is the exact signed difference."
 fn condition_holds(region: &RegionValue, now: u32, resets: &[u32; MAX_CLOCKS]) -> bool {
     let value = |clock: u8| i64::from(now) - i64::from(resets[usize::from(clock)]);
-    region.terms[..usize::from(region.term_count)]
-        .iter()
-        .all(|term| {
-            let left = match term.left {
-                LeftValue::Clock(clock) => value(clock),
-                LeftValue::Difference(first, second) => value(first) - value(second),
-            };
-            let n = i64::from(term.n);
-            match term.relation {
-                0 => left < n,
-                1 => left <= n,
-                2 => left == n,
-                3 => left >= n,
-                _ => left > n,
-            }
-        })
+    region.condition().iter().all(|term| {
+        let left = match term.left {
+            LeftValue::Clock(clock) => value(clock),
+            LeftValue::Difference(first, second) => value(first) - value(second),
+        };
+        let n = i64::from(term.n);
+        match term.relation {
+            0 => left < n,
+            1 => left <= n,
+            2 => left == n,
+            3 => left >= n,
+            _ => left > n,
+        }
+    })
 }
 
 /// "Making a monitor": a fresh one, or refusal 20.
@@ -218,8 +198,11 @@ fn take(
 
     // 2. "A record of time, or a message that no region of either half has (source, label
     // and destination all equal), does nothing more."
+    let Some(message) = record.message() else {
+        return (Answer::Quiet, after);
+    };
     let carried: Vec<usize> = (0..count)
-        .filter(|&region| has_message(&chart.regions[region], &record))
+        .filter(|&region| chart.regions[region].message() == Some(message))
         .collect();
     if carried.is_empty() {
         return (Answer::Quiet, after);
@@ -273,26 +256,6 @@ fn take(
         (Answer::Entered, after)
     } else {
         (Answer::Moved, after)
-    }
-}
-
-/// "source, label and destination all equal"
-fn has_message(region: &RegionValue, record: &RecordValue) -> bool {
-    match (region.event, *record) {
-        (
-            EventValue::Message {
-                source: s,
-                destination: d,
-                label: l,
-            },
-            RecordValue::Message {
-                source,
-                destination,
-                label,
-                ..
-            },
-        ) => s == source && d == destination && l == label,
-        _ => false,
     }
 }
 

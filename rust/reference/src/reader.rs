@@ -87,7 +87,7 @@ pub fn read_chart(bytes: &[u8]) -> Result<ChartValue, (u8, usize)> {
         if command == HOT && !reading.in_main {
             return Err((8, offset));
         }
-        if command == PLAIN_REGION && reading.none_above(set_of_lines(operands)) {
+        if command == PLAIN_REGION && reading.none_above(&plain(operands)) {
             return Err((9, offset));
         }
         if command == END {
@@ -133,8 +133,7 @@ impl Reading {
     fn close(&mut self) -> Result<(), (u8, usize)> {
         if let Some(open) = self.open.take() {
             let region = &self.chart.regions[usize::from(self.chart.count) - 1];
-            let plain = matches!(region.event, EventValue::Plain(_));
-            if plain && region.term_count == 0 && !open.resets {
+            if region.message().is_none() && region.term_count == 0 && !open.resets {
                 return Err((6, open.offset));
             }
             if open.hot && region.term_count == 0 {
@@ -188,14 +187,14 @@ impl Reading {
     /// "9 a plain region with none above it in the opening half (the prechart, or the main
     /// chart if the prechart is empty)". Something above needs something directly above,
     /// and that is an earlier region of the half on a common line.
-    fn none_above(&self, lines: u16) -> bool {
+    fn none_above(&self, event: &EventValue) -> bool {
         let opening_half = !self.in_main || self.chart.prechart == 0;
         // In the opening half every region read so far lies in the same half.
         let earlier = &self.chart.regions[..usize::from(self.chart.count)];
         opening_half
             && !earlier
                 .iter()
-                .any(|region| lines_touched(&region.event) & lines != 0)
+                .any(|region| region.event.shares_line_with(event))
     }
 
     /// The command's effect, once nothing is wrong with it.
@@ -207,23 +206,19 @@ impl Reading {
                 self.chart.clocks = operands[1];
             }
             MESSAGE_REGION => self.start(
-                EventValue::Message {
-                    source: operands[0],
-                    destination: operands[1],
-                    label: u16::from_be_bytes([operands[2], operands[3]]),
-                },
+                EventValue::Message(Message::from_bytes(four(operands))),
                 offset,
             ),
-            PLAIN_REGION => self.start(EventValue::Plain(set_of_lines(operands)), offset),
+            PLAIN_REGION => self.start(plain(operands), offset),
             CLOCK_TERM => self.add_term(TermValue {
                 left: LeftValue::Clock(operands[0]),
                 relation: operands[1],
-                n: signed(&operands[2..]),
+                n: i32::from_be_bytes(four(&operands[2..])),
             }),
             DIFFERENCE_TERM => self.add_term(TermValue {
                 left: LeftValue::Difference(operands[0], operands[1]),
                 relation: operands[2],
-                n: signed(&operands[3..]),
+                n: i32::from_be_bytes(four(&operands[3..])),
             }),
             HOT => {
                 self.last_region().hot = true;
@@ -266,21 +261,15 @@ impl Reading {
     }
 }
 
+/// A plain region's event.
+fn plain(operands: &[u8]) -> EventValue {
+    EventValue::Plain(set_of_lines(operands))
+}
+
 fn set_of_lines(operands: &[u8]) -> u16 {
     u16::from_be_bytes([operands[0], operands[1]])
 }
 
-fn signed(bytes: &[u8]) -> i32 {
-    i32::from_be_bytes([bytes[0], bytes[1], bytes[2], bytes[3]])
-}
-
-fn lines_touched(event: &EventValue) -> u16 {
-    match *event {
-        EventValue::Message {
-            source,
-            destination,
-            ..
-        } => (1 << source) | (1 << destination),
-        EventValue::Plain(lines) => lines,
-    }
+fn four(operands: &[u8]) -> [u8; 4] {
+    [operands[0], operands[1], operands[2], operands[3]]
 }

@@ -3,6 +3,8 @@
 //! An image is a fixed row of bytes, numbers most significant byte first, that holds a
 //! value and nothing else.
 
+/// "2 to 16 lines".
+pub const MAX_LINES: u8 = 16;
 /// "1 to 32 regions".
 pub const MAX_REGIONS: usize = 32;
 /// "at most one condition of 1 to 4 terms".
@@ -34,15 +36,18 @@ pub struct TermValue {
     pub n: i32,
 }
 
-/// "A message region touches its two lines. A plain region, without a message, touches
-/// the lines it names."
+/// "message (source line, label, destination line)"
+#[derive(Clone, Copy, Debug, PartialEq, Eq)]
+pub struct Message {
+    pub source: u8,
+    pub destination: u8,
+    pub label: u16,
+}
+
+/// What a region waits for.
 #[derive(Clone, Copy, Debug, PartialEq, Eq)]
 pub enum EventValue {
-    Message {
-        source: u8,
-        destination: u8,
-        label: u16,
-    },
+    Message(Message),
     /// The set of lines; bit i is line i.
     Plain(u16),
 }
@@ -87,12 +92,7 @@ pub struct MonitorValue {
 /// A log's record.
 #[derive(Clone, Copy, Debug, PartialEq, Eq)]
 pub enum RecordValue {
-    Message {
-        source: u8,
-        destination: u8,
-        label: u16,
-        time: u32,
-    },
+    Message { message: Message, time: u32 },
     Time(u32),
 }
 
@@ -107,6 +107,47 @@ pub enum Answer {
     Entered,
     Moved,
     Quiet,
+}
+
+impl Message {
+    /// The message as it stands in charts and logs: "source(1) destination(1) label(2)".
+    pub const fn to_bytes(self) -> [u8; 4] {
+        let [high, low] = self.label.to_be_bytes();
+        [self.source, self.destination, high, low]
+    }
+
+    /// The message of such bytes.
+    pub const fn from_bytes([source, destination, high, low]: [u8; 4]) -> Message {
+        Message {
+            source,
+            destination,
+            label: u16::from_be_bytes([high, low]),
+        }
+    }
+
+    /// The record of this message at a time.
+    pub const fn at(self, time: u32) -> RecordValue {
+        RecordValue::Message {
+            message: self,
+            time,
+        }
+    }
+}
+
+impl EventValue {
+    /// "A message region touches its two lines. A plain region, without a message, touches
+    /// the lines it names."
+    fn touches(&self, line: u8) -> bool {
+        match *self {
+            EventValue::Message(message) => line == message.source || line == message.destination,
+            EventValue::Plain(lines) => (lines >> line) & 1 == 1,
+        }
+    }
+
+    /// "they share a line"
+    pub fn shares_line_with(&self, other: &EventValue) -> bool {
+        (0..MAX_LINES).any(|line| self.touches(line) && other.touches(line))
+    }
 }
 
 impl TermValue {
@@ -125,6 +166,19 @@ impl RegionValue {
         hot: false,
         resets: 0,
     };
+
+    /// The region's message; none for a plain region.
+    pub fn message(&self) -> Option<Message> {
+        match self.event {
+            EventValue::Message(message) => Some(message),
+            EventValue::Plain(_) => None,
+        }
+    }
+
+    /// The condition's terms.
+    pub fn condition(&self) -> &[TermValue] {
+        &self.terms[..usize::from(self.term_count)]
+    }
 }
 
 impl ChartValue {
@@ -179,15 +233,9 @@ impl ChartValue {
 
 fn put_region(region: &RegionValue, place: &mut [u8]) {
     match region.event {
-        EventValue::Message {
-            source,
-            destination,
-            label,
-        } => {
+        EventValue::Message(message) => {
             place[0] = 1;
-            place[1] = source;
-            place[2] = destination;
-            place[3..5].copy_from_slice(&label.to_be_bytes());
+            place[1..5].copy_from_slice(&message.to_bytes());
         }
         EventValue::Plain(lines) => {
             place[0] = 0;
@@ -219,11 +267,9 @@ fn get_region(place: &[u8]) -> Option<RegionValue> {
         0 if place[3] == 0 && place[4] == 0 => {
             EventValue::Plain(u16::from_be_bytes([place[1], place[2]]))
         }
-        1 => EventValue::Message {
-            source: place[1],
-            destination: place[2],
-            label: u16::from_be_bytes([place[3], place[4]]),
-        },
+        1 => EventValue::Message(Message::from_bytes([
+            place[1], place[2], place[3], place[4],
+        ])),
         _ => return None,
     };
     let hot = match place[5] {
@@ -318,37 +364,43 @@ impl RecordValue {
         }
     }
 
-    /// "01 source(1) destination(1) label(2) time(4): a message. 02 time(4): time passes."
-    pub fn to_image(&self) -> Vec<u8> {
-        let mut image = Vec::new();
+    /// The record's message; none for a record of time.
+    pub fn message(&self) -> Option<Message> {
         match *self {
-            RecordValue::Message {
-                source,
-                destination,
-                label,
-                time,
-            } => {
-                image.extend([1, source, destination]);
-                image.extend(label.to_be_bytes());
-                image.extend(time.to_be_bytes());
-            }
-            RecordValue::Time(time) => {
-                image.push(2);
-                image.extend(time.to_be_bytes());
-            }
+            RecordValue::Message { message, .. } => Some(message),
+            RecordValue::Time(_) => None,
         }
-        image
     }
 
-    /// The record of an image; none if the length or the record byte is wrong.
-    pub fn from_image(image: &[u8]) -> Option<RecordValue> {
-        match *image {
-            [1, source, destination, l0, l1, t0, t1, t2, t3] => Some(RecordValue::Message {
-                source,
-                destination,
-                label: u16::from_be_bytes([l0, l1]),
-                time: u32::from_be_bytes([t0, t1, t2, t3]),
-            }),
+    /// The record at another time.
+    pub fn with_time(self, time: u32) -> RecordValue {
+        match self {
+            RecordValue::Message { message, .. } => message.at(time),
+            RecordValue::Time(_) => RecordValue::Time(time),
+        }
+    }
+
+    /// "01 source(1) destination(1) label(2) time(4): a message. 02 time(4): time passes."
+    pub fn to_bytes(&self) -> Vec<u8> {
+        let mut bytes = Vec::new();
+        match *self {
+            RecordValue::Message { message, .. } => {
+                bytes.push(1);
+                bytes.extend(message.to_bytes());
+            }
+            RecordValue::Time(_) => bytes.push(2),
+        }
+        bytes.extend(self.time().to_be_bytes());
+        bytes
+    }
+
+    /// The record of such bytes; none if the length or the record byte is wrong.
+    pub fn from_bytes(bytes: &[u8]) -> Option<RecordValue> {
+        match *bytes {
+            [1, m0, m1, m2, m3, t0, t1, t2, t3] => {
+                let message = Message::from_bytes([m0, m1, m2, m3]);
+                Some(message.at(u32::from_be_bytes([t0, t1, t2, t3])))
+            }
             [2, t0, t1, t2, t3] => Some(RecordValue::Time(u32::from_be_bytes([t0, t1, t2, t3]))),
             _ => None,
         }

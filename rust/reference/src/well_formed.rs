@@ -17,13 +17,9 @@ pub fn write_chart(chart: &ChartValue) -> Option<Vec<u8>> {
             bytes.push(0x50);
         }
         match region.event {
-            EventValue::Message {
-                source,
-                destination,
-                label,
-            } => {
-                bytes.extend([0x20, source, destination]);
-                bytes.extend(label.to_be_bytes());
+            EventValue::Message(message) => {
+                bytes.push(0x20);
+                bytes.extend(message.to_bytes());
             }
             EventValue::Plain(lines) => {
                 bytes.push(0x21);

@@ -308,13 +308,13 @@ fn reading_one_record_at_every_place() {
 #[test]
 fn the_millionth_record_and_the_next() {
     let chart = read_chart(&CHART_U).unwrap();
-    let mut log = RecordValue::Time(9).to_image().repeat(1_000_000);
+    let mut log = RecordValue::Time(9).to_bytes().repeat(1_000_000);
     let verdict = Verdict {
         records: 1_000_000,
         ..Verdict::ZERO
     };
     assert_eq!(judge(&chart, &log), Ok(verdict));
-    log.extend(RecordValue::Time(9).to_image());
+    log.extend(RecordValue::Time(9).to_bytes());
     assert_eq!(judge(&chart, &log), Err((23, 5_000_000)));
     // 22 comes before 23, 30 before both.
     let place = log.len() - 1;
@@ -333,7 +333,7 @@ fn the_program_s_input() {
     assert_eq!(respond(&[0xFF; 65_537]), "refused input 40 at 0\n");
     let mut input = input_of(&CHART_U, &[]);
     while input.len() + 5 <= 65_536 {
-        input.extend(RecordValue::Time(0).to_image());
+        input.extend(RecordValue::Time(0).to_bytes());
     }
     let records = (65_536 - 40) / 5;
     assert_eq!(

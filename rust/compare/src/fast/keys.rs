@@ -1,5 +1,7 @@
 //! Which regions have a message: a table found by one multiplication.
 
+use lsc_reference::value::Message;
+
 /// Slots of the table.
 const SLOTS: usize = 256;
 
@@ -18,8 +20,9 @@ pub struct Keys {
 }
 
 /// A message as one number: source, destination, label.
-pub fn key_of(source: u8, destination: u8, label: u16) -> u32 {
-    u32::from(source) << 24 | u32::from(destination) << 16 | u32::from(label)
+#[inline]
+pub fn key_of(message: Message) -> u32 {
+    u32::from_be_bytes(message.to_bytes())
 }
 
 #[inline]

@@ -52,11 +52,11 @@ fn region_is_sound(chart: &ChartValue, region: &RegionValue, main: bool) -> bool
 /// The lines that the region touches; none if no reader writes such an event.
 fn lines_of(chart: &ChartValue, region: &RegionValue) -> Option<u16> {
     match region.event {
-        EventValue::Message {
+        EventValue::Message(Message {
             source,
             destination,
             ..
-        } => {
+        }) => {
             let sound = source < chart.lines && destination < chart.lines && source != destination;
             sound.then(|| 1 << source | 1 << destination)
         }

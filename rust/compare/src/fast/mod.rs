@@ -59,20 +59,10 @@ pub fn feed(
 
 /// The regions that have the record's message.
 fn carriers(chart: &ChartValue, record: &RecordValue) -> u32 {
-    let RecordValue::Message {
-        source,
-        destination,
-        label,
-        ..
-    } = *record
-    else {
+    let Some(message) = record.message() else {
         return 0;
     };
-    let event = EventValue::Message {
-        source,
-        destination,
-        label,
-    };
+    let event = EventValue::Message(message);
     let mut carriers = 0;
     for (place, region) in chart.regions[..usize::from(chart.count)].iter().enumerate() {
         carriers |= u32::from(region.event == event) << place;

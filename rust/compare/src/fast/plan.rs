@@ -49,13 +49,8 @@ impl Regions for Plan {
 fn keys_of(regions: &[RegionValue]) -> Vec<(u32, u32)> {
     let mut keys: Vec<(u32, u32)> = Vec::with_capacity(regions.len());
     for (place, region) in regions.iter().enumerate() {
-        if let EventValue::Message {
-            source,
-            destination,
-            label,
-        } = region.event
-        {
-            let key = key_of(source, destination, label);
+        if let Some(message) = region.message() {
+            let key = key_of(message);
             match keys.iter_mut().find(|(known, _)| *known == key) {
                 Some((_, carriers)) => *carriers |= 1 << place,
                 None => keys.push((key, 1 << place)),
@@ -91,7 +86,7 @@ impl Plan {
             plan.hot |= u32::from(region.hot) << place;
             plan.resets[place] = region.resets;
             plan.woken[place] = woken_by(&masks, place);
-            for term in &region.terms[..usize::from(region.term_count)] {
+            for term in region.condition() {
                 plan.terms[terms] = PackedTerm::of(term);
                 terms += 1;
             }
@@ -104,17 +99,13 @@ impl Plan {
     #[inline]
     pub fn take_record(&self, state: &mut State, record: &RecordValue) -> Answer {
         state.count(record.time());
-        match *record {
-            RecordValue::Time(_) => Answer::Quiet,
-            RecordValue::Message {
-                source,
-                destination,
-                label,
-                ..
-            } => match self.keys.carriers(key_of(source, destination, label)) {
-                0 => Answer::Quiet,
-                carriers => take(self, &self.masks, state, carriers),
-            },
+        let carriers = match record.message() {
+            None => 0,
+            Some(message) => self.keys.carriers(key_of(message)),
+        };
+        match carriers {
+            0 => Answer::Quiet,
+            carriers => take(self, &self.masks, state, carriers),
         }
     }
 

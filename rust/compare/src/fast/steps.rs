@@ -33,7 +33,8 @@ impl Raw<'_> {
 impl Regions for Raw<'_> {
     fn holds(&self, place: usize, moments: &Moments) -> bool {
         let region = &self.chart.regions[place];
-        region.terms[..usize::from(region.term_count)]
+        region
+            .condition()
             .iter()
             .all(|term| PackedTerm::of(term).holds(moments))
     }

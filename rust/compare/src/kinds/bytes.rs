@@ -48,7 +48,7 @@ fn make(rng: &mut Rng) -> (Vec<u8>, Vec<u8>) {
         7 => live[57..65].fill(255),
         _ => {}
     }
-    (live, record.to_image())
+    (live, record.to_bytes())
 }
 
 /// The chart and the monitor that live bytes hold; none for refusal 20.
@@ -61,7 +61,7 @@ fn parts(live: &[u8]) -> Option<(&[u8], ChartValue, MonitorValue)> {
 }
 
 pub fn compare(before: &[u8], record: &[u8], seen: &mut Seen) -> Result<(), Both> {
-    let record = RecordValue::from_image(record).unwrap_or(RecordValue::Time(0));
+    let record = RecordValue::from_bytes(record).unwrap_or(RecordValue::Time(0));
     let held = parts(before);
     let standing = match &held {
         None => Err(20),

@@ -34,7 +34,7 @@ fn make(rng: &mut Rng) -> (Vec<u8>, Vec<u8>) {
 pub fn records(bytes: &[u8]) -> Vec<RecordValue> {
     random::log_pieces(bytes)
         .iter()
-        .filter_map(|piece| RecordValue::from_image(piece))
+        .filter_map(|piece| RecordValue::from_bytes(piece))
         .collect()
 }
 
@@ -50,12 +50,9 @@ pub fn live_bytes(chart: &[u8], monitor: &MonitorValue) -> Vec<u8> {
 pub fn feed_live(live: &mut [u8], record: &RecordValue) -> u8 {
     match *record {
         RecordValue::Time(time) => call::feed_time(live, time),
-        RecordValue::Message {
-            source,
-            destination,
-            label,
-            time,
-        } => call::feed_message(live, source, destination, label, time),
+        RecordValue::Message { message: m, time } => {
+            call::feed_message(live, m.source, m.destination, m.label, time)
+        }
     }
 }
 
@@ -63,12 +60,9 @@ pub fn feed_live(live: &mut [u8], record: &RecordValue) -> u8 {
 fn feed_safe(monitor: &mut LiveMonitor, record: &RecordValue) -> (u8, Option<(u32, u8)>) {
     let answer = match *record {
         RecordValue::Time(time) => monitor.feed_time(time),
-        RecordValue::Message {
-            source,
-            destination,
-            label,
-            time,
-        } => monitor.feed_message(source, destination, label, time),
+        RecordValue::Message { message: m, time } => {
+            monitor.feed_message(m.source, m.destination, m.label, time)
+        }
     };
     match answer {
         Err(refusal) => (refusal.number(), None),

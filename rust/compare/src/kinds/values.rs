@@ -40,7 +40,7 @@ fn make(rng: &mut Rng) -> (Vec<u8>, Vec<u8>) {
     let monitor = random::monitor_value(rng, &chart);
     let record = random::record_value(rng, &chart, &monitor);
     let mut second = monitor.to_image().to_vec();
-    second.extend(record.to_image());
+    second.extend(record.to_bytes());
     (image, second)
 }
 
@@ -48,18 +48,15 @@ fn make(rng: &mut Rng) -> (Vec<u8>, Vec<u8>) {
 pub fn feed_images(chart: &[u8], monitor: &mut [u8], record: &RecordValue) -> u8 {
     match *record {
         RecordValue::Time(time) => call::test_feed_time(chart, monitor, time),
-        RecordValue::Message {
-            source,
-            destination,
-            label,
-            time,
-        } => call::test_feed_message(chart, monitor, source, destination, label, time),
+        RecordValue::Message { message: m, time } => {
+            call::test_feed_message(chart, monitor, m.source, m.destination, m.label, time)
+        }
     }
 }
 
 pub fn compare(image: &[u8], second: &[u8], seen: &mut Seen) -> Result<(), Both> {
     let (before, record) = second.split_at(second.len().min(MONITOR_IMAGE));
-    let record = RecordValue::from_image(record).unwrap_or(RecordValue::Time(0));
+    let record = RecordValue::from_bytes(record).unwrap_or(RecordValue::Time(0));
     let chart = ChartValue::from_image(image);
 
     let made = match chart.map(|chart| new(&chart)) {

@@ -218,7 +218,7 @@ pub fn hostile_input(rng: &mut Rng) -> Vec<u8> {
             let mut input = input_of(&chart_bytes, &[]);
             let total = 65_530 + rng.below(10);
             while input.len() + 5 <= total {
-                input.extend(RecordValue::Time(7).to_image());
+                input.extend(RecordValue::Time(7).to_bytes());
             }
             if rng.chance(50) {
                 input.resize(total, 2);

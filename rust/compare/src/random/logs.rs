@@ -17,48 +17,35 @@ pub(super) fn gap(rng: &mut Rng, wild: bool) -> u32 {
 
 /// A region's message at a time; none for a plain region.
 pub(super) fn message_of(region: &RegionValue, time: u32) -> Option<RecordValue> {
-    match region.event {
-        EventValue::Message {
-            source,
-            destination,
-            label,
-        } => Some(RecordValue::Message {
-            source,
-            destination,
-            label,
-            time,
-        }),
-        EventValue::Plain(_) => None,
-    }
+    region.message().map(|message| message.at(time))
 }
 
 /// A message near one of the chart's, or any message at all.
 pub(super) fn stray_message(rng: &mut Rng, chart: &ChartValue, time: u32) -> RecordValue {
     let count = usize::from(chart.count).clamp(1, MAX_REGIONS);
     let place = rng.below(count);
-    let near = message_of(&chart.regions[place], time);
-    let (source, destination, label) = match near {
-        Some(RecordValue::Message {
-            source,
-            destination,
-            label,
-            ..
-        }) => (source, destination, label),
-        _ => (rng.byte() % 16, rng.byte() % 16, rng.byte().into()),
-    };
-    let (source, destination, label) = match rng.below(6) {
-        0 => (destination, source, label),
-        1 => (source, destination, label ^ (1 << rng.below(16))),
-        2 => (source ^ (1 << rng.below(8)), destination, label),
-        3 => (source, destination ^ (1 << rng.below(8)), label),
-        4 => (rng.byte(), rng.byte(), rng.draw() as u16),
-        _ => (source, source, label),
-    };
-    RecordValue::Message {
-        source,
-        destination,
-        label,
-        time,
+    let mut message = chart.regions[place].message().unwrap_or_else(|| Message {
+        source: rng.byte() % 16,
+        destination: rng.byte() % 16,
+        label: rng.byte().into(),
+    });
+    match rng.below(6) {
+        0 => std::mem::swap(&mut message.source, &mut message.destination),
+        1 => message.label ^= 1 << rng.below(16),
+        2 => message.source ^= 1 << rng.below(8),
+        3 => message.destination ^= 1 << rng.below(8),
+        4 => message = any_message(rng),
+        _ => message.destination = message.source,
+    }
+    message.at(time)
+}
+
+/// Any message at all.
+fn any_message(rng: &mut Rng) -> Message {
+    Message {
+        source: rng.byte(),
+        destination: rng.byte(),
+        label: rng.draw() as u16,
     }
 }
 
@@ -150,28 +137,10 @@ pub fn feeds(rng: &mut Rng, chart: &ChartValue, count: usize) -> Vec<RecordValue
     let mut list = records(rng, chart, count);
     for record in &mut list {
         if rng.chance(4) {
-            *record = with_time(*record, rng.number());
+            *record = record.with_time(rng.number());
         } else if rng.chance(4) {
-            *record = with_time(*record, record.time().saturating_sub(1));
+            *record = record.with_time(record.time().saturating_sub(1));
         }
     }
     list
-}
-
-/// The record at another time.
-fn with_time(record: RecordValue, time: u32) -> RecordValue {
-    match record {
-        RecordValue::Time(_) => RecordValue::Time(time),
-        RecordValue::Message {
-            source,
-            destination,
-            label,
-            ..
-        } => RecordValue::Message {
-            source,
-            destination,
-            label,
-            time,
-        },
-    }
 }

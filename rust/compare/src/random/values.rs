@@ -24,11 +24,11 @@ fn wild_term(rng: &mut Rng) -> TermValue {
 fn wild_event(rng: &mut Rng) -> EventValue {
     let line = |rng: &mut Rng| rng.pick(&[0, 1, 2, 3, 15, 16, 17, 255]);
     if rng.chance(50) {
-        EventValue::Message {
+        EventValue::Message(Message {
             source: line(rng),
             destination: line(rng),
             label: rng.draw() as u16,
-        }
+        })
     } else {
         EventValue::Plain(rng.pick(&[0, 1, 2, 3, 7, 0x10, 0x8000, 0xFFFF]))
     }
