@@ -91,7 +91,7 @@ pub fn keeping_log(chart: &ChartValue, count: usize, seed: u64) -> Vec<u8> {
         plan.take_record(&mut state, &record);
         log.extend(record.to_bytes());
     }
-    assert_eq!(state.reason, 0, "the log breaks its chart");
+    assert_eq!(state.broken, None, "the log breaks its chart");
     log
 }
 
@@ -105,13 +105,13 @@ pub fn breaking_log(chart: &ChartValue, log: &[u8]) -> Vec<u8> {
         let Some(record) = RecordValue::from_bytes(&piece) else {
             continue;
         };
-        if state.reason != 0 {
+        if state.broken.is_some() {
             broken.extend(piece);
             continue;
         }
         let mut next = record;
         let again = message(&chart.regions[0], record.time());
-        if let Answer::Broken { .. } = plan.take_record(&mut state.clone(), &again) {
+        if let Answer::Broken(_) = plan.take_record(&mut state.clone(), &again) {
             next = again;
         }
         plan.take_record(&mut state, &next);
@@ -176,7 +176,8 @@ mod tests {
         assert!(chart.regions.iter().all(|region| region.term_count == 4));
         let log = keeping_log(&chart, 10_000, 1);
         let verdict = judge(&chart, &breaking_log(&chart, &log)).unwrap();
-        assert!((7..40).contains(&verdict.break_record), "{verdict:?}");
+        let (record, _) = Break::numbers(verdict.broken);
+        assert!((7..40).contains(&record), "{verdict:?}");
         let verdict = judge(&chart, &log).unwrap();
         assert!(verdict.kept > 350, "{verdict:?}");
         assert!((1..60).contains(&verdict.dropped), "{verdict:?}");

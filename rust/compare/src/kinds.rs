@@ -102,7 +102,7 @@ fn filled_places(length: usize) -> Vec<u64> {
 pub fn number(answer: &Answer) -> u8 {
     match answer {
         Answer::Refused(number) => *number,
-        Answer::Broken { .. } => 1,
+        Answer::Broken(_) => 1,
         Answer::Kept => 2,
         Answer::Dropped => 3,
         Answer::Entered => 4,
@@ -123,8 +123,9 @@ mod tests {
         let reason = read_chart(chart)
             .ok()
             .and_then(|chart| judge(&chart, log).ok())
-            .map_or(0, |verdict| verdict.reason);
-        same("reason", 0, reason)
+            .and_then(|verdict| verdict.broken)
+            .map(|known| known.reason);
+        same("reason", None, reason)
     }
 
     #[test]

@@ -4,7 +4,7 @@ use lsc_compare::coverage::Coverage;
 use lsc_compare::fast;
 use lsc_compare::random::{self, Rng, Size};
 use lsc_reference::declarative::Rows;
-use lsc_reference::log::{judge, read_log, standing, write_log, Next};
+use lsc_reference::log::{judge, read_log, verdict, write_log, Next};
 use lsc_reference::print::respond;
 use lsc_reference::reader::read_chart;
 use lsc_reference::value::*;
@@ -32,20 +32,7 @@ fn steps_against_rows(seed: u64, charts: usize, lists: usize) -> Coverage {
                 monitor = after;
             }
             assert_eq!(meaning.answers.len(), feeds.len());
-            let fired: u32 = meaning.cut.iter().map(|region| 1 << region).sum();
-            let mut resets = [0; MAX_CLOCKS];
-            resets[..meaning.resets.len()].copy_from_slice(&meaning.resets);
-            let expected = MonitorValue {
-                fired,
-                resets,
-                now: meaning.now,
-                records: meaning.accepted,
-                kept: meaning.kept,
-                dropped: meaning.dropped,
-                break_record: meaning.break_record,
-                reason: meaning.reason,
-            };
-            assert_eq!(monitor, expected, "{bytes:02X?} {feeds:?}");
+            assert_eq!(monitor, meaning.monitor(), "{bytes:02X?} {feeds:?}");
             assert!(monitor::is_fit(&chart, &monitor));
         }
     }
@@ -227,16 +214,8 @@ fn programs(seed: u64, count: usize) -> Coverage {
                 Err((code, offset)) => format!("refused chart {code} at {offset}\n"),
                 Ok(chart) => match fast::judge(&chart, log) {
                     Err((code, offset)) => format!("refused log {code} at {offset}\n"),
-                    Ok(v) => {
-                        let numbers = [
-                            v.standing.into(),
-                            v.kept,
-                            v.dropped,
-                            v.records,
-                            v.break_record,
-                            v.reason.into(),
-                        ];
-                        let words: Vec<String> = numbers.map(|n: u32| n.to_string()).into();
+                    Ok(verdict) => {
+                        let words = verdict.numbers().map(|number| number.to_string());
                         format!(
                             "STANDING KEPT DROPPED RECORDS BREAK REASON\n{}\n",
                             words.join(" ")
@@ -297,25 +276,19 @@ fn a_list_of_feeds_is_the_judge_s_verdict() {
         }
         let log = write_log(&records);
         assert_eq!(read_log(&log), Ok(records));
-        let verdict = judge(&chart, &log).unwrap();
-        assert_eq!(verdict.standing, standing(&chart, &naive));
-        assert_eq!(
-            (verdict.kept, verdict.dropped, verdict.records),
-            (naive.kept, naive.dropped, naive.records)
-        );
-        assert_eq!(
-            (verdict.break_record, verdict.reason),
-            (naive.break_record, naive.reason)
-        );
+        assert_eq!(judge(&chart, &log), Ok(verdict(&chart, &naive)));
     }
 }
 
 #[test]
 fn shrinking_finds_a_small_case() {
-    // A "failure": a log whose verdict is broken by reason 2.
-    let mut fails = |chart: &[u8], log: &[u8]| match read_chart(chart) {
-        Ok(chart) => matches!(judge(&chart, log), Ok(verdict) if verdict.reason == 2),
-        Err(_) => false,
+    // A "failure": a log whose verdict is broken by a condition.
+    let mut fails = |chart: &[u8], log: &[u8]| {
+        read_chart(chart)
+            .ok()
+            .and_then(|chart| judge(&chart, log).ok())
+            .and_then(|verdict| verdict.broken)
+            .is_some_and(|known| known.reason == Reason::ConditionFails)
     };
     let mut rng = Rng::new(8);
     let mut found = 0;

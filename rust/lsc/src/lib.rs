@@ -47,7 +47,7 @@ pub mod raw;
 mod values;
 
 pub use live::LiveMonitor;
-pub use values::{Answer, FeedRefusal, Part, Refusal, Standing, Verdict};
+pub use values::{Answer, FeedRefusal, Part, Reason, Refusal, Standing, Verdict};
 
 /// The places of `out` for a text: `lsc_print` writes at most so many bytes.
 const TEXT_ROOM: usize = 169;

@@ -1,6 +1,6 @@
 //! The safe wrapper on document 01's own examples.
 
-use lsc::{Answer, FeedRefusal, LiveMonitor, Part, Refusal, Standing};
+use lsc::{Answer, FeedRefusal, LiveMonitor, Part, Reason, Refusal, Standing};
 
 /// Document 01's chart U.
 const U: [u8; 38] = [
@@ -86,11 +86,13 @@ fn a_live_monitor_is_stored_and_taken_up_again() {
     assert_eq!(again.standing().standing, Standing::Owed);
     let broken = Answer::Broken {
         record: 3,
-        reason: 1,
+        reason: Reason::NoReadyRegion,
     };
     assert_eq!(again.feed_message(0, 1, 1, 100), Ok(broken));
     assert_eq!(again.feed_time(0), Ok(broken));
     assert_eq!(again.standing().to_string(), "3 0 0 3 3 1");
+    assert_eq!(again.standing().reason, Some(Reason::NoReadyRegion));
+    assert_eq!(monitor.standing().reason, None);
     assert_ne!(again.into_bytes(), monitor.into_bytes());
 }
 

@@ -12,7 +12,7 @@ use std::collections::BTreeSet;
 pub enum Ending {
     Kept,
     Dropped,
-    Broken(u8),
+    Broken(Reason),
 }
 
 /// What a list of feeds means.
@@ -23,8 +23,7 @@ pub struct Meaning {
     pub accepted: u32,
     pub kept: u32,
     pub dropped: u32,
-    pub break_record: u32,
-    pub reason: u8,
+    pub broken: Option<Break>,
     /// The last accepted record's time, or 0.
     pub now: u32,
     /// The cut: the regions (from 0) of the unended last stretch's row, or those left by the
@@ -32,6 +31,25 @@ pub struct Meaning {
     pub cut: BTreeSet<usize>,
     /// Each clock's last reset in that cut, or the opening.
     pub resets: Vec<u32>,
+}
+
+impl Meaning {
+    /// The monitor behind the list.
+    pub fn monitor(&self) -> MonitorValue {
+        let mut resets = [0; MAX_CLOCKS];
+        resets[..self.resets.len()].copy_from_slice(&self.resets);
+        let (break_record, reason) = Break::numbers(self.broken);
+        MonitorValue {
+            fired: self.cut.iter().map(|region| 1 << region).sum(),
+            resets,
+            now: self.now,
+            records: self.accepted,
+            kept: self.kept,
+            dropped: self.dropped,
+            break_record,
+            reason,
+        }
+    }
 }
 
 /// A chart with all rows of its regions.
@@ -266,7 +284,9 @@ impl<'a> Rows<'a> {
         match self.lawful_row(stretch, opening, true) {
             // "Still no row: broken, reason 1, if the stretch's row up to the record before
             // has every prechart region, else dropped."
-            None if self.has_prechart(row_before) => (Ending::Broken(1), row_before.to_vec()),
+            None if self.has_prechart(row_before) => {
+                (Ending::Broken(Reason::NoReadyRegion), row_before.to_vec())
+            }
             None => (Ending::Dropped, Vec::new()),
             // "Otherwise, in the row there then is, the first region whose condition fails
             // decides: hot, broken, reason 2; cold, dropped."
@@ -276,7 +296,10 @@ impl<'a> Rows<'a> {
                     .find(|&place| !self.condition_holds(row, &records, stretch, opening, place))
                     .expect("the row is not lawful without sparing");
                 if self.region(row[failing]).hot {
-                    (Ending::Broken(2), row[..failing].to_vec())
+                    (
+                        Ending::Broken(Reason::ConditionFails),
+                        row[..failing].to_vec(),
+                    )
                 } else {
                     (Ending::Dropped, Vec::new())
                 }
@@ -309,8 +332,7 @@ impl<'a> Rows<'a> {
             accepted: 0,
             kept: 0,
             dropped: 0,
-            break_record: 0,
-            reason: 0,
+            broken: None,
             now: 0,
             cut: BTreeSet::new(),
             resets: vec![0; usize::from(self.chart.clocks)],
@@ -326,11 +348,8 @@ impl<'a> Rows<'a> {
         for record in feeds {
             // "A record not accepted gets its refusal or, behind a broken stretch, the
             // broken answer again."
-            if meaning.reason != 0 {
-                meaning.answers.push(Answer::Broken {
-                    record: meaning.break_record,
-                    reason: meaning.reason,
-                });
+            if let Some(known) = meaning.broken {
+                meaning.answers.push(Answer::Broken(known));
                 continue;
             }
             if record.time() < meaning.now {
@@ -380,12 +399,10 @@ impl<'a> Rows<'a> {
                 // "the break is ... the number of accepted records and the broken stretch's
                 // reason"; "behind a broken stretch there is none"
                 Ending::Broken(reason) => {
-                    meaning.break_record = meaning.accepted;
-                    meaning.reason = reason;
-                    meaning.answers.push(Answer::Broken {
-                        record: meaning.accepted,
-                        reason,
-                    });
+                    let record = meaning.accepted;
+                    let known = Break { record, reason };
+                    meaning.broken = Some(known);
+                    meaning.answers.push(Answer::Broken(known));
                     continue;
                 }
             }

@@ -21,8 +21,7 @@ pub struct Verdict {
     pub kept: u32,
     pub dropped: u32,
     pub records: u32,
-    pub break_record: u32,
-    pub reason: u8,
+    pub broken: Option<Break>,
 }
 
 impl Verdict {
@@ -32,9 +31,22 @@ impl Verdict {
         kept: 0,
         dropped: 0,
         records: 0,
-        break_record: 0,
-        reason: 0,
+        broken: None,
     };
+
+    /// The verdict's fields as numbers.
+    pub fn numbers(&self) -> [u32; 6] {
+        let (record, reason) = Break::numbers(self.broken);
+        let standing = self.standing.into();
+        [
+            standing,
+            self.kept,
+            self.dropped,
+            self.records,
+            record,
+            reason.into(),
+        ]
+    }
 }
 
 /// "With the place at or past the end of the bytes, it says 'end'; otherwise 31 or 30 as in
@@ -91,8 +103,8 @@ pub fn write_log(records: &[RecordValue]) -> Vec<u8> {
 
 /// "Standing, the first that applies: 3 broken, 0 nothing fired (also where there is no
 /// prechart; choice), 1 in the prechart, 2 owed in the main chart."
-pub fn standing(chart: &ChartValue, monitor: &MonitorValue) -> u8 {
-    if monitor.reason != 0 {
+fn standing(chart: &ChartValue, monitor: &MonitorValue) -> u8 {
+    if monitor.broken().is_some() {
         3
     } else if monitor.fired == 0 {
         0
@@ -100,6 +112,17 @@ pub fn standing(chart: &ChartValue, monitor: &MonitorValue) -> u8 {
         1
     } else {
         2
+    }
+}
+
+/// The verdict that a fit monitor stands for.
+pub fn verdict(chart: &ChartValue, monitor: &MonitorValue) -> Verdict {
+    Verdict {
+        standing: standing(chart, monitor),
+        kept: monitor.kept,
+        dropped: monitor.dropped,
+        records: monitor.records,
+        broken: monitor.broken(),
     }
 }
 
@@ -114,12 +137,5 @@ pub fn judge(chart: &ChartValue, bytes: &[u8]) -> Result<Verdict, (u8, usize)> {
     for record in records {
         monitor = feed_fit(chart, &order, monitor, record).1;
     }
-    Ok(Verdict {
-        standing: standing(chart, &monitor),
-        kept: monitor.kept,
-        dropped: monitor.dropped,
-        records: monitor.records,
-        break_record: monitor.break_record,
-        reason: monitor.reason,
-    })
+    Ok(verdict(chart, &monitor))
 }

@@ -134,10 +134,9 @@ fn is_fit_under(chart: &ChartValue, order: &Order, monitor: &MonitorValue) -> bo
     let counts = monitor.records <= MAX_RECORDS
         && u64::from(monitor.kept) + u64::from(monitor.dropped) <= u64::from(monitor.records);
     // "the break is two zeros, or a record from 1 to the count with reason 1 or 2"
-    let break_fits = match monitor.reason {
-        0 => monitor.break_record == 0,
-        1 | 2 => (1..=monitor.records).contains(&monitor.break_record),
-        _ => false,
+    let break_fits = match monitor.broken() {
+        Some(known) => (1..=monitor.records).contains(&known.record),
+        None => monitor.break_record == 0 && monitor.reason == 0,
     };
     closed && within && unfinished && settled && moments && counts && break_fits
 }
@@ -166,12 +165,8 @@ pub fn feed_fit(
     monitor: MonitorValue,
     record: RecordValue,
 ) -> (Answer, MonitorValue) {
-    if monitor.reason != 0 {
-        let again = Answer::Broken {
-            record: monitor.break_record,
-            reason: monitor.reason,
-        };
-        return (again, monitor);
+    if let Some(known) = monitor.broken() {
+        return (Answer::Broken(known), monitor);
     }
     if record.time() < monitor.now {
         return (Answer::Refused(22), monitor);
@@ -219,7 +214,7 @@ fn take(
         return if in_prechart(chart, before.fired) {
             drop_round(chart, after)
         } else {
-            break_round(after, 1)
+            break_round(after, Reason::NoReadyRegion)
         };
     };
 
@@ -232,7 +227,7 @@ fn take(
         if !condition_holds(region, after.now, &after.resets) {
             // 7. "A condition that fails: cold, the round is dropped; hot, broken, reason 2."
             return if region.hot {
-                break_round(after, 2)
+                break_round(after, Reason::ConditionFails)
             } else {
                 drop_round(chart, after)
             };
@@ -276,12 +271,9 @@ fn drop_round(chart: &ChartValue, mut monitor: MonitorValue) -> (Answer, Monitor
 
 /// "A break stores its record and reason; fired regions and clocks are those just before
 /// the failing region, or, for reason 1, before the record."
-fn break_round(mut monitor: MonitorValue, reason: u8) -> (Answer, MonitorValue) {
-    monitor.break_record = monitor.records;
-    monitor.reason = reason;
-    let answer = Answer::Broken {
-        record: monitor.break_record,
-        reason,
-    };
-    (answer, monitor)
+fn break_round(mut monitor: MonitorValue, reason: Reason) -> (Answer, MonitorValue) {
+    let record = monitor.records;
+    monitor.break_record = record;
+    monitor.reason = reason.number();
+    (Answer::Broken(Break { record, reason }), monitor)
 }

@@ -32,16 +32,10 @@ pub fn respond(input: &[u8]) -> String {
     // each line"
     match judge(&chart, log) {
         Err((code, offset)) => refused("log", code, offset),
-        Ok(verdict) => format!(
-            "{}\n{} {} {} {} {} {}\n",
-            HEADER,
-            verdict.standing,
-            verdict.kept,
-            verdict.dropped,
-            verdict.records,
-            verdict.break_record,
-            verdict.reason
-        ),
+        Ok(verdict) => {
+            let words = verdict.numbers().map(|number| number.to_string());
+            format!("{HEADER}\n{}\n", words.join(" "))
+        }
     }
 }
 

@@ -73,6 +73,22 @@ pub struct ChartValue {
     pub regions: [RegionValue; MAX_REGIONS],
 }
 
+/// Why a round is broken.
+#[derive(Clone, Copy, Debug, PartialEq, Eq)]
+pub enum Reason {
+    /// "A chart message with no ready region".
+    NoReadyRegion = 1,
+    /// "A condition that fails", of a hot region.
+    ConditionFails = 2,
+}
+
+/// "the break (record and reason ...)"
+#[derive(Clone, Copy, Debug, PartialEq, Eq)]
+pub struct Break {
+    pub record: u32,
+    pub reason: Reason,
+}
+
 /// "A monitor holds the set of fired regions, each clock's reset moment, now, the counts of
 /// records, kept rounds and dropped rounds, and the break (record and reason, zeros if
 /// none)."
@@ -86,6 +102,7 @@ pub struct MonitorValue {
     pub kept: u32,
     pub dropped: u32,
     pub break_record: u32,
+    /// A reason's number, zero if none; an unfit monitor may have any.
     pub reason: u8,
 }
 
@@ -101,7 +118,7 @@ pub enum RecordValue {
 #[derive(Clone, Copy, Debug, PartialEq, Eq)]
 pub enum Answer {
     Refused(u8),
-    Broken { record: u32, reason: u8 },
+    Broken(Break),
     Kept,
     Dropped,
     Entered,
@@ -147,6 +164,26 @@ impl EventValue {
     /// "they share a line"
     pub fn shares_line_with(&self, other: &EventValue) -> bool {
         (0..MAX_LINES).any(|line| self.touches(line) && other.touches(line))
+    }
+}
+
+impl Reason {
+    pub fn number(self) -> u8 {
+        self as u8
+    }
+
+    /// The reason of a number; none but 1 and 2 have one.
+    pub fn of(number: u8) -> Option<Reason> {
+        [Reason::NoReadyRegion, Reason::ConditionFails]
+            .into_iter()
+            .find(|reason| reason.number() == number)
+    }
+}
+
+impl Break {
+    /// "record and reason, zeros if none"
+    pub fn numbers(broken: Option<Break>) -> (u32, u8) {
+        broken.map_or((0, 0), |known| (known.record, known.reason.number()))
     }
 }
 
@@ -314,6 +351,14 @@ impl MonitorValue {
         break_record: 0,
         reason: 0,
     };
+
+    /// The break of a fit monitor.
+    pub fn broken(&self) -> Option<Break> {
+        Reason::of(self.reason).map(|reason| Break {
+            record: self.break_record,
+            reason,
+        })
+    }
 
     /// The monitor's image.
     pub fn to_image(&self) -> [u8; MONITOR_IMAGE] {

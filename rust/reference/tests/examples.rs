@@ -37,8 +37,9 @@ fn chart_u() {
             .split(' ')
             .map(|word| word.parse().unwrap())
             .collect();
+        let monitor = meaning.monitor();
         assert_eq!(
-            [meaning.kept, meaning.dropped, meaning.break_record],
+            [monitor.kept, monitor.dropped, monitor.break_record],
             [end[1], end[2], end[4]]
         );
     }
@@ -266,10 +267,10 @@ fn a_break_keeps_what_stood_before() {
     ])
     .unwrap();
     let (answer, after) = monitor::feed(&chart, MonitorValue::ZERO, undo(6));
-    let broken = Answer::Broken {
+    let broken = Answer::Broken(Break {
         record: 1,
-        reason: 2,
-    };
+        reason: Reason::ConditionFails,
+    });
     assert_eq!(answer, broken);
     assert_eq!((after.fired, after.resets[0], after.resets[1]), (1, 6, 0));
     assert_eq!((after.now, after.records), (6, 1));

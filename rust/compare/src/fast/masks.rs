@@ -174,11 +174,9 @@ impl Masks {
         {
             return false;
         }
-        match monitor.reason {
-            0 => {
-                monitor.break_record == 0 && self.lowest_ready(fired, self.plain & !fired).is_none()
-            }
-            1 | 2 => monitor.break_record != 0 && monitor.break_record <= records,
+        match (monitor.broken(), monitor.break_record, monitor.reason) {
+            (Some(known), ..) => known.record != 0 && known.record <= records,
+            (None, 0, 0) => self.lowest_ready(fired, self.plain & !fired).is_none(),
             _ => false,
         }
     }

@@ -35,12 +35,8 @@ pub fn feed(
     if !masks.is_fit(&monitor) {
         return (Answer::Refused(21), monitor);
     }
-    if monitor.reason != 0 {
-        let again = Answer::Broken {
-            record: monitor.break_record,
-            reason: monitor.reason,
-        };
-        return (again, monitor);
+    if let Some(known) = monitor.broken() {
+        return (Answer::Broken(known), monitor);
     }
     if record.time() < monitor.now {
         return (Answer::Refused(22), monitor);

@@ -135,7 +135,7 @@ impl Plan {
                 let carriers = self.keys.carriers(u32::from_be_bytes([*k0, *k1, *k2, *k3]));
                 if carriers != 0 {
                     take(self, &self.masks, &mut state, carriers);
-                    if state.reason != 0 {
+                    if state.broken.is_some() {
                         break;
                     }
                 }
@@ -151,13 +151,12 @@ impl Plan {
             kept: state.kept,
             dropped: state.dropped,
             records: state.records,
-            break_record: state.break_record,
-            reason: state.reason,
+            broken: state.broken,
         })
     }
 
     fn standing(&self, state: &State) -> u8 {
-        if state.reason != 0 {
+        if state.broken.is_some() {
             3
         } else if state.fired == 0 {
             0

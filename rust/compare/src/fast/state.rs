@@ -17,8 +17,7 @@ pub struct State {
     pub records: u32,
     pub kept: u32,
     pub dropped: u32,
-    pub break_record: u32,
-    pub reason: u8,
+    pub broken: Option<Break>,
 }
 
 impl State {
@@ -28,8 +27,7 @@ impl State {
         records: 0,
         kept: 0,
         dropped: 0,
-        break_record: 0,
-        reason: 0,
+        broken: None,
     };
 
     pub fn now(&self) -> u32 {
@@ -45,14 +43,14 @@ impl State {
             records: monitor.records,
             kept: monitor.kept,
             dropped: monitor.dropped,
-            break_record: monitor.break_record,
-            reason: monitor.reason,
+            broken: monitor.broken(),
         }
     }
 
     pub fn to_value(&self) -> MonitorValue {
         let mut resets = [0; MAX_CLOCKS];
         resets.copy_from_slice(&self.moments[..NOW]);
+        let (break_record, reason) = Break::numbers(self.broken);
         MonitorValue {
             fired: self.fired,
             resets,
@@ -60,8 +58,8 @@ impl State {
             records: self.records,
             kept: self.kept,
             dropped: self.dropped,
-            break_record: self.break_record,
-            reason: self.reason,
+            break_record,
+            reason,
         }
     }
 
@@ -85,12 +83,10 @@ impl State {
         Answer::Dropped
     }
 
-    pub(super) fn break_round(&mut self, reason: u8) -> Answer {
-        self.break_record = self.records;
-        self.reason = reason;
-        Answer::Broken {
-            record: self.records,
-            reason,
-        }
+    pub(super) fn break_round(&mut self, reason: Reason) -> Answer {
+        let record = self.records;
+        let known = Break { record, reason };
+        self.broken = Some(known);
+        Answer::Broken(known)
     }
 }

@@ -60,7 +60,7 @@ pub fn take<R: Regions>(regions: &R, masks: &Masks, state: &mut State, carriers:
         return if masks.prechart & !before != 0 {
             state.drop_round(masks)
         } else {
-            state.break_round(1)
+            state.break_round(Reason::NoReadyRegion)
         };
     };
     let now = state.now();
@@ -69,7 +69,7 @@ pub fn take<R: Regions>(regions: &R, masks: &Masks, state: &mut State, carriers:
     loop {
         if !regions.holds(place, &state.moments) {
             return if regions.is_hot(place) {
-                state.break_round(2)
+                state.break_round(Reason::ConditionFails)
             } else {
                 state.drop_round(masks)
             };

@@ -6,7 +6,7 @@ use crate::difference::{same, Both, Hex};
 use crate::random::{self, Rng};
 use crate::seen::Seen;
 use lsc::{call, FeedRefusal, LiveMonitor};
-use lsc_reference::log::{standing, write_log};
+use lsc_reference::log::{verdict, write_log};
 use lsc_reference::monitor::feed;
 use lsc_reference::reader::read_chart;
 use lsc_reference::value::*;
@@ -66,7 +66,7 @@ fn feed_safe(monitor: &mut LiveMonitor, record: &RecordValue) -> (u8, Option<(u3
     };
     match answer {
         Err(refusal) => (refusal.number(), None),
-        Ok(lsc::Answer::Broken { record, reason }) => (1, Some((record, reason))),
+        Ok(lsc::Answer::Broken { record, reason }) => (1, Some((record, reason.number()))),
         Ok(lsc::Answer::Kept) => (2, None),
         Ok(lsc::Answer::Dropped) => (3, None),
         Ok(lsc::Answer::Entered) => (4, None),
@@ -77,14 +77,7 @@ fn feed_safe(monitor: &mut LiveMonitor, record: &RecordValue) -> (u8, Option<(u3
 
 /// The six numbers of a fit monitor.
 pub fn standing_numbers(chart: &ChartValue, monitor: &MonitorValue) -> [u64; 6] {
-    [
-        standing(chart, monitor).into(),
-        monitor.kept.into(),
-        monitor.dropped.into(),
-        monitor.records.into(),
-        monitor.break_record.into(),
-        monitor.reason.into(),
-    ]
+    verdict(chart, monitor).numbers().map(u64::from)
 }
 
 /// `lsc_standing` on live bytes: the six numbers or the refusal, and the places beyond.
@@ -174,8 +167,9 @@ pub fn compare(chart: &[u8], log: &[u8], seen: &mut Seen) -> Result<(), Both> {
         let (said, broken) = feed_safe(&mut safe, &record);
         let wanted = (number(&answer), Hex(&live[..65 + chart.len()]));
         same("the safe feed", (said, Hex(safe.as_bytes())), wanted)?;
-        if let Answer::Broken { record, reason } = answer {
-            same("the safe break", broken, Some((record, reason)))?;
+        if let Answer::Broken(known) = answer {
+            let wanted = (known.record, known.reason.number());
+            same("the safe break", broken, Some(wanted))?;
         }
         let words: Vec<String> = numbers.iter().map(u64::to_string).collect();
         let text = safe.standing().to_string();

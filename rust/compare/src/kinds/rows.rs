@@ -8,7 +8,7 @@ use crate::difference::{same, Both, Hex};
 use crate::random::{self, Rng, Size};
 use crate::seen::Seen;
 use lsc::call;
-use lsc_reference::declarative::{Meaning, Rows};
+use lsc_reference::declarative::Rows;
 use lsc_reference::log::write_log;
 use lsc_reference::reader::read_chart;
 use lsc_reference::value::*;
@@ -37,22 +37,6 @@ fn make(rng: &mut Rng) -> (Vec<u8>, Vec<u8>) {
     (bytes, write_log(&feeds))
 }
 
-/// The monitor that a list of feeds means: the row of the unended stretch as fired regions.
-fn meant(meaning: &Meaning) -> MonitorValue {
-    let mut resets = [0; MAX_CLOCKS];
-    resets[..meaning.resets.len()].copy_from_slice(&meaning.resets);
-    MonitorValue {
-        fired: meaning.cut.iter().map(|region| 1 << region).sum(),
-        resets,
-        now: meaning.now,
-        records: meaning.accepted,
-        kept: meaning.kept,
-        dropped: meaning.dropped,
-        break_record: meaning.break_record,
-        reason: meaning.reason,
-    }
-}
-
 pub fn compare(chart: &[u8], log: &[u8], seen: &mut Seen) -> Result<(), Both> {
     let value = match read_chart(chart) {
         Ok(value) if value.count <= MOST_REGIONS => value,
@@ -69,8 +53,8 @@ pub fn compare(chart: &[u8], log: &[u8], seen: &mut Seen) -> Result<(), Both> {
     let wanted: Vec<u8> = meaning.answers.iter().map(number).collect();
     same("answers", said, wanted)?;
     let monitor = MonitorValue::from_image(&live[..MONITOR_IMAGE]);
-    same("the monitor behind", monitor, Some(meant(&meaning)))?;
-    let wanted = live_bytes(chart, &meant(&meaning));
+    same("the monitor behind", monitor, Some(meaning.monitor()))?;
+    let wanted = live_bytes(chart, &meaning.monitor());
     same("live bytes", Hex(&live), Hex(&wanted))?;
     for answer in &meaning.answers {
         seen.answer(answer);

@@ -45,17 +45,7 @@ pub fn expected(chart: &[u8], bytes: &[u8]) -> (u8, [u64; 6]) {
     };
     match result {
         Err((number, offset)) => (number, [part, number.into(), offset as u64, 0, 0, 0]),
-        Ok(v) => {
-            let out = [
-                v.standing.into(),
-                v.kept.into(),
-                v.dropped.into(),
-                v.records.into(),
-                v.break_record.into(),
-                v.reason.into(),
-            ];
-            (0, out)
-        }
+        Ok(verdict) => (0, verdict.numbers().map(u64::from)),
     }
 }
 

@@ -83,7 +83,7 @@ fn awaited_message(
         record = message_of(&chart.regions[place], time);
         let mut tried = *state;
         let answer = plan.take_record(&mut tried, record.as_ref()?);
-        if !matches!(answer, Answer::Dropped | Answer::Broken { .. }) || rng.chance(5) {
+        if !matches!(answer, Answer::Dropped | Answer::Broken(_)) || rng.chance(5) {
             break;
         }
     }
@@ -123,7 +123,7 @@ pub fn records(rng: &mut Rng, chart: &ChartValue, count: usize) -> Vec<RecordVal
         });
         now = record.time();
         if let Some(plan) = &plan {
-            if state.reason == 0 {
+            if state.broken.is_none() {
                 plan.take_record(&mut state, &record);
             }
         }

@@ -135,7 +135,7 @@ fn reached_monitor(rng: &mut Rng, chart: &ChartValue) -> MonitorValue {
     let count = rng.below(16);
     let mut state = State::FRESH;
     for record in records(rng, chart, count) {
-        if state.reason == 0 {
+        if state.broken.is_none() {
             plan.take_record(&mut state, &record);
         }
     }
