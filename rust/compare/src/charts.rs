@@ -2,13 +2,8 @@
 
 use crate::fast::{Plan, State};
 use crate::random::{log_pieces, Rng};
+use lsc_reference::examples::CHART_U;
 use lsc_reference::value::*;
-
-/// Document 01's chart U: after undo, headings and references within 40 ticks.
-pub const U: [u8; 38] = [
-    0x10, 4, 1, 0x20, 0, 1, 0, 1, 0x40, 1, 0x50, 0x20, 1, 0, 0, 2, 0x30, 0, 1, 0, 0, 0, 40, 0x32,
-    0x20, 2, 3, 0, 3, 0x30, 0, 1, 0, 0, 0, 40, 0x32, 0x7F,
-];
 
 /// After m1 with x at least 3: m2 with x at least 2, and m3, in any order.
 const EITHER_ORDER: [u8; 35] = [
@@ -35,7 +30,7 @@ const THROUGH_A_THIRD: [u8; 20] = [
 
 /// Small charts for trying every row.
 pub const SMALL: [&[u8]; 5] = [
-    &U,
+    &CHART_U,
     &EITHER_ORDER,
     &TWO_THEN_ONE,
     &SENT_AGAIN,
@@ -181,7 +176,7 @@ mod tests {
         let verdict = judge(&chart, &log).unwrap();
         assert!(verdict.kept > 350, "{verdict:?}");
         assert!((1..60).contains(&verdict.dropped), "{verdict:?}");
-        let chart = read_chart(&U).unwrap();
+        let chart = read_chart(&CHART_U).unwrap();
         let verdict = judge(&chart, &keeping_log(&chart, 10_000, 1)).unwrap();
         assert!(verdict.kept > 2_500, "{verdict:?}");
         assert!((1..600).contains(&verdict.dropped), "{verdict:?}");

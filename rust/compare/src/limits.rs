@@ -1,11 +1,11 @@
 //! Fixed inputs at the limits: 1,000,000 records, the longest input, sizes that overflow.
 
-use crate::charts::{self, U};
+use crate::charts;
 use crate::difference::{same, Both, Difference};
 use crate::kinds::{compare_bytes, compare_judge, compare_print, compare_values, Compare};
 use crate::seen::Seen;
 use lsc::call;
-use lsc_reference::examples::undo;
+use lsc_reference::examples::{undo, CHART_U};
 use lsc_reference::print::input_of;
 use lsc_reference::reader::read_chart;
 use lsc_reference::value::*;
@@ -35,7 +35,7 @@ pub fn run(seen: &mut Seen) -> Result<(), Box<Difference>> {
 
 /// Logs of 1,000,000 and of 1,000,001 records, with a falling time before and behind.
 fn judged() -> Vec<Case> {
-    let chart = read_chart(&U).expect("chart U is read");
+    let chart = read_chart(&CHART_U).expect("chart U is read");
     let full = charts::keeping_log(&chart, MAX_RECORDS as usize, 3);
     let with = |time: u32| [&full[..], &RecordValue::Time(time).to_bytes()].concat();
     let cut = |mut log: Vec<u8>| {
@@ -43,20 +43,22 @@ fn judged() -> Vec<Case> {
         log
     };
     let last = RecordValue::Time(u32::MAX).to_bytes();
-    vec![
-        ("1,000,000 records", compare_judge, U.to_vec(), full.clone()),
-        ("1,000,001", compare_judge, U.to_vec(), with(u32::MAX)),
-        ("falls at 1,000,001", compare_judge, U.to_vec(), with(0)),
-        ("cut at 1,000,001", compare_judge, U.to_vec(), cut(with(0))),
-        ("the latest time", compare_judge, U.to_vec(), last),
-    ]
+    let logs = [
+        ("1,000,000 records", full.clone()),
+        ("1,000,001", with(u32::MAX)),
+        ("falls at 1,000,001", with(0)),
+        ("cut at 1,000,001", cut(with(0))),
+        ("the latest time", last),
+    ];
+    let case = |(name, log)| -> Case { (name, compare_judge, CHART_U.to_vec(), log) };
+    logs.map(case).into()
 }
 
 /// Inputs about 65,536 bytes long, and short ones.
 fn printed() -> Vec<Case> {
     let mut cases: Vec<Case> = Vec::new();
     for length in [65_535, 65_536, 65_537, 70_000] {
-        let mut input = input_of(&U, &[]);
+        let mut input = input_of(&CHART_U, &[]);
         while input.len() + 5 <= length {
             input.extend(RecordValue::Time(7).to_bytes());
         }
@@ -73,7 +75,7 @@ fn printed() -> Vec<Case> {
 
 /// Monitors with 999,999, 1,000,000 and 1,000,001 records, fed as images and as live bytes.
 fn fed() -> Vec<Case> {
-    let chart = read_chart(&U).expect("chart U is read");
+    let chart = read_chart(&CHART_U).expect("chart U is read");
     let mut cases: Vec<Case> = Vec::new();
     for records in [999_999, 1_000_000, 1_000_001] {
         let monitor = MonitorValue {
@@ -86,7 +88,12 @@ fn fed() -> Vec<Case> {
             let second = [image.clone(), record.to_bytes()].concat();
             let first = chart.to_image().to_vec();
             cases.push(("a full image", compare_values, first, second));
-            let live = [image, (U.len() as u64).to_be_bytes().to_vec(), U.to_vec()].concat();
+            let live = [
+                image,
+                (CHART_U.len() as u64).to_be_bytes().to_vec(),
+                CHART_U.to_vec(),
+            ]
+            .concat();
             cases.push(("full live bytes", compare_bytes, live, record.to_bytes()));
         }
     }
