@@ -10,6 +10,7 @@ pub mod coverage;
 pub mod difference;
 pub mod fast;
 pub mod hex;
+pub mod image;
 pub mod kinds;
 pub mod limits;
 pub mod measure;

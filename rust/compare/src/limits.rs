@@ -2,6 +2,7 @@
 
 use crate::charts;
 use crate::difference::{same, Both, Difference};
+use crate::image::{live_bytes, Image};
 use crate::kinds::{compare_bytes, compare_judge, compare_print, compare_values, Compare};
 use crate::seen::Seen;
 use lsc::call;
@@ -84,16 +85,10 @@ fn fed() -> Vec<Case> {
             ..MonitorValue::ZERO
         };
         for record in [undo(10), RecordValue::Time(11), RecordValue::Time(9)] {
-            let image = monitor.to_image().to_vec();
-            let second = [image.clone(), record.to_bytes()].concat();
+            let second = [&monitor.to_image()[..], &record.to_bytes()].concat();
             let first = chart.to_image().to_vec();
             cases.push(("a full image", compare_values, first, second));
-            let live = [
-                image,
-                (CHART_U.len() as u64).to_be_bytes().to_vec(),
-                CHART_U.to_vec(),
-            ]
-            .concat();
+            let live = live_bytes(&CHART_U, &monitor);
             cases.push(("full live bytes", compare_bytes, live, record.to_bytes()));
         }
     }

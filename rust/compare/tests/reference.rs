@@ -2,6 +2,7 @@
 
 use lsc_compare::coverage::Coverage;
 use lsc_compare::fast;
+use lsc_compare::image::Image;
 use lsc_compare::random::{self, Rng, Size};
 use lsc_reference::declarative::Rows;
 use lsc_reference::log::{judge, read_log, verdict, write_log, Next};
@@ -159,39 +160,6 @@ fn hostile_charts(seed: u64, count: usize) -> Coverage {
     seen
 }
 
-/// Images: every byte changed gives another value or none.
-fn images(seed: u64, count: usize) {
-    let mut rng = Rng::new(seed);
-    for _ in 0..count {
-        let chart = random::chart_value(&mut rng);
-        let mut image = chart.to_image();
-        let place = rng.below(CHART_IMAGE);
-        image[place] ^= 1 << rng.below(8);
-        if let Some(other) = ChartValue::from_image(&image) {
-            assert_ne!(other, chart);
-            assert_eq!(other.to_image(), image);
-            assert_eq!(well_formed::is_given(&other), fast::is_given(&other));
-        }
-        let monitor = random::monitor_value(&mut rng, &chart);
-        let mut image = monitor.to_image();
-        let place = rng.below(MONITOR_IMAGE);
-        image[place] ^= 1 << rng.below(8);
-        let other = MonitorValue::from_image(&image).unwrap();
-        assert_ne!(other, monitor);
-        assert_eq!(other.to_image(), image);
-    }
-    assert_eq!(
-        ChartValue::from_image(&[0; CHART_IMAGE]),
-        Some(ChartValue::ZERO)
-    );
-    assert_eq!(ChartValue::from_image(&[0; CHART_IMAGE - 1]), None);
-    assert_eq!(
-        MonitorValue::from_image(&[0; MONITOR_IMAGE]),
-        Some(MonitorValue::ZERO)
-    );
-    assert_eq!(MonitorValue::from_image(&[0; MONITOR_IMAGE + 1]), None);
-}
-
 /// The printing program's text against the fast judge's.
 fn programs(seed: u64, count: usize) -> Coverage {
     let mut rng = Rng::new(seed);
@@ -252,11 +220,6 @@ fn everything_is_reached() {
     }
     println!("all: {seen:?}");
     assert_eq!(seen.missing(), Vec::<String>::new());
-}
-
-#[test]
-fn images_are_exact() {
-    images(6, 20_000);
 }
 
 #[test]

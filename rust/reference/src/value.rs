@@ -1,7 +1,4 @@
-//! Charts, monitors, records and answers as plain values, and their flat images.
-//!
-//! An image is a fixed row of bytes, numbers most significant byte first, that holds a
-//! value and nothing else.
+//! Charts, monitors, records and answers as plain values.
 
 /// "2 to 16 lines".
 pub const MAX_LINES: u8 = 16;
@@ -13,13 +10,6 @@ pub const MAX_TERMS: usize = 4;
 pub const MAX_CLOCKS: usize = 8;
 /// "23 it would be record 1,000,001".
 pub const MAX_RECORDS: u32 = 1_000_000;
-
-/// Bytes of a region's image.
-pub const REGION_IMAGE: usize = 42;
-/// Bytes of a chart's image.
-pub const CHART_IMAGE: usize = 4 + MAX_REGIONS * REGION_IMAGE;
-/// Bytes of a monitor's image.
-pub const MONITOR_IMAGE: usize = 57;
 
 /// What a term compares: "clock" or "first minus second".
 #[derive(Clone, Copy, Debug, PartialEq, Eq)]
@@ -227,116 +217,6 @@ impl ChartValue {
         count: 0,
         regions: [RegionValue::ZERO; MAX_REGIONS],
     };
-
-    /// The chart's image.
-    pub fn to_image(&self) -> [u8; CHART_IMAGE] {
-        let mut image = [0; CHART_IMAGE];
-        image[0] = self.lines;
-        image[1] = self.clocks;
-        image[2] = self.prechart;
-        image[3] = self.count;
-        for (region, place) in self
-            .regions
-            .iter()
-            .zip(image[4..].chunks_exact_mut(REGION_IMAGE))
-        {
-            put_region(region, place);
-        }
-        image
-    }
-
-    /// The chart of an image; none if the length is wrong or a byte has no value.
-    pub fn from_image(image: &[u8]) -> Option<ChartValue> {
-        if image.len() != CHART_IMAGE {
-            return None;
-        }
-        let mut chart = ChartValue {
-            lines: image[0],
-            clocks: image[1],
-            prechart: image[2],
-            count: image[3],
-            ..ChartValue::ZERO
-        };
-        for (region, place) in chart
-            .regions
-            .iter_mut()
-            .zip(image[4..].chunks_exact(REGION_IMAGE))
-        {
-            *region = get_region(place)?;
-        }
-        Some(chart)
-    }
-}
-
-fn put_region(region: &RegionValue, place: &mut [u8]) {
-    match region.event {
-        EventValue::Message(message) => {
-            place[0] = 1;
-            place[1..5].copy_from_slice(&message.to_bytes());
-        }
-        EventValue::Plain(lines) => {
-            place[0] = 0;
-            place[1..3].copy_from_slice(&lines.to_be_bytes());
-        }
-    }
-    place[5] = u8::from(region.hot);
-    place[6] = region.resets;
-    place[7] = region.term_count;
-    for (term, part) in region.terms.iter().zip(place[10..].chunks_exact_mut(8)) {
-        match term.left {
-            LeftValue::Clock(clock) => {
-                part[0] = 0;
-                part[1] = clock;
-            }
-            LeftValue::Difference(first, second) => {
-                part[0] = 1;
-                part[1] = first;
-                part[2] = second;
-            }
-        }
-        part[3] = term.relation;
-        part[4..8].copy_from_slice(&term.n.to_be_bytes());
-    }
-}
-
-fn get_region(place: &[u8]) -> Option<RegionValue> {
-    let event = match place[0] {
-        0 if place[3] == 0 && place[4] == 0 => {
-            EventValue::Plain(u16::from_be_bytes([place[1], place[2]]))
-        }
-        1 => EventValue::Message(Message::from_bytes([
-            place[1], place[2], place[3], place[4],
-        ])),
-        _ => return None,
-    };
-    let hot = match place[5] {
-        0 => false,
-        1 => true,
-        _ => return None,
-    };
-    if place[8] != 0 || place[9] != 0 {
-        return None;
-    }
-    let mut region = RegionValue {
-        event,
-        hot,
-        resets: place[6],
-        term_count: place[7],
-        ..RegionValue::ZERO
-    };
-    for (term, part) in region.terms.iter_mut().zip(place[10..].chunks_exact(8)) {
-        let left = match part[0] {
-            0 if part[2] == 0 => LeftValue::Clock(part[1]),
-            1 => LeftValue::Difference(part[1], part[2]),
-            _ => return None,
-        };
-        *term = TermValue {
-            left,
-            relation: part[3],
-            n: i32::from_be_bytes([part[4], part[5], part[6], part[7]]),
-        };
-    }
-    Some(region)
 }
 
 impl MonitorValue {
@@ -357,45 +237,6 @@ impl MonitorValue {
         Reason::of(self.reason).map(|reason| Break {
             record: self.break_record,
             reason,
-        })
-    }
-
-    /// The monitor's image.
-    pub fn to_image(&self) -> [u8; MONITOR_IMAGE] {
-        let mut image = [0; MONITOR_IMAGE];
-        let mut numbers = vec![self.fired];
-        numbers.extend(self.resets);
-        numbers.extend([self.now, self.records, self.kept]);
-        numbers.extend([self.dropped, self.break_record]);
-        for (number, part) in numbers.iter().zip(image.chunks_exact_mut(4)) {
-            part.copy_from_slice(&number.to_be_bytes());
-        }
-        image[MONITOR_IMAGE - 1] = self.reason;
-        image
-    }
-
-    /// The monitor of an image; none if the length is wrong.
-    pub fn from_image(image: &[u8]) -> Option<MonitorValue> {
-        if image.len() != MONITOR_IMAGE {
-            return None;
-        }
-        let number = |place: usize| {
-            let part = &image[4 * place..4 * place + 4];
-            u32::from_be_bytes([part[0], part[1], part[2], part[3]])
-        };
-        let mut resets = [0; MAX_CLOCKS];
-        for (clock, moment) in resets.iter_mut().enumerate() {
-            *moment = number(1 + clock);
-        }
-        Some(MonitorValue {
-            fired: number(0),
-            resets,
-            now: number(9),
-            records: number(10),
-            kept: number(11),
-            dropped: number(12),
-            break_record: number(13),
-            reason: image[MONITOR_IMAGE - 1],
         })
     }
 }

@@ -1,8 +1,9 @@
 //! Live bytes of any kind, damaged ones too: 20 and 21, and nothing changed by a refusal.
 
-use super::live::{check_standing, feed_live, live_bytes, standing_numbers};
+use super::live::{check_standing, feed_live, standing_numbers};
 use super::{number, Kind};
 use crate::difference::{same, Both, Hex};
+use crate::image::{live_bytes, Image, LIVE_HEAD, MONITOR_IMAGE};
 use crate::random::{self, Rng};
 use crate::seen::Seen;
 use lsc::LiveMonitor;
@@ -31,13 +32,13 @@ fn make(rng: &mut Rng) -> (Vec<u8>, Vec<u8>) {
         0 | 1 => random::damage(rng, &mut live),
         2 => {
             // The length's own bytes.
-            let place = 57 + rng.below(8);
+            let place = MONITOR_IMAGE + rng.below(8);
             live[place] = rng.pick(&[0, 1, 2, 64, 128, 255]);
         }
         3 => {
             let shift = rng.pick(&[-2i64, -1, 1, 2]);
             let length = (bytes.len() as u64).wrapping_add_signed(shift);
-            live[57..65].copy_from_slice(&length.to_be_bytes());
+            live[MONITOR_IMAGE..LIVE_HEAD].copy_from_slice(&length.to_be_bytes());
             live.extend((0..rng.below(3)).map(|_| rng.byte()));
         }
         4 => live.truncate(rng.below(live.len() + 1)),
@@ -45,7 +46,7 @@ fn make(rng: &mut Rng) -> (Vec<u8>, Vec<u8>) {
             let more = rng.below(20);
             live.extend((0..more).map(|_| rng.byte()));
         }
-        7 => live[57..65].fill(255),
+        7 => live[MONITOR_IMAGE..LIVE_HEAD].fill(255),
         _ => {}
     }
     (live, record.to_bytes())
@@ -54,9 +55,9 @@ fn make(rng: &mut Rng) -> (Vec<u8>, Vec<u8>) {
 /// The chart and the monitor that live bytes hold; none for refusal 20.
 fn parts(live: &[u8]) -> Option<(&[u8], ChartValue, MonitorValue)> {
     let monitor = MonitorValue::from_image(live.get(..MONITOR_IMAGE)?)?;
-    let length: [u8; 8] = live.get(MONITOR_IMAGE..65)?.try_into().ok()?;
+    let length: [u8; 8] = live.get(MONITOR_IMAGE..LIVE_HEAD)?.try_into().ok()?;
     let length = usize::try_from(u64::from_be_bytes(length)).ok()?;
-    let chart = live[65..].get(..length)?;
+    let chart = live[LIVE_HEAD..].get(..length)?;
     Some((chart, read_chart(chart).ok()?, monitor))
 }
 

@@ -3,6 +3,7 @@
 
 use super::{filled, filled_places, number, Kind, BEYOND};
 use crate::difference::{same, Both, Hex};
+use crate::image::{live_bytes, Image, LIVE_HEAD, MONITOR_IMAGE};
 use crate::random::{self, Rng};
 use crate::seen::Seen;
 use lsc::{call, FeedRefusal, LiveMonitor};
@@ -36,14 +37,6 @@ pub fn records(bytes: &[u8]) -> Vec<RecordValue> {
         .iter()
         .filter_map(|piece| RecordValue::from_bytes(piece))
         .collect()
-}
-
-/// The live bytes of a chart and a monitor.
-pub fn live_bytes(chart: &[u8], monitor: &MonitorValue) -> Vec<u8> {
-    let mut live = monitor.to_image().to_vec();
-    live.extend((chart.len() as u64).to_be_bytes());
-    live.extend(chart);
-    live
 }
 
 /// Feeds a record to live bytes, whichever of the two it is.
@@ -116,7 +109,7 @@ fn check_open(
     read: &Result<ChartValue, (u8, usize)>,
     seen: &mut Seen,
 ) -> Result<Vec<u8>, Both> {
-    let size = 65 + chart.len();
+    let size = LIVE_HEAD + chart.len();
     same("live size", call::live_size(chart.len()), size)?;
     for room in [0, size / 2, size - 1] {
         let (mut live, mut at) = (filled(room), 77);
@@ -165,7 +158,7 @@ pub fn compare(chart: &[u8], log: &[u8], seen: &mut Seen) -> Result<(), Both> {
         check_standing(&live, Ok(numbers), seen)?;
 
         let (said, broken) = feed_safe(&mut safe, &record);
-        let wanted = (number(&answer), Hex(&live[..65 + chart.len()]));
+        let wanted = (number(&answer), Hex(&live[..LIVE_HEAD + chart.len()]));
         same("the safe feed", (said, Hex(safe.as_bytes())), wanted)?;
         if let Answer::Broken(known) = answer {
             let wanted = (known.record, known.reason.number());

@@ -1,10 +1,11 @@
 //! Small charts against the declared meaning: every row of regions is tried, no step of the
 //! monitor is used.
 
-use super::live::{feed_live, live_bytes, records};
+use super::live::{feed_live, records};
 use super::{number, Kind};
 use crate::charts;
 use crate::difference::{same, Both, Hex};
+use crate::image::{live_bytes, Image, LIVE_HEAD, MONITOR_IMAGE};
 use crate::random::{self, Rng, Size};
 use crate::seen::Seen;
 use lsc::call;
@@ -44,7 +45,7 @@ pub fn compare(chart: &[u8], log: &[u8], seen: &mut Seen) -> Result<(), Both> {
     };
     let feeds = records(log);
     let meaning = Rows::of(&value).meaning(&feeds);
-    let mut live = vec![0; 65 + chart.len()];
+    let mut live = vec![0; LIVE_HEAD + chart.len()];
     call::open(chart, &mut live, &mut 0);
     let said: Vec<u8> = feeds
         .iter()

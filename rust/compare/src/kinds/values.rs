@@ -3,6 +3,7 @@
 
 use super::{filled, number, Kind, BEYOND};
 use crate::difference::{same, Both, Hex};
+use crate::image::{Image, MONITOR_IMAGE};
 use crate::random::{self, Rng};
 use crate::seen::Seen;
 use lsc::call;

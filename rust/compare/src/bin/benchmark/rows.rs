@@ -3,6 +3,7 @@
 use crate::subject::{check, proved, reference, scan, Subject, FED, LONG, ROUNDS};
 use lsc::call;
 use lsc_compare::fast;
+use lsc_compare::image::{Image, LIVE_HEAD, MONITOR_IMAGE};
 use lsc_compare::kinds::{feed_images, feed_live};
 use lsc_compare::measure::{interleaved, median, ratios};
 use lsc_reference::reader::read_chart;
@@ -111,7 +112,7 @@ pub fn feeding_live(subject: &Subject) {
 
 /// The reference doing what the live functions do: read the chart, feed, write the image.
 fn feed_reference(live: &mut [u8], record: &RecordValue) -> Option<Answer> {
-    let chart = read_chart(&live[65..]).ok()?;
+    let chart = read_chart(&live[LIVE_HEAD..]).ok()?;
     let monitor = MonitorValue::from_image(&live[..MONITOR_IMAGE])?;
     let (answer, after) = fast::feed(&chart, monitor, *record);
     live[..MONITOR_IMAGE].copy_from_slice(&after.to_image());
