@@ -1,8 +1,8 @@
 //! The fast judge on document 01's examples and at its limits.
 
 use lsc_compare::fast;
-use lsc_reference::examples::{undo, CHART_U, OVER_CHART_U};
-use lsc_reference::log::{judge, write_log, Verdict};
+use lsc_reference::examples::{undo, CHART_U, OVER_CHART_U, WIDEST};
+use lsc_reference::log::{judge, write_log};
 use lsc_reference::monitor;
 use lsc_reference::reader::read_chart;
 use lsc_reference::value::*;
@@ -34,22 +34,27 @@ fn thirty_two_regions_are_fed() {
 
 #[test]
 fn the_widest_heading_is_given() {
-    let widest = [
-        0x10, 16, 8, 0x50, 0x20, 15, 0, 0xFF, 0xFF, 0x40, 0xFF, 0x21, 0xFF, 0xFF, 0x31, 7, 6, 4,
-        0x80, 0, 0, 0, 0x7F,
-    ];
-    assert!(fast::is_given(&read_chart(&widest).unwrap()));
+    assert!(fast::is_given(&read_chart(&WIDEST).unwrap()));
 }
 
 #[test]
 fn the_millionth_record_and_the_next() {
     let chart = read_chart(&CHART_U).unwrap();
-    let mut log = RecordValue::Time(9).to_bytes().repeat(1_000_000);
-    let verdict = Verdict {
-        records: 1_000_000,
-        ..Verdict::ZERO
-    };
-    assert_eq!(fast::judge(&chart, &log), Ok(verdict));
-    log.extend(RecordValue::Time(9).to_bytes());
-    assert_eq!(fast::judge(&chart, &log), Err((23, 5_000_000)));
+    let full = RecordValue::Time(9).to_bytes().repeat(1_000_000);
+    let behind = [
+        Vec::new(),
+        RecordValue::Time(9).to_bytes(),
+        RecordValue::Time(8).to_bytes(),
+        vec![2, 0, 0, 0],
+        vec![3],
+    ];
+    let said = behind.map(|behind| {
+        let log = [&full[..], &behind].concat();
+        let verdict = fast::judge(&chart, &log);
+        assert_eq!(verdict, judge(&chart, &log));
+        verdict.map(|verdict| verdict.records)
+    });
+    let refused = [23, 22, 30, 31].map(|number| Err((number, 5_000_000)));
+    assert_eq!(said[0], Ok(1_000_000));
+    assert_eq!(said[1..], refused);
 }

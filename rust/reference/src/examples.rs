@@ -1,4 +1,4 @@
-//! Chart U and the examples over it, for every test that wants them.
+//! Chart U, the examples over it and the widest chart, for every test that wants them.
 
 use crate::value::{Message, RecordValue};
 
@@ -11,6 +11,13 @@ pub const CHART_U: [u8; 38] = [
     0x20, 1, 0, 0, 2, 0x30, 0, 1, 0, 0, 0, 40, 0x32, // headings, clock 0 <= 40, hot
     0x20, 2, 3, 0, 3, 0x30, 0, 1, 0, 0, 0, 40, 0x32, // references likewise
     0x7F,
+];
+
+/// A chart with the widest heading, its last line, all its clocks and lines, the highest
+/// label and the lowest number.
+pub const WIDEST: [u8; 23] = [
+    0x10, 16, 8, 0x50, 0x20, 15, 0, 0xFF, 0xFF, 0x40, 0xFF, 0x21, 0xFF, 0xFF, 0x31, 7, 6, 4, 0x80,
+    0, 0, 0, 0x7F,
 ];
 
 /// A message at a time.

@@ -4,6 +4,7 @@
 //! sentence. `declarative` decides demand 3 by trying every row.
 #![forbid(unsafe_code)]
 
+pub mod command;
 pub mod declarative;
 pub mod examples;
 pub mod log;

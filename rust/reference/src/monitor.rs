@@ -74,24 +74,10 @@ fn all_fired(chart: &ChartValue, fired: u32) -> bool {
     (0..usize::from(chart.count)).all(|region| has(fired, region))
 }
 
-/// Whether the region's condition holds. "A clock's value is now minus its reset moment.
-/// 'First minus second' is the exact signed difference."
+/// Whether the region's condition holds. "A clock's value is now minus its reset moment."
 fn condition_holds(region: &RegionValue, now: u32, resets: &[u32; MAX_CLOCKS]) -> bool {
     let value = |clock: u8| i64::from(now) - i64::from(resets[usize::from(clock)]);
-    region.condition().iter().all(|term| {
-        let left = match term.left {
-            LeftValue::Clock(clock) => value(clock),
-            LeftValue::Difference(first, second) => value(first) - value(second),
-        };
-        let n = i64::from(term.n);
-        match term.relation {
-            0 => left < n,
-            1 => left <= n,
-            2 => left == n,
-            3 => left >= n,
-            _ => left > n,
-        }
-    })
+    region.condition().iter().all(|term| term.holds(value))
 }
 
 /// "Making a monitor": a fresh one, or refusal 20.
@@ -165,16 +151,24 @@ pub fn feed_fit(
     monitor: MonitorValue,
     record: RecordValue,
 ) -> (Answer, MonitorValue) {
+    match not_taken(&monitor, &record) {
+        Some(answer) => (answer, monitor),
+        None => take(chart, order, monitor, record),
+    }
+}
+
+/// "Then a broken monitor answers broken again, with record and reason, and nothing changes.
+/// Otherwise 22 the time is below now; 23 it would be record 1,000,001."
+pub fn not_taken(monitor: &MonitorValue, record: &RecordValue) -> Option<Answer> {
     if let Some(known) = monitor.broken() {
-        return (Answer::Broken(known), monitor);
+        Some(Answer::Broken(known))
+    } else if record.time() < monitor.now {
+        Some(Answer::Refused(22))
+    } else if monitor.records == MAX_RECORDS {
+        Some(Answer::Refused(23))
+    } else {
+        None
     }
-    if record.time() < monitor.now {
-        return (Answer::Refused(22), monitor);
-    }
-    if monitor.records == MAX_RECORDS {
-        return (Answer::Refused(23), monitor);
-    }
-    take(chart, order, monitor, record)
 }
 
 /// Steps 1 to 7.
@@ -184,40 +178,49 @@ fn take(
     before: MonitorValue,
     record: RecordValue,
 ) -> (Answer, MonitorValue) {
-    let count = usize::from(chart.count);
-
     // 1. "The record is counted; now becomes its time."
-    let mut after = before;
-    after.records += 1;
-    after.now = record.time();
-
+    let counted = MonitorValue {
+        records: before.records + 1,
+        now: record.time(),
+        ..before
+    };
     // 2. "A record of time, or a message that no region of either half has (source, label
     // and destination all equal), does nothing more."
-    let Some(message) = record.message() else {
-        return (Answer::Quiet, after);
-    };
-    let carried: Vec<usize> = (0..count)
-        .filter(|&region| chart.regions[region].message() == Some(message))
-        .collect();
+    let carried = regions_with(chart, &record);
     if carried.is_empty() {
-        return (Answer::Quiet, after);
+        return (Answer::Quiet, counted);
     }
-
     // 3. "A message with a ready region that has it"
     let ready = carried
         .into_iter()
         .find(|&region| is_ready(chart, order, before.fired, region));
+    match ready {
+        Some(region) => fire(chart, order, counted, region),
+        // 6. "A chart message with no ready region: in the prechart the round is dropped; in
+        // the main chart the round is broken, reason 1."
+        None if in_prechart(chart, before.fired) => drop_round(chart, counted),
+        None => break_round(counted, Reason::NoReadyRegion),
+    }
+}
 
-    // 6. "A chart message with no ready region: in the prechart the round is dropped; in
-    // the main chart the round is broken, reason 1."
-    let Some(first) = ready else {
-        return if in_prechart(chart, before.fired) {
-            drop_round(chart, after)
-        } else {
-            break_round(after, Reason::NoReadyRegion)
-        };
+/// The regions that have the record's message.
+fn regions_with(chart: &ChartValue, record: &RecordValue) -> Vec<usize> {
+    let Some(message) = record.message() else {
+        return Vec::new();
     };
+    (0..usize::from(chart.count))
+        .filter(|&region| chart.regions[region].message() == Some(message))
+        .collect()
+}
 
+/// Steps 3, 4, 5 and 7 from a ready region that has the message.
+fn fire(
+    chart: &ChartValue,
+    order: &Order,
+    before: MonitorValue,
+    first: usize,
+) -> (Answer, MonitorValue) {
+    let mut after = before;
     // 3 and 4. The message region, then "while a plain region is ready, the lowest-numbered
     // is tested and fired likewise, at the same moment".
     let mut next = Some(first);
@@ -232,15 +235,11 @@ fn take(
                 drop_round(chart, after)
             };
         }
+        // "If it holds, the region fires, then resets."
         after.fired |= 1 << place;
-        for clock in 0..MAX_CLOCKS {
-            if (region.resets >> clock) & 1 == 1 {
-                after.resets[clock] = after.now;
-            }
-        }
+        reset(&mut after, region.resets);
         next = ready_plain(chart, order, after.fired);
     }
-
     // 5. "When all regions are fired, the round is kept."
     if all_fired(chart, after.fired) {
         after.kept += 1;
@@ -251,6 +250,15 @@ fn take(
         (Answer::Entered, after)
     } else {
         (Answer::Moved, after)
+    }
+}
+
+/// Resets a set of clocks now.
+fn reset(monitor: &mut MonitorValue, clocks: u8) {
+    for (clock, moment) in monitor.resets.iter_mut().enumerate() {
+        if (clocks >> clock) & 1 == 1 {
+            *moment = monitor.now;
+        }
     }
 }
 

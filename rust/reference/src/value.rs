@@ -183,6 +183,24 @@ impl TermValue {
         relation: 0,
         n: 0,
     };
+
+    /// Whether the term holds for these values of the clocks. "'First minus second' is the
+    /// exact signed difference."
+    pub fn holds(&self, value: impl Fn(u8) -> i64) -> bool {
+        let left = match self.left {
+            LeftValue::Clock(clock) => value(clock),
+            LeftValue::Difference(first, second) => value(first) - value(second),
+        };
+        let n = i64::from(self.n);
+        match self.relation {
+            0 => left < n,
+            1 => left <= n,
+            2 => left == n,
+            3 => left >= n,
+            4 => left > n,
+            _ => false,
+        }
+    }
 }
 
 impl RegionValue {

@@ -1,7 +1,7 @@
 //! Document 01's examples, and the edges its rules name.
 
 use lsc_reference::declarative::Rows;
-use lsc_reference::examples::{headings, message, references, undo, CHART_U, OVER_CHART_U};
+use lsc_reference::examples::{headings, message, references, undo, CHART_U, OVER_CHART_U, WIDEST};
 use lsc_reference::log::{judge, read_record, write_log, Next, Verdict};
 use lsc_reference::print::{input_of, respond, HEADER};
 use lsc_reference::reader::read_chart;
@@ -121,92 +121,97 @@ fn a_then_b_then_c() {
     assert_eq!(numbers(&chart, &[a, b]), "2 0 0 2 0 0");
 }
 
+/// Bytes that are refused: the fault that decides, and its offset.
+const FAULTS: [(&[u8], (u8, usize)); 35] = [
+    (&[0x20, 0], (1, 0)),
+    (&[0x20, 0, 1, 0, 1], (3, 0)),
+    (&[0x00], (2, 0)),
+    (&[0x10, 2], (1, 0)),
+    (&[0x10, 2, 0], (1, 3)),
+    (&[0x10, 2, 0, 0x10], (1, 3)),
+    (&[0x10, 2, 0, 0x10, 0, 0], (3, 3)),
+    (&[0x10, 17, 0], (4, 0)),
+    (&[0x10, 2, 9], (4, 0)),
+    (&[0x10, 2, 0, 0x50, 0x50], (3, 4)),
+    (&[0x10, 2, 1, 0x32], (3, 3)),
+    (&[0x10, 2, 1, 0x20, 0, 1, 0, 1, 0x50, 0x40, 1], (3, 9)),
+    (&[0x10, 2, 1, 0x20, 0, 1, 0, 1, 0x40, 1, 0x40, 1], (3, 10)),
+    (&[0x10, 2, 1, 0x50, 0x20, 0, 1, 0, 1, 0x32, 0x32], (3, 10)),
+    // A second 50 comes before the open region's faults.
+    (&[0x10, 2, 1, 0x50, 0x20, 0, 1, 0, 1, 0x32, 0x50], (3, 10)),
+    (&[0x10, 2, 1, 0x50, 0x20, 0, 1, 0, 1, 0x32, 0x7F], (7, 4)),
+    // Closing comes before the closing command's own faults.
+    (
+        &[0x10, 2, 1, 0x50, 0x20, 0, 1, 0, 1, 0x32, 0x20, 0, 0, 0, 0],
+        (7, 4),
+    ),
+    (&[0x10, 2, 1, 0x20, 0, 1, 0, 1, 0x21, 0, 1, 0x50], (6, 8)),
+    (
+        &[0x10, 2, 1, 0x20, 0, 1, 0, 1, 0x50, 0x21, 0, 1, 0x32, 0x7F],
+        (6, 9),
+    ),
+    (
+        &[
+            0x10, 2, 1, 0x20, 0, 1, 0, 1, 0x50, 0x21, 0, 1, 0x40, 1, 0x32, 0x7F,
+        ],
+        (7, 9),
+    ),
+    (&[0x10, 2, 1, 0x20, 0, 0, 0, 1], (4, 3)),
+    (&[0x10, 2, 1, 0x20, 0, 2, 0, 1], (4, 3)),
+    (&[0x10, 2, 1, 0x21, 0, 0], (4, 3)),
+    (&[0x10, 2, 1, 0x21, 0, 4], (4, 3)),
+    (&[0x10, 2, 1, 0x20, 0, 1, 0, 1, 0x40, 0], (4, 8)),
+    (&[0x10, 2, 1, 0x20, 0, 1, 0, 1, 0x40, 2], (4, 8)),
+    (
+        &[0x10, 2, 1, 0x20, 0, 1, 0, 1, 0x30, 0, 5, 0, 0, 0, 0],
+        (4, 8),
+    ),
+    (
+        &[0x10, 2, 2, 0x20, 0, 1, 0, 1, 0x31, 1, 1, 0, 0, 0, 0, 0],
+        (4, 8),
+    ),
+    // Hot in the prechart is 8 also without a term.
+    (&[0x10, 2, 1, 0x20, 0, 1, 0, 1, 0x32], (8, 8)),
+    // 9 is at the 21, whatever follows.
+    (&[0x10, 3, 1, 0x20, 0, 1, 0, 1, 0x21, 0, 4, 0x00], (9, 8)),
+    (&[0x10, 3, 1, 0x50, 0x21, 0, 4, 0x00], (9, 4)),
+    (&[0x10, 2, 0, 0x7F], (10, 3)),
+    (&[0x10, 2, 0, 0x20, 0, 1, 0, 1, 0x50, 0x7F], (10, 9)),
+    (&[0x10, 2, 0, 0x50, 0x20, 0, 1, 0, 1, 0x7F, 0x00], (11, 10)),
+    (&[0x10, 2, 0, 0x50, 0x7F, 0x00], (10, 4)),
+];
+
 #[test]
 fn the_order_of_chart_faults() {
-    let cases: [(&[u8], (u8, usize)); 35] = [
-        (&[0x20, 0], (1, 0)),
-        (&[0x20, 0, 1, 0, 1], (3, 0)),
-        (&[0x00], (2, 0)),
-        (&[0x10, 2], (1, 0)),
-        (&[0x10, 2, 0], (1, 3)),
-        (&[0x10, 2, 0, 0x10], (1, 3)),
-        (&[0x10, 2, 0, 0x10, 0, 0], (3, 3)),
-        (&[0x10, 17, 0], (4, 0)),
-        (&[0x10, 2, 9], (4, 0)),
-        (&[0x10, 2, 0, 0x50, 0x50], (3, 4)),
-        (&[0x10, 2, 1, 0x32], (3, 3)),
-        (&[0x10, 2, 1, 0x20, 0, 1, 0, 1, 0x50, 0x40, 1], (3, 9)),
-        (&[0x10, 2, 1, 0x20, 0, 1, 0, 1, 0x40, 1, 0x40, 1], (3, 10)),
-        (&[0x10, 2, 1, 0x50, 0x20, 0, 1, 0, 1, 0x32, 0x32], (3, 10)),
-        // A second 50 comes before the open region's faults.
-        (&[0x10, 2, 1, 0x50, 0x20, 0, 1, 0, 1, 0x32, 0x50], (3, 10)),
-        (&[0x10, 2, 1, 0x50, 0x20, 0, 1, 0, 1, 0x32, 0x7F], (7, 4)),
-        // Closing comes before the closing command's own faults.
-        (
-            &[0x10, 2, 1, 0x50, 0x20, 0, 1, 0, 1, 0x32, 0x20, 0, 0, 0, 0],
-            (7, 4),
-        ),
-        (&[0x10, 2, 1, 0x20, 0, 1, 0, 1, 0x21, 0, 1, 0x50], (6, 8)),
-        (
-            &[0x10, 2, 1, 0x20, 0, 1, 0, 1, 0x50, 0x21, 0, 1, 0x32, 0x7F],
-            (6, 9),
-        ),
-        (
-            &[
-                0x10, 2, 1, 0x20, 0, 1, 0, 1, 0x50, 0x21, 0, 1, 0x40, 1, 0x32, 0x7F,
-            ],
-            (7, 9),
-        ),
-        (&[0x10, 2, 1, 0x20, 0, 0, 0, 1], (4, 3)),
-        (&[0x10, 2, 1, 0x20, 0, 2, 0, 1], (4, 3)),
-        (&[0x10, 2, 1, 0x21, 0, 0], (4, 3)),
-        (&[0x10, 2, 1, 0x21, 0, 4], (4, 3)),
-        (&[0x10, 2, 1, 0x20, 0, 1, 0, 1, 0x40, 0], (4, 8)),
-        (&[0x10, 2, 1, 0x20, 0, 1, 0, 1, 0x40, 2], (4, 8)),
-        (
-            &[0x10, 2, 1, 0x20, 0, 1, 0, 1, 0x30, 0, 5, 0, 0, 0, 0],
-            (4, 8),
-        ),
-        (
-            &[0x10, 2, 2, 0x20, 0, 1, 0, 1, 0x31, 1, 1, 0, 0, 0, 0, 0],
-            (4, 8),
-        ),
-        // Hot in the prechart is 8 also without a term.
-        (&[0x10, 2, 1, 0x20, 0, 1, 0, 1, 0x32], (8, 8)),
-        // 9 is at the 21, whatever follows.
-        (&[0x10, 3, 1, 0x20, 0, 1, 0, 1, 0x21, 0, 4, 0x00], (9, 8)),
-        (&[0x10, 3, 1, 0x50, 0x21, 0, 4, 0x00], (9, 4)),
-        (&[0x10, 2, 0, 0x7F], (10, 3)),
-        (&[0x10, 2, 0, 0x20, 0, 1, 0, 1, 0x50, 0x7F], (10, 9)),
-        (&[0x10, 2, 0, 0x50, 0x20, 0, 1, 0, 1, 0x7F, 0x00], (11, 10)),
-        (&[0x10, 2, 0, 0x50, 0x7F, 0x00], (10, 4)),
-    ];
-    for (bytes, refusal) in cases {
+    for (bytes, refusal) in FAULTS {
         assert_eq!(read_chart(bytes), Err(refusal), "{bytes:02X?}");
     }
-    // A fifth term, of whichever kind; a 33rd region with equal lines is 4.
+}
+
+#[test]
+fn four_terms_are_read_and_a_fifth_of_either_kind_refused() {
     let mut bytes = vec![0x10, 2, 2, 0x20, 0, 1, 0, 1];
     for _ in 0..2 {
         bytes.extend([0x30, 0, 0, 0, 0, 0, 0]);
         bytes.extend([0x31, 0, 1, 0, 0, 0, 0, 0]);
     }
     let offset = bytes.len();
-    let mut fifth = bytes.clone();
-    fifth.extend([0x31, 0, 1, 0, 0, 0, 0, 0]);
-    assert_eq!(read_chart(&fifth), Err((5, offset)));
+    for fifth in [&[0x30, 0, 0, 0, 0, 0, 0][..], &[0x31, 0, 1, 0, 0, 0, 0, 0]] {
+        let longer = [&bytes[..], fifth].concat();
+        assert_eq!(read_chart(&longer), Err((5, offset)));
+    }
     bytes.extend([0x50, 0x20, 0, 1, 0, 1, 0x7F]);
     assert_eq!(read_chart(&bytes).unwrap().regions[0].term_count, 4);
+}
+
+#[test]
+fn charts_at_the_edges_are_read() {
     // A plain region first in a main chart behind a prechart is fine.
     let plain_first = [
         0x10, 3, 1, 0x20, 0, 1, 0, 1, 0x50, 0x21, 0, 4, 0x40, 1, 0x7F,
     ];
     assert!(well_formed::is_given(&read_chart(&plain_first).unwrap()));
-    // The widest heading.
-    let widest = [
-        0x10, 16, 8, 0x50, 0x20, 15, 0, 0xFF, 0xFF, 0x40, 0xFF, 0x21, 0xFF, 0xFF, 0x31, 7, 6, 4,
-        0x80, 0, 0, 0, 0x7F,
-    ];
-    assert!(well_formed::is_given(&read_chart(&widest).unwrap()));
+    assert!(well_formed::is_given(&read_chart(&WIDEST).unwrap()));
 }
 
 #[test]

@@ -10,6 +10,7 @@ mod steps;
 mod term;
 
 use lsc_reference::log::Verdict;
+use lsc_reference::monitor::not_taken;
 use lsc_reference::value::*;
 use masks::Masks;
 use steps::{take, Raw};
@@ -35,14 +36,8 @@ pub fn feed(
     if !masks.is_fit(&monitor) {
         return (Answer::Refused(21), monitor);
     }
-    if let Some(known) = monitor.broken() {
-        return (Answer::Broken(known), monitor);
-    }
-    if record.time() < monitor.now {
-        return (Answer::Refused(22), monitor);
-    }
-    if monitor.records == MAX_RECORDS {
-        return (Answer::Refused(23), monitor);
+    if let Some(answer) = not_taken(&monitor, &record) {
+        return (answer, monitor);
     }
     let mut state = State::of(&monitor);
     state.count(record.time());

@@ -1,11 +1,11 @@
 //! Bytes cut into commands and records.
 
-use lsc_reference::reader::operand_length;
+use lsc_reference::command::Command;
 
 /// A chart's bytes cut into commands; bytes that are none stand alone.
 pub fn commands(bytes: &[u8]) -> Vec<Vec<u8>> {
     pieces(bytes, |first| {
-        operand_length(first).map(|length| length + 1)
+        Command::of(first).map(|command| 1 + command.operands())
     })
 }
 

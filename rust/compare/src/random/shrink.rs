@@ -63,3 +63,43 @@ fn lower_bytes(bytes: &mut [u8], fails: &mut dyn FnMut(&[u8]) -> bool) {
         }
     }
 }
+
+#[cfg(test)]
+mod tests {
+    use super::*;
+    use crate::random::{chart, records, Rng, Size};
+    use lsc_reference::log::{judge, write_log};
+    use lsc_reference::reader::read_chart;
+    use lsc_reference::value::Reason;
+
+    /// A "failure": a log whose verdict is broken by a condition.
+    fn fails(chart: &[u8], log: &[u8]) -> bool {
+        read_chart(chart)
+            .ok()
+            .and_then(|chart| judge(&chart, log).ok())
+            .and_then(|verdict| verdict.broken)
+            .is_some_and(|known| known.reason == Reason::ConditionFails)
+    }
+
+    #[test]
+    fn shrinking_finds_a_small_case() {
+        let mut rng = Rng::new(8);
+        let mut found = 0;
+        while found < 20 {
+            let (bytes, value) = chart(&mut rng, Size::Small);
+            let log = write_log(&records(&mut rng, &value, 20));
+            if !fails(&bytes, &log) {
+                continue;
+            }
+            found += 1;
+            let (small_chart, small_log) = shrink(&bytes, &log, &mut fails);
+            assert!(fails(&small_chart, &small_log));
+            let regions = commands(&small_chart)
+                .iter()
+                .filter(|command| matches!(command[0], 0x20 | 0x21))
+                .count();
+            assert!(regions <= 3, "{small_chart:02X?}");
+            assert!(small_log.len() <= 27, "{small_log:02X?}");
+        }
+    }
+}
