@@ -44,41 +44,57 @@ fn region_is_sound(chart: &ChartValue, region: &RegionValue, main: bool) -> bool
     if region.resets & !clock_set != 0 || (region.hot && (terms == 0 || !main)) {
         return false;
     }
-    let (used, unused) = region.terms.split_at(terms);
-    used.iter().all(|term| term_is_sound(chart, term))
-        && unused.iter().all(|term| *term == TermValue::ZERO)
+    for (place, term) in region.terms.iter().enumerate() {
+        if place >= terms {
+            if *term != TermValue::ZERO {
+                return false;
+            }
+            continue;
+        }
+        if !term_is_sound(chart, term) {
+            return false;
+        }
+    }
+    true
 }
 
-/// The lines that the region touches; none if no reader writes such an event.
-fn lines_of(chart: &ChartValue, region: &RegionValue) -> Option<u16> {
+/// The regions on each line, so far in this half.
+type OnLine = [u32; 16];
+
+/// Puts a region on its lines: those that stood there before; none if no reader writes such
+/// an event.
+fn put(chart: &ChartValue, region: &RegionValue, bit: u32, on_line: &mut OnLine) -> Option<u32> {
     match region.event {
         EventValue::Message(Message {
             source,
             destination,
             ..
         }) => {
-            let sound = source < chart.lines && destination < chart.lines && source != destination;
-            sound.then(|| 1 << source | 1 << destination)
+            if source >= chart.lines || destination >= chart.lines || source == destination {
+                return None;
+            }
+            let (source, destination) = (usize::from(source), usize::from(destination));
+            let before = on_line[source] | on_line[destination];
+            on_line[source] |= bit;
+            on_line[destination] |= bit;
+            Some(before)
         }
         EventValue::Plain(lines) => {
-            let line_set = low_bits(chart.lines) as u16;
-            let empty = region.term_count == 0 && region.resets == 0;
-            (lines != 0 && lines & !line_set == 0 && !empty).then_some(lines)
+            let beyond = lines & !(low_bits(chart.lines) as u16) != 0;
+            if lines == 0 || beyond || (region.term_count == 0 && region.resets == 0) {
+                return None;
+            }
+            let mut before = 0;
+            let mut left = lines;
+            while left != 0 {
+                let line = left.trailing_zeros() as usize;
+                left &= left - 1;
+                before |= on_line[line];
+                on_line[line] |= bit;
+            }
+            Some(before)
         }
     }
-}
-
-/// Puts a region on its lines; the regions that stood on them before.
-fn put(on_line: &mut [u32; 16], lines: u16, bit: u32) -> u32 {
-    let mut before = 0;
-    let mut left = lines;
-    while left != 0 {
-        let line = left.trailing_zeros() as usize;
-        left &= left - 1;
-        before |= on_line[line];
-        on_line[line] |= bit;
-    }
-    before
 }
 
 impl Masks {
@@ -95,11 +111,15 @@ impl Masks {
             clocks: chart.clocks,
             above: [0; MAX_REGIONS],
         };
-        // Regions of this half on each line, so far.
-        let mut on_line = [0; 16];
+        let mut on_line: OnLine = [0; 16];
         let mut base = 0;
-        let (used, unused) = chart.regions.split_at(usize::from(chart.count));
-        for (place, region) in used.iter().enumerate() {
+        for (place, region) in chart.regions.iter().enumerate() {
+            if place >= usize::from(chart.count) {
+                if *region != RegionValue::ZERO {
+                    return None;
+                }
+                continue;
+            }
             if place == usize::from(chart.prechart) {
                 on_line = [0; 16];
                 base = masks.prechart;
@@ -108,7 +128,7 @@ impl Masks {
                 return None;
             }
             let bit = 1 << place;
-            let above = put(&mut on_line, lines_of(chart, region)?, bit) | base;
+            let above = put(chart, region, bit, &mut on_line)? | base;
             if matches!(region.event, EventValue::Plain(_)) {
                 if above == 0 {
                     return None;
@@ -117,8 +137,7 @@ impl Masks {
             }
             masks.above[place] = above;
         }
-        let rest_is_zero = unused.iter().all(|region| *region == RegionValue::ZERO);
-        rest_is_zero.then_some(masks)
+        Some(masks)
     }
 
     /// Whether all above an unfired region are fired.

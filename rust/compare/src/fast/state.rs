@@ -70,6 +70,16 @@ impl State {
         self.moments[NOW] = time;
     }
 
+    /// Resets a set of clocks now.
+    #[inline]
+    pub(super) fn reset(&mut self, clocks: u8) {
+        let mut left = clocks;
+        while left != 0 {
+            self.moments[left.trailing_zeros() as usize] = self.moments[NOW];
+            left &= left - 1;
+        }
+    }
+
     /// Returns to the opening, at this moment.
     pub(super) fn reopen(&mut self, masks: &Masks) {
         self.fired = 0;

@@ -63,7 +63,6 @@ pub fn take<R: Regions>(regions: &R, masks: &Masks, state: &mut State, carriers:
             state.break_round(Reason::NoReadyRegion)
         };
     };
-    let now = state.now();
     let mut place = first;
     let mut waiting = 0;
     loop {
@@ -75,11 +74,7 @@ pub fn take<R: Regions>(regions: &R, masks: &Masks, state: &mut State, carriers:
             };
         }
         state.fired |= 1 << place;
-        let mut resets = regions.resets(place);
-        while resets != 0 {
-            state.moments[resets.trailing_zeros() as usize] = now;
-            resets &= resets - 1;
-        }
+        state.reset(regions.resets(place));
         waiting = (waiting | regions.woken(place)) & !state.fired;
         match masks.lowest_ready(state.fired, waiting) {
             Some(next) => place = next,

@@ -1,7 +1,7 @@
 //! Live bytes of any kind, damaged ones too: 20 and 21, and nothing changed by a refusal.
 
 use super::live::{check_standing, feed_live, standing_numbers};
-use super::{number, Kind};
+use super::number;
 use crate::difference::{same, Both, Hex};
 use crate::image::{live_bytes, Image, LIVE_HEAD, MONITOR_IMAGE};
 use crate::random::{self, Rng};
@@ -11,15 +11,7 @@ use lsc_reference::monitor::{feed, is_fit};
 use lsc_reference::reader::read_chart;
 use lsc_reference::value::*;
 
-pub const KIND: Kind = Kind {
-    name: "live bytes",
-    share: 10,
-    parts: ["live bytes", "record"],
-    make,
-    compare,
-};
-
-fn make(rng: &mut Rng) -> (Vec<u8>, Vec<u8>) {
+pub fn make(rng: &mut Rng) -> (Vec<u8>, Vec<u8>) {
     let size = random::some_size(rng);
     let (bytes, chart) = random::chart(rng, size);
     let monitor = random::monitor_value(rng, &chart);

@@ -1,7 +1,7 @@
 //! The live functions: a chart opened, records fed one by one, the standing asked after
 //! each; against the reference's monitor, field by field as an image.
 
-use super::{filled, filled_places, number, Kind, BEYOND};
+use super::{filled, filled_places, number, BEYOND};
 use crate::difference::{same, Both, Hex};
 use crate::image::{live_bytes, Image, LIVE_HEAD, MONITOR_IMAGE};
 use crate::random::{self, Rng};
@@ -12,15 +12,7 @@ use lsc_reference::monitor::feed;
 use lsc_reference::reader::read_chart;
 use lsc_reference::value::*;
 
-pub const KIND: Kind = Kind {
-    name: "live",
-    share: 9,
-    parts: ["chart", "records"],
-    make,
-    compare,
-};
-
-fn make(rng: &mut Rng) -> (Vec<u8>, Vec<u8>) {
+pub fn make(rng: &mut Rng) -> (Vec<u8>, Vec<u8>) {
     if rng.chance(25) {
         return (random::hostile_chart_bytes(rng), Vec::new());
     }

@@ -2,7 +2,7 @@
 //! monitor is used.
 
 use super::live::{feed_live, records};
-use super::{number, Kind};
+use super::number;
 use crate::charts;
 use crate::difference::{same, Both, Hex};
 use crate::image::{live_bytes, Image, LIVE_HEAD, MONITOR_IMAGE};
@@ -17,15 +17,7 @@ use lsc_reference::value::*;
 /// Charts with more regions have too many rows.
 const MOST_REGIONS: u8 = 5;
 
-pub const KIND: Kind = Kind {
-    name: "rows",
-    share: 3,
-    parts: ["chart", "records"],
-    make,
-    compare,
-};
-
-fn make(rng: &mut Rng) -> (Vec<u8>, Vec<u8>) {
+pub fn make(rng: &mut Rng) -> (Vec<u8>, Vec<u8>) {
     let (bytes, chart) = if rng.chance(30) {
         let bytes = rng.pick(&charts::SMALL).to_vec();
         let chart = read_chart(&bytes).unwrap_or(ChartValue::ZERO);

@@ -1,6 +1,6 @@
 //! Whole logs: `lsc_judge` and the safe `judge` against the reference's.
 
-use super::{filled_places, Kind};
+use super::filled_places;
 use crate::difference::{same, Both};
 use crate::random::{self, Rng, Size};
 use crate::seen::Seen;
@@ -9,15 +9,7 @@ use lsc_reference::log;
 use lsc_reference::reader::read_chart;
 use lsc_reference::value::{ChartValue, MAX_RECORDS};
 
-pub const KIND: Kind = Kind {
-    name: "judge",
-    share: 34,
-    parts: ["chart", "log"],
-    make,
-    compare,
-};
-
-fn make(rng: &mut Rng) -> (Vec<u8>, Vec<u8>) {
+pub fn make(rng: &mut Rng) -> (Vec<u8>, Vec<u8>) {
     let size = random::some_size(rng);
     let (bytes, chart) = random::chart(rng, size);
     if rng.chance(35) {

@@ -54,28 +54,25 @@ fn frame(rng: &mut Rng, size: Size) -> Frame {
             labels: rng.range(1, 4) as u16,
         },
         Size::Large => {
-            let total = if rng.chance(30) {
-                32
-            } else {
-                rng.range(6, 32) as usize
-            };
+            let total = up_to(rng, 6, 32).into();
             let prechart = rng.below(total);
             Frame {
-                lines: if rng.chance(30) {
-                    16
-                } else {
-                    rng.range(2, 16) as u8
-                },
-                clocks: if rng.chance(30) {
-                    8
-                } else {
-                    rng.range(0, 8) as u8
-                },
+                lines: up_to(rng, 2, 16),
+                clocks: up_to(rng, 0, 8),
                 prechart,
                 main: total - prechart,
                 labels: rng.range(1, 6) as u16,
             }
         }
+    }
+}
+
+/// A number up to a limit, often the limit.
+fn up_to(rng: &mut Rng, low: u8, limit: u8) -> u8 {
+    if rng.chance(30) {
+        limit
+    } else {
+        rng.range(low.into(), limit.into()) as u8
     }
 }
 
@@ -100,10 +97,17 @@ fn some_label(rng: &mut Rng, labels: u16) -> u16 {
 pub(super) fn message_command(rng: &mut Rng, lines: u8, labels: u16) -> Vec<u8> {
     let source = rng.below(usize::from(lines)) as u8;
     let step = 1 + rng.below(usize::from(lines) - 1) as u8;
-    let destination = (source + step) % lines;
-    let mut command = vec![0x20, source, destination];
-    command.extend(some_label(rng, labels).to_be_bytes());
-    command
+    let message = Message {
+        source,
+        destination: (source + step) % lines,
+        label: some_label(rng, labels),
+    };
+    [&[0x20], &message.to_bytes()[..]].concat()
+}
+
+/// The command of a random plain region.
+pub(super) fn plain_command(lines: u16) -> Vec<u8> {
+    [&[0x21], &lines.to_be_bytes()[..]].concat()
 }
 
 /// The command of a random term that plausible times often satisfy; an easy one they
@@ -116,24 +120,9 @@ pub(super) fn term_command(rng: &mut Rng, clocks: u8, easy: bool) -> Vec<u8> {
     let first = rng.below(usize::from(clocks)) as u8;
     let difference = clocks >= 2 && rng.chance(25);
     let n = if easy {
-        let far = rng.pick(&[3_000, 70_000, i32::MAX]);
-        if relation < 2 {
-            far
-        } else {
-            -far
-        }
-    } else if rng.chance(4) {
-        rng.pick(&[i32::MIN, i32::MIN + 1, -1, 0, i32::MAX - 1, i32::MAX])
+        easy_number(rng, relation)
     } else {
-        let n = match (relation, difference) {
-            (0 | 1, false) => rng.range(1, 60),
-            (2, false) => rng.range(0, 2),
-            (_, false) => rng.range(-1, 4),
-            (0 | 1, true) => rng.range(-1, 30),
-            (2, true) => rng.range(-1, 1),
-            (_, true) => rng.range(-30, 1),
-        };
-        n as i32
+        telling_number(rng, relation, difference)
     };
     let mut command = Vec::new();
     if difference {
@@ -145,6 +134,32 @@ pub(super) fn term_command(rng: &mut Rng, clocks: u8, easy: bool) -> Vec<u8> {
     command.push(relation);
     command.extend(n.to_be_bytes());
     command
+}
+
+/// A number that nearly every time is related to.
+fn easy_number(rng: &mut Rng, relation: u8) -> i32 {
+    let far = rng.pick(&[3_000, 70_000, i32::MAX]);
+    if relation < 2 {
+        far
+    } else {
+        -far
+    }
+}
+
+/// A number that some times are related to and some are not, or one at the limits.
+fn telling_number(rng: &mut Rng, relation: u8, difference: bool) -> i32 {
+    if rng.chance(4) {
+        return rng.pick(&[i32::MIN, i32::MIN + 1, -1, 0, i32::MAX - 1, i32::MAX]);
+    }
+    let n = match (relation, difference) {
+        (0 | 1, false) => rng.range(1, 60),
+        (2, false) => rng.range(0, 2),
+        (_, false) => rng.range(-1, 4),
+        (0 | 1, true) => rng.range(-1, 30),
+        (2, true) => rng.range(-1, 1),
+        (_, true) => rng.range(-30, 1),
+    };
+    n as i32
 }
 
 /// A region's terms, heat and resets, in any order; so many of a hundred terms are easy.
@@ -181,51 +196,85 @@ fn touched(event: &[u8]) -> u16 {
     }
 }
 
-/// Random bytes that are a well-formed chart.
-pub fn chart_bytes(rng: &mut Rng, size: Size) -> Vec<u8> {
-    let frame = frame(rng, size);
-    let mut bytes = vec![0x10, frame.lines, frame.clocks];
-    let mut pool: Vec<Vec<u8>> = Vec::new();
-    let plain_share = rng.pick(&[0, 15, 30, 50]);
-    let repeat_share = rng.pick(&[0, 20, 60]);
-    let easy_share = match size {
-        Size::Large => rng.pick(&[50, 90, 97, 100]),
-        _ => rng.pick(&[0, 20, 50, 90]),
-    };
-    for (main, count) in [(false, frame.prechart), (true, frame.main)] {
-        if main {
-            bytes.push(0x50);
-        }
-        let opening_half = !main || frame.prechart == 0;
-        let mut lines_so_far = 0;
-        for _ in 0..count {
-            let mut plain = frame.clocks > 0 && rng.chance(plain_share);
-            let mut event = Vec::new();
-            if plain {
-                let mut set = some_set(rng, frame.lines);
-                if opening_half && set & lines_so_far == 0 {
-                    set |= lines_so_far & lines_so_far.wrapping_neg();
-                    plain = lines_so_far != 0;
-                }
-                event = vec![0x21];
-                event.extend(set.to_be_bytes());
-            }
-            if !plain {
-                event = if !pool.is_empty() && rng.chance(repeat_share) {
-                    let place = rng.below(pool.len());
-                    pool[place].clone()
-                } else {
-                    message_command(rng, frame.lines, frame.labels)
-                };
-                pool.push(event.clone());
-            }
-            lines_so_far |= touched(&event);
-            bytes.extend(event);
-            bytes.extend(attributes(rng, frame.clocks, main, plain, easy_share));
+/// A chart in the making.
+struct Maker {
+    frame: Frame,
+    /// So many of a hundred regions are plain, messages sent again, terms easy.
+    plain_share: usize,
+    repeat_share: usize,
+    easy_share: usize,
+    /// The commands of the message regions so far.
+    pool: Vec<Vec<u8>>,
+    bytes: Vec<u8>,
+}
+
+impl Maker {
+    fn of(rng: &mut Rng, size: Size) -> Maker {
+        let frame = frame(rng, size);
+        Maker {
+            bytes: vec![0x10, frame.lines, frame.clocks],
+            frame,
+            plain_share: rng.pick(&[0, 15, 30, 50]),
+            repeat_share: rng.pick(&[0, 20, 60]),
+            easy_share: match size {
+                Size::Large => rng.pick(&[50, 90, 97, 100]),
+                _ => rng.pick(&[0, 20, 50, 90]),
+            },
+            pool: Vec::new(),
         }
     }
-    bytes.push(0x7F);
-    bytes
+
+    /// Adds a half of so many regions.
+    fn half(&mut self, rng: &mut Rng, main: bool, count: usize) {
+        let opening = !main || self.frame.prechart == 0;
+        let mut lines_so_far = 0;
+        for _ in 0..count {
+            let mut event = None;
+            if self.frame.clocks > 0 && rng.chance(self.plain_share) {
+                event = self.plain_event(rng, opening, lines_so_far);
+            }
+            let plain = event.is_some();
+            let event = event.unwrap_or_else(|| self.message_event(rng));
+            lines_so_far |= touched(&event);
+            self.bytes.extend(event);
+            let clocks = self.frame.clocks;
+            let more = attributes(rng, clocks, main, plain, self.easy_share);
+            self.bytes.extend(more);
+        }
+    }
+
+    /// A plain region's command; in the opening half it stands below another, or is none.
+    fn plain_event(&self, rng: &mut Rng, opening: bool, lines_so_far: u16) -> Option<Vec<u8>> {
+        let mut set = some_set(rng, self.frame.lines);
+        if opening && set & lines_so_far == 0 {
+            if lines_so_far == 0 {
+                return None;
+            }
+            set |= lines_so_far & lines_so_far.wrapping_neg();
+        }
+        Some(plain_command(set))
+    }
+
+    /// A message region's command, now and then of a message that the chart has already.
+    fn message_event(&mut self, rng: &mut Rng) -> Vec<u8> {
+        let event = if !self.pool.is_empty() && rng.chance(self.repeat_share) {
+            self.pool[rng.below(self.pool.len())].clone()
+        } else {
+            message_command(rng, self.frame.lines, self.frame.labels)
+        };
+        self.pool.push(event.clone());
+        event
+    }
+}
+
+/// Random bytes that are a well-formed chart.
+pub fn chart_bytes(rng: &mut Rng, size: Size) -> Vec<u8> {
+    let mut maker = Maker::of(rng, size);
+    maker.half(rng, false, maker.frame.prechart);
+    maker.bytes.push(0x50);
+    maker.half(rng, true, maker.frame.main);
+    maker.bytes.push(0x7F);
+    maker.bytes
 }
 
 /// A random well-formed chart: its bytes and its value.

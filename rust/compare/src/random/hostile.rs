@@ -1,6 +1,8 @@
 //! Bytes of every kind, well-formed, damaged and put together with little care.
 
-use super::charts::{chart, chart_bytes, message_command, some_set, some_size, term_command};
+use super::charts::{
+    chart, chart_bytes, message_command, plain_command, some_set, some_size, term_command,
+};
 use super::logs::{feeds, records};
 use super::pieces::{commands, log_pieces};
 use super::Rng;
@@ -15,11 +17,7 @@ fn any_command(rng: &mut Rng, lines: u8, clocks: u8) -> Vec<u8> {
     let mut command = match rng.below(20) {
         0 => vec![0x10, lines, clocks],
         1..=5 => message_command(rng, in_lines, 3),
-        6..=8 => {
-            let mut command = vec![0x21];
-            command.extend(some_set(rng, in_lines).to_be_bytes());
-            command
-        }
+        6..=8 => plain_command(some_set(rng, in_lines)),
         9..=12 => term_command(rng, in_clocks, false),
         13..=14 => vec![0x32],
         15..=17 => vec![0x40, some_set(rng, in_clocks) as u8],

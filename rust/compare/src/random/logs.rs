@@ -90,6 +90,16 @@ fn awaited_message(
     record
 }
 
+/// The time about which a log starts.
+fn start(rng: &mut Rng) -> u32 {
+    match rng.below(20) {
+        0 => u32::MAX - rng.below(60) as u32,
+        1 => rng.draw() as u32,
+        2..=9 => 0,
+        _ => rng.below(200) as u32,
+    }
+}
+
 /// Random records over a chart, their times never falling.
 pub fn records(rng: &mut Rng, chart: &ChartValue, count: usize) -> Vec<RecordValue> {
     let plan = Plan::of(chart);
@@ -97,12 +107,7 @@ pub fn records(rng: &mut Rng, chart: &ChartValue, count: usize) -> Vec<RecordVal
     let mut records = Vec::new();
     let care = rng.pick(&[100, 98, 90, 70, 30]);
     let wild = rng.chance(10);
-    let mut now: u32 = match rng.below(20) {
-        0 => u32::MAX - rng.below(60) as u32,
-        1 => rng.draw() as u32,
-        2..=9 => 0,
-        _ => rng.below(200) as u32,
-    };
+    let mut now = start(rng);
     for _ in 0..count {
         let mut record = None;
         if rng.chance(care) {

@@ -18,6 +18,9 @@ pub use printing::compare as compare_print;
 pub use values::{compare as compare_values, feed_images};
 pub use whole::compare as compare_judge;
 
+/// Makes an input's two parts.
+pub type Make = fn(&mut Rng) -> (Vec<u8>, Vec<u8>);
+
 /// Gives an input's two parts to both sides; the first point on which they differ.
 pub type Compare = fn(&[u8], &[u8], &mut Seen) -> Result<(), Both>;
 
@@ -28,19 +31,36 @@ pub struct Kind {
     pub share: usize,
     /// What the two parts of an input are.
     pub parts: [&'static str; 2],
-    pub make: fn(&mut Rng) -> (Vec<u8>, Vec<u8>),
+    pub make: Make,
     pub compare: Compare,
 }
 
 /// All kinds.
+#[rustfmt::skip]
 pub static KINDS: [Kind; 6] = [
-    whole::KIND,
-    printing::KIND,
-    values::KIND,
-    live::KIND,
-    bytes::KIND,
-    rows::KIND,
+    kind("judge", 34, ["chart", "log"], whole::make, whole::compare),
+    kind("print", 14, ["nothing", "input"], printing::make, printing::compare),
+    kind("values", 30, ["chart image", "monitor image and record"], values::make, values::compare),
+    kind("live", 9, ["chart", "records"], live::make, live::compare),
+    kind("live bytes", 10, ["live bytes", "record"], bytes::make, bytes::compare),
+    kind("rows", 3, ["chart", "records"], rows::make, rows::compare),
 ];
+
+const fn kind(
+    name: &'static str,
+    share: usize,
+    parts: [&'static str; 2],
+    make: Make,
+    compare: Compare,
+) -> Kind {
+    Kind {
+        name,
+        share,
+        parts,
+        make,
+        compare,
+    }
+}
 
 /// Longer inputs are not shrunk piece by piece: it would take too long.
 const SHRINKABLE: usize = 4_000;
@@ -132,7 +152,7 @@ mod tests {
     fn a_difference_is_found_and_shrunk() {
         let kind = Kind {
             compare: forgets_breaks,
-            ..whole::KIND
+            ..KINDS[0]
         };
         let mut rng = Rng::new(5);
         let found = (0..10_000)
