@@ -2,8 +2,8 @@
 
 use crate::value::{Message, RecordValue};
 
-/// "After undo (0 to 1, label 1), headings (1 to 0, label 2) and references (2 to 3, label 3)
-/// come back in either order, each within 40 ticks."
+/// Document 01's chart U: once undo is seen, headings and references are owed, each at most
+/// 40 ticks later.
 pub const CHART_U: [u8; 38] = [
     0x10, 4, 1, // 4 lines, 1 clock
     0x20, 0, 1, 0, 1, 0x40, 1,    // prechart: undo resets clock 0

@@ -1,7 +1,8 @@
 //! Document 01's chart monitor, written from that document alone to be compared with.
 //!
 //! `reader`, `well_formed`, `monitor`, `log` and `print` follow document 01 sentence by
-//! sentence. `declarative` decides demand 3 by trying every row.
+//! sentence. `declarative` decides demand 3 by trying every row. `examples` has chart U and
+//! the document's examples over it.
 #![forbid(unsafe_code)]
 
 pub mod command;

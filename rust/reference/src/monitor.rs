@@ -157,8 +157,7 @@ pub fn feed_fit(
     }
 }
 
-/// "Then a broken monitor answers broken again, with record and reason, and nothing changes.
-/// Otherwise 22 the time is below now; 23 it would be record 1,000,001."
+/// What a fit monitor answers without taking the record: its break again, or refusal 22 or 23.
 pub fn not_taken(monitor: &MonitorValue, record: &RecordValue) -> Option<Answer> {
     if let Some(known) = monitor.broken() {
         Some(Answer::Broken(known))

@@ -1,5 +1,5 @@
-//! `benchmark [FILE]`: times of the proved library beside the reference's fast judge. Prints
-//! a table in Markdown and writes a plot to FILE (`docs/judge-time.svg` of the repository).
+//! `benchmark [FILE]`: times of the proved library beside a fast judge in Rust. Prints a table
+//! in Markdown and writes a plot to FILE (`docs/judge-time.svg` of the repository).
 
 mod lines;
 mod rows;

@@ -77,7 +77,7 @@ pub fn feeding_values(subject: &Subject) {
     row("feeding values", subject, FED, &times);
 }
 
-/// The reference doing what the functions over images do: read both, feed, write the monitor's.
+/// The fast judge doing what the functions over images do: read both, feed, write the monitor's.
 fn feed_values(image: &[u8], monitor: &mut [u8], record: &RecordValue) -> Option<Answer> {
     let chart = ChartValue::from_image(image)?;
     let (answer, after) = fast::feed(&chart, MonitorValue::from_image(monitor)?, *record);
@@ -110,7 +110,7 @@ pub fn feeding_live(subject: &Subject) {
     row("feeding live", subject, FED, &times);
 }
 
-/// The reference doing what the live functions do: read the chart, feed, write the image.
+/// The fast judge doing what the live functions do: read the chart, feed, write the image.
 fn feed_reference(live: &mut [u8], record: &RecordValue) -> Option<Answer> {
     let chart = read_chart(&live[LIVE_HEAD..]).ok()?;
     let monitor = MonitorValue::from_image(&live[..MONITOR_IMAGE])?;
