@@ -73,9 +73,10 @@ impl State {
     /// Resets a set of clocks now.
     #[inline]
     pub(super) fn reset(&mut self, clocks: u8) {
+        let now = self.now();
         let mut left = clocks;
         while left != 0 {
-            self.moments[left.trailing_zeros() as usize] = self.moments[NOW];
+            self.moments[left.trailing_zeros() as usize] = now;
             left &= left - 1;
         }
     }
