@@ -1,14 +1,9 @@
 //! Fixed charts, and long logs that mostly keep their rounds.
 
-use lsc_reference::fast::{Plan, State};
-use lsc_reference::random::{log_pieces, Rng};
+use crate::fast::{Plan, State};
+use crate::random::{log_pieces, Rng};
+use lsc_reference::examples::CHART_U;
 use lsc_reference::value::*;
-
-/// Document 01's chart U: after undo, headings and references within 40 ticks.
-pub const U: [u8; 38] = [
-    0x10, 4, 1, 0x20, 0, 1, 0, 1, 0x40, 1, 0x50, 0x20, 1, 0, 0, 2, 0x30, 0, 1, 0, 0, 0, 40, 0x32,
-    0x20, 2, 3, 0, 3, 0x30, 0, 1, 0, 0, 0, 40, 0x32, 0x7F,
-];
 
 /// After m1 with x at least 3: m2 with x at least 2, and m3, in any order.
 const EITHER_ORDER: [u8; 35] = [
@@ -35,7 +30,7 @@ const THROUGH_A_THIRD: [u8; 20] = [
 
 /// Small charts for trying every row.
 pub const SMALL: [&[u8]; 5] = [
-    &U,
+    &CHART_U,
     &EITHER_ORDER,
     &TWO_THEN_ONE,
     &SENT_AGAIN,
@@ -89,9 +84,9 @@ pub fn keeping_log(chart: &ChartValue, count: usize, seed: u64) -> Vec<u8> {
     for _ in 0..count {
         let record = next_record(&mut rng, chart, &plan, &state);
         plan.take_record(&mut state, &record);
-        log.extend(record.to_image());
+        log.extend(record.to_bytes());
     }
-    assert_eq!(state.reason, 0, "the log breaks its chart");
+    assert_eq!(state.broken, None, "the log breaks its chart");
     log
 }
 
@@ -102,20 +97,20 @@ pub fn breaking_log(chart: &ChartValue, log: &[u8]) -> Vec<u8> {
     let mut state = State::FRESH;
     let mut broken = Vec::with_capacity(log.len());
     for piece in log_pieces(log) {
-        let Some(record) = RecordValue::from_image(&piece) else {
+        let Some(record) = RecordValue::from_bytes(&piece) else {
             continue;
         };
-        if state.reason != 0 {
+        if state.broken.is_some() {
             broken.extend(piece);
             continue;
         }
         let mut next = record;
         let again = message(&chart.regions[0], record.time());
-        if let Answer::Broken { .. } = plan.take_record(&mut state.clone(), &again) {
+        if let Answer::Broken(_) = plan.take_record(&mut state.clone(), &again) {
             next = again;
         }
         plan.take_record(&mut state, &next);
-        broken.extend(next.to_image());
+        broken.extend(next.to_bytes());
     }
     broken
 }
@@ -125,13 +120,12 @@ fn next_record(rng: &mut Rng, chart: &ChartValue, plan: &Plan, state: &State) ->
     let ready = plan.ready_messages(state);
     match rng.below(100) {
         0..=3 => return RecordValue::Time(time),
-        4..=7 => return message(&RegionValue::ZERO, time),
+        4..=7 => return FOREIGN.at(time),
         8..=12 if state.fired == 0 => {
             // A message of the chart that nothing awaits: the round is dropped.
             let last = usize::from(chart.count) - 1;
             let unready = (0..=last).rev().find(|&place| {
-                (ready >> place) & 1 == 0
-                    && matches!(chart.regions[place].event, EventValue::Message { .. })
+                (ready >> place) & 1 == 0 && chart.regions[place].message().is_some()
             });
             if let (Some(place), true) = (unready, chart.prechart > 0) {
                 return message(&chart.regions[place], time);
@@ -145,28 +139,22 @@ fn next_record(rng: &mut Rng, chart: &ChartValue, plan: &Plan, state: &State) ->
     message(&chart.regions[rng.pick(&places)], time)
 }
 
+/// A message of no region.
+const FOREIGN: Message = Message {
+    source: 1,
+    destination: 1,
+    label: 0xFFFF,
+};
+
 /// The region's message at a time; a foreign one for a plain region.
 fn message(region: &RegionValue, time: u32) -> RecordValue {
-    let (source, destination, label) = match region.event {
-        EventValue::Message {
-            source,
-            destination,
-            label,
-        } => (source, destination, label),
-        EventValue::Plain(_) => (1, 1, 0xFFFF),
-    };
-    RecordValue::Message {
-        source,
-        destination,
-        label,
-        time,
-    }
+    region.message().unwrap_or(FOREIGN).at(time)
 }
 
 #[cfg(test)]
 mod tests {
     use super::*;
-    use lsc_reference::fast::judge;
+    use crate::fast::judge;
     use lsc_reference::reader::read_chart;
 
     #[test]
@@ -183,11 +171,12 @@ mod tests {
         assert!(chart.regions.iter().all(|region| region.term_count == 4));
         let log = keeping_log(&chart, 10_000, 1);
         let verdict = judge(&chart, &breaking_log(&chart, &log)).unwrap();
-        assert!((7..40).contains(&verdict.break_record), "{verdict:?}");
+        let (record, _) = Break::numbers(verdict.broken);
+        assert!((7..40).contains(&record), "{verdict:?}");
         let verdict = judge(&chart, &log).unwrap();
         assert!(verdict.kept > 350, "{verdict:?}");
         assert!((1..60).contains(&verdict.dropped), "{verdict:?}");
-        let chart = read_chart(&U).unwrap();
+        let chart = read_chart(&CHART_U).unwrap();
         let verdict = judge(&chart, &keeping_log(&chart, 10_000, 1)).unwrap();
         assert!(verdict.kept > 2_500, "{verdict:?}");
         assert!((1..600).contains(&verdict.dropped), "{verdict:?}");

@@ -3,20 +3,28 @@
 //! Each kind of comparison makes an input of two byte strings from a seeded generator, gives
 //! it to both sides and compares every number and every byte lent. An input that differs is
 //! shrunk and shown in hexadecimal with both answers, the seed and the input's number.
+//!
+//! `random` has the generators, `coverage` and `seen` count what was reached, and `image` has
+//! values in the library's form. `fast` is a judge in Rust that the benchmark runs beside the
+//! proved one; the reference is its test too.
 #![forbid(unsafe_code)]
 
 pub mod charts;
+pub mod coverage;
 pub mod difference;
+pub mod fast;
 pub mod hex;
+pub mod image;
 pub mod kinds;
 pub mod limits;
 pub mod measure;
 pub mod plot;
+pub mod random;
 pub mod seen;
 
 use difference::Difference;
 use kinds::{Kind, KINDS};
-use lsc_reference::random::Rng;
+use random::Rng;
 use seen::Seen;
 
 /// Which inputs a run takes: `count` of them from number `first`, all drawn from `seed`.

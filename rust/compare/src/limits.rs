@@ -1,11 +1,13 @@
 //! Fixed inputs at the limits: 1,000,000 records, the longest input, sizes that overflow.
 
-use crate::charts::{self, U};
+use crate::charts;
 use crate::difference::{same, Both, Difference};
+use crate::image::{live_bytes, Image};
 use crate::kinds::{compare_bytes, compare_judge, compare_print, compare_values, Compare};
 use crate::seen::Seen;
 use lsc::call;
-use lsc_reference::random::printing_input;
+use lsc_reference::examples::{undo, CHART_U};
+use lsc_reference::print::input_of;
 use lsc_reference::reader::read_chart;
 use lsc_reference::value::*;
 
@@ -34,30 +36,32 @@ pub fn run(seen: &mut Seen) -> Result<(), Box<Difference>> {
 
 /// Logs of 1,000,000 and of 1,000,001 records, with a falling time before and behind.
 fn judged() -> Vec<Case> {
-    let chart = read_chart(&U).expect("chart U is read");
+    let chart = read_chart(&CHART_U).expect("chart U is read");
     let full = charts::keeping_log(&chart, MAX_RECORDS as usize, 3);
-    let with = |time: u32| [&full[..], &RecordValue::Time(time).to_image()].concat();
+    let with = |time: u32| [&full[..], &RecordValue::Time(time).to_bytes()].concat();
     let cut = |mut log: Vec<u8>| {
         log.pop();
         log
     };
-    let last = RecordValue::Time(u32::MAX).to_image();
-    vec![
-        ("1,000,000 records", compare_judge, U.to_vec(), full.clone()),
-        ("1,000,001", compare_judge, U.to_vec(), with(u32::MAX)),
-        ("falls at 1,000,001", compare_judge, U.to_vec(), with(0)),
-        ("cut at 1,000,001", compare_judge, U.to_vec(), cut(with(0))),
-        ("the latest time", compare_judge, U.to_vec(), last),
-    ]
+    let last = RecordValue::Time(u32::MAX).to_bytes();
+    let logs = [
+        ("1,000,000 records", full.clone()),
+        ("1,000,001", with(u32::MAX)),
+        ("falls at 1,000,001", with(0)),
+        ("cut at 1,000,001", cut(with(0))),
+        ("the latest time", last),
+    ];
+    let case = |(name, log)| -> Case { (name, compare_judge, CHART_U.to_vec(), log) };
+    logs.map(case).into()
 }
 
 /// Inputs about 65,536 bytes long, and short ones.
 fn printed() -> Vec<Case> {
     let mut cases: Vec<Case> = Vec::new();
     for length in [65_535, 65_536, 65_537, 70_000] {
-        let mut input = printing_input(&U, &[]);
+        let mut input = input_of(&CHART_U, &[]);
         while input.len() + 5 <= length {
-            input.extend(RecordValue::Time(7).to_image());
+            input.extend(RecordValue::Time(7).to_bytes());
         }
         let mut ragged = input.clone();
         ragged.resize(length, 2);
@@ -72,7 +76,7 @@ fn printed() -> Vec<Case> {
 
 /// Monitors with 999,999, 1,000,000 and 1,000,001 records, fed as images and as live bytes.
 fn fed() -> Vec<Case> {
-    let chart = read_chart(&U).expect("chart U is read");
+    let chart = read_chart(&CHART_U).expect("chart U is read");
     let mut cases: Vec<Case> = Vec::new();
     for records in [999_999, 1_000_000, 1_000_001] {
         let monitor = MonitorValue {
@@ -80,19 +84,12 @@ fn fed() -> Vec<Case> {
             now: 10,
             ..MonitorValue::ZERO
         };
-        let undo = RecordValue::Message {
-            source: 0,
-            destination: 1,
-            label: 1,
-            time: 10,
-        };
-        for record in [undo, RecordValue::Time(11), RecordValue::Time(9)] {
-            let image = monitor.to_image().to_vec();
-            let second = [image.clone(), record.to_image()].concat();
+        for record in [undo(10), RecordValue::Time(11), RecordValue::Time(9)] {
+            let second = [&monitor.to_image()[..], &record.to_bytes()].concat();
             let first = chart.to_image().to_vec();
             cases.push(("a full image", compare_values, first, second));
-            let live = [image, (U.len() as u64).to_be_bytes().to_vec(), U.to_vec()].concat();
-            cases.push(("full live bytes", compare_bytes, live, record.to_image()));
+            let live = live_bytes(&CHART_U, &monitor);
+            cases.push(("full live bytes", compare_bytes, live, record.to_bytes()));
         }
     }
     cases

@@ -69,26 +69,9 @@ impl Plot {
              <rect width=\"{WIDTH}\" height=\"{HEIGHT}\" fill=\"white\"/>\n"
         );
         text(&mut svg, (WIDTH / 2.0, 26.0), "middle", "", &self.title);
-        for decade in across.0..=across.1 {
-            let x = place(10f64.powi(decade), across, LEFT, RIGHT);
-            rule(&mut svg, (x, TOP), (x, BOTTOM));
-            let name = decade_name(decade);
-            text(&mut svg, (x, BOTTOM + 20.0), "middle", "", &name);
-        }
-        for decade in up.0..=up.1 {
-            let y = place(10f64.powi(decade), up, BOTTOM, TOP);
-            rule(&mut svg, (LEFT, y), (RIGHT, y));
-            let name = decade_name(decade);
-            text(&mut svg, (LEFT - 8.0, y + 4.0), "end", "", &name);
-        }
-        let middle = (LEFT + RIGHT) / 2.0;
-        text(
-            &mut svg,
-            (middle, BOTTOM + 46.0),
-            "middle",
-            "",
-            &self.across,
-        );
+        rules(&mut svg, across, up);
+        let below = ((LEFT + RIGHT) / 2.0, BOTTOM + 46.0);
+        text(&mut svg, below, "middle", "", &self.across);
         let turn = " transform=\"rotate(-90 22 245)\"";
         text(&mut svg, (22.0, 245.0), "middle", turn, &self.up);
         for (number, line) in self.lines.iter().enumerate() {
@@ -102,6 +85,22 @@ impl Plot {
         }
         svg.push_str("</svg>\n");
         svg
+    }
+}
+
+/// A rule with its name for each decade, across and up.
+fn rules(svg: &mut String, across: (i32, i32), up: (i32, i32)) {
+    for decade in across.0..=across.1 {
+        let x = place(10f64.powi(decade), across, LEFT, RIGHT);
+        rule(svg, (x, TOP), (x, BOTTOM));
+        let name = decade_name(decade);
+        text(svg, (x, BOTTOM + 20.0), "middle", "", &name);
+    }
+    for decade in up.0..=up.1 {
+        let y = place(10f64.powi(decade), up, BOTTOM, TOP);
+        rule(svg, (LEFT, y), (RIGHT, y));
+        let name = decade_name(decade);
+        text(svg, (LEFT - 8.0, y + 4.0), "end", "", &name);
     }
 }
 

@@ -1,6 +1,6 @@
 //! What a run has reached: refusals, answers and standings that the library gave.
 
-use lsc_reference::coverage::{Coverage, ANSWERS, REFUSALS};
+use crate::coverage::{Coverage, ANSWERS, REFUSALS};
 use lsc_reference::value::Answer;
 use std::collections::BTreeMap;
 use std::fmt;

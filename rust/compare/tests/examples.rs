@@ -1,7 +1,7 @@
 //! The repository's examples: what `lsc_print` says for each log against `NAME.expected`.
 
 use lsc_compare::hex;
-use lsc_reference::random::printing_input;
+use lsc_reference::print::input_of;
 use std::fs;
 use std::path::{Path, PathBuf};
 
@@ -33,7 +33,7 @@ fn every_example_prints_what_is_expected() {
             let expected = path.with_extension("expected");
             let expected = fs::read_to_string(&expected)
                 .unwrap_or_else(|fault| panic!("{expected:?}: {fault}"));
-            let input = printing_input(&chart, &bytes_of(&path));
+            let input = input_of(&chart, &bytes_of(&path));
             assert_eq!(lsc::print(&input), expected, "{path:?}");
             logs += 1;
         }

@@ -3,13 +3,13 @@
  * order, each within 40 ticks. watch.rs does the same in Rust. In the folder rust/:
  *
  *   gcc -std=c99 -Wall -Wextra -Werror -Iinclude lsc/examples/watch.c \
- *       ../target/staticlib/liblsc.a -o target/watch
+ *       ../target/staticlib/liblsc_live.a -o target/watch
  */
 #include "lsc.h"
 
 #include <stdio.h>
 
-/* Chart U: 4 lines, 1 clock. */
+/* Chart U: 4 lines, 1 clock. C has no part in the Rust constant, so its bytes are written out. */
 static const uint8_t chart[38] = {
     0x10, 4, 1,                                      /* heading */
     0x20, 0, 1, 0, 1, 0x40, 1,                       /* prechart: undo resets clock 0 */

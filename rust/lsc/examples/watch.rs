@@ -7,8 +7,8 @@ use lsc::LiveMonitor;
 use std::error::Error;
 use std::io::{self, Write};
 
-/// Chart U: 4 lines, 1 clock.
-const CHART: [u8; 38] = [
+/// Chart U: 4 lines, 1 clock. An example stands alone, so its bytes are written out.
+pub const CHART: [u8; 38] = [
     0x10, 4, 1, // heading
     0x20, 0, 1, 0, 1, 0x40, 1,    // prechart: undo, 0 to 1, label 1, resets clock 0
     0x50, // the main chart starts

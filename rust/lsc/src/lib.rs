@@ -20,6 +20,7 @@
 //!     0x20, 2, 3, 0, 3, 0x30, 0, 1, 0, 0, 0, 40, 0x32, // references likewise
 //!     0x7F,
 //! ];
+//! # assert_eq!(chart, lsc_reference::examples::CHART_U);
 //! let mut monitor = LiveMonitor::open(&chart)?;
 //! assert_eq!(monitor.feed_message(0, 1, 1, 100), Ok(Answer::Entered));
 //! assert_eq!(monitor.feed_message(2, 3, 3, 120), Ok(Answer::Moved));
@@ -47,7 +48,7 @@ pub mod raw;
 mod values;
 
 pub use live::LiveMonitor;
-pub use values::{Answer, FeedRefusal, Part, Refusal, Standing, Verdict};
+pub use values::{Answer, FeedRefusal, Part, Reason, Refusal, Standing, Verdict};
 
 /// The places of `out` for a text: `lsc_print` writes at most so many bytes.
 const TEXT_ROOM: usize = 169;

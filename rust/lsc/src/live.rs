@@ -1,10 +1,7 @@
 //! A monitor that takes one record at a time.
 
 use crate::call;
-use crate::values::{Answer, FeedRefusal, Part, Refusal, Verdict};
-
-/// Where the break's record stands in a monitor's image; its reason is the byte behind.
-const BREAK: usize = 52;
+use crate::values::{Answer, FeedRefusal, Part, Reason, Refusal, Verdict};
 
 /// A monitor with its chart, in bytes of its own that can be stored and taken up again.
 ///
@@ -71,20 +68,27 @@ impl LiveMonitor {
 
     /// How the chart stands after the records fed so far.
     pub fn standing(&self) -> Verdict {
+        Verdict::of(&self.verdict())
+    }
+
+    /// The six numbers of the verdict so far.
+    fn verdict(&self) -> [u64; 6] {
         let mut out = [0; 6];
         let number = call::standing(&self.bytes, &mut out);
         debug_assert_eq!(number, 0, "the bytes hold a fit live monitor");
-        Verdict::of(&out)
+        out
     }
 
-    /// The answer of a number; the break is read from the image.
+    /// The answer of a number; the library is asked for the break.
     fn answer(&self, number: u8) -> Result<Answer, FeedRefusal> {
-        let image = &self.bytes[BREAK..BREAK + 5];
         match number {
-            1 => Ok(Answer::Broken {
-                record: u32::from_be_bytes([image[0], image[1], image[2], image[3]]),
-                reason: image[4],
-            }),
+            1 => {
+                let [.., record, reason] = self.verdict();
+                Ok(Answer::Broken {
+                    record: record as u32,
+                    reason: Reason::of(reason),
+                })
+            }
             2 => Ok(Answer::Kept),
             3 => Ok(Answer::Dropped),
             4 => Ok(Answer::Entered),

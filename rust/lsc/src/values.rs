@@ -37,6 +37,33 @@ impl Standing {
     }
 }
 
+/// Why a chart is broken.
+#[derive(Clone, Copy, Debug, PartialEq, Eq, Hash)]
+pub enum Reason {
+    /// 1: a message of the chart came out of order.
+    NoReadyRegion,
+    /// 2: a hot condition failed.
+    ConditionFails,
+}
+
+impl Reason {
+    /// The number that the verdict prints.
+    pub fn number(self) -> u8 {
+        match self {
+            Reason::NoReadyRegion => 1,
+            Reason::ConditionFails => 2,
+        }
+    }
+
+    /// The reason of a number that is not 0.
+    pub(crate) fn of(number: u64) -> Reason {
+        match number {
+            1 => Reason::NoReadyRegion,
+            _ => Reason::ConditionFails,
+        }
+    }
+}
+
 /// What is known behind a log, or so far.
 #[derive(Clone, Copy, Debug, PartialEq, Eq, Hash)]
 pub struct Verdict {
@@ -50,8 +77,8 @@ pub struct Verdict {
     pub records: u32,
     /// The record that broke the chart, counted from 1; 0 if none did.
     pub break_record: u32,
-    /// 1: a message of the chart came out of order. 2: a hot condition failed. 0: no break.
-    pub reason: u8,
+    /// Why it broke the chart; none if no record did.
+    pub reason: Option<Reason>,
 }
 
 impl Verdict {
@@ -62,7 +89,7 @@ impl Verdict {
             dropped: out[2] as u32,
             records: out[3] as u32,
             break_record: out[4] as u32,
-            reason: out[5] as u8,
+            reason: (out[5] != 0).then(|| Reason::of(out[5])),
         }
     }
 }
@@ -78,7 +105,7 @@ impl fmt::Display for Verdict {
             self.dropped,
             self.records,
             self.break_record,
-            self.reason
+            self.reason.map_or(0, Reason::number)
         )
     }
 }
@@ -90,8 +117,8 @@ pub enum Answer {
     Broken {
         /// The record that broke it, counted from 1.
         record: u32,
-        /// 1: a message out of order. 2: a failed hot condition.
-        reason: u8,
+        /// Why.
+        reason: Reason,
     },
     /// The round is complete.
     Kept,
@@ -109,7 +136,7 @@ impl fmt::Display for Answer {
     fn fmt(&self, f: &mut fmt::Formatter<'_>) -> fmt::Result {
         match self {
             Answer::Broken { record, reason } => {
-                write!(f, "broken at record {record}, reason {reason}")
+                write!(f, "broken at record {record}, reason {}", reason.number())
             }
             Answer::Kept => f.write_str("kept"),
             Answer::Dropped => f.write_str("dropped"),

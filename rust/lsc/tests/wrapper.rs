@@ -1,49 +1,19 @@
 //! The safe wrapper on document 01's own examples.
 
-use lsc::{Answer, FeedRefusal, LiveMonitor, Part, Refusal, Standing};
-
-/// Document 01's chart U.
-const U: [u8; 38] = [
-    0x10, 4, 1, 0x20, 0, 1, 0, 1, 0x40, 1, 0x50, 0x20, 1, 0, 0, 2, 0x30, 0, 1, 0, 0, 0, 40, 0x32,
-    0x20, 2, 3, 0, 3, 0x30, 0, 1, 0, 0, 0, 40, 0x32, 0x7F,
-];
-
-const UNDO: [u8; 4] = [0, 1, 0, 1];
-const HEADINGS: [u8; 4] = [1, 0, 0, 2];
-const REFERENCES: [u8; 4] = [2, 3, 0, 3];
-
-fn log(messages: &[([u8; 4], u32)]) -> Vec<u8> {
-    let mut log = Vec::new();
-    for (message, time) in messages {
-        log.push(1);
-        log.extend(message);
-        log.extend(time.to_be_bytes());
-    }
-    log
-}
-
-fn judged(messages: &[([u8; 4], u32)]) -> String {
-    match lsc::judge(&U, &log(messages)) {
-        Ok(verdict) => verdict.to_string(),
-        Err(refusal) => refusal.to_string(),
-    }
-}
+use lsc::{Answer, FeedRefusal, LiveMonitor, Part, Reason, Refusal, Standing};
+use lsc_reference::examples::{CHART_U, OVER_CHART_U};
+use lsc_reference::log::write_log;
+use lsc_reference::print::input_of;
 
 #[test]
 fn logs_over_chart_u() {
-    let (undo, headings, references) = (UNDO, HEADINGS, REFERENCES);
-    let kept = [(undo, 100), (references, 120), (headings, 140)];
-    assert_eq!(judged(&kept), "0 1 0 3 0 0");
-    let late = [(undo, 100), (references, 120), (headings, 141)];
-    assert_eq!(judged(&late), "3 0 0 3 3 2");
-    assert_eq!(judged(&[(undo, 100), (headings, 120)]), "2 0 0 2 0 0");
-    let again = [(undo, 100), (headings, 120), (headings, 130)];
-    assert_eq!(judged(&again), "3 0 0 3 3 1");
-    assert_eq!(judged(&[(undo, 100), (undo, 110)]), "3 0 0 2 2 1");
-    assert_eq!(judged(&[(headings, 5)]), "0 0 1 1 0 0");
-    assert_eq!(judged(&[(undo, 100), ([3, 2, 0, 3], 110)]), "2 0 0 2 0 0");
-    assert_eq!(judged(&[]), "0 0 0 0 0 0");
-    assert_eq!(judged(&[(undo, 100), (undo, 99)]), "refused log 22 at 9");
+    for (records, expected) in OVER_CHART_U {
+        let said = match lsc::judge(&CHART_U, &write_log(records)) {
+            Ok(verdict) => verdict.to_string(),
+            Err(refusal) => refusal.to_string(),
+        };
+        assert_eq!(said, expected);
+    }
 }
 
 #[test]
@@ -64,11 +34,9 @@ fn charts_that_are_refused() {
 
 #[test]
 fn printed_texts() {
-    let mut input = vec![0, 38];
-    input.extend(U);
-    input.extend(log(&[(UNDO, 100), (REFERENCES, 120), (HEADINGS, 140)]));
-    let text = "STANDING KEPT DROPPED RECORDS BREAK REASON\n0 1 0 3 0 0\n";
-    assert_eq!(lsc::print(&input), text);
+    let (records, numbers) = OVER_CHART_U[0];
+    let text = format!("STANDING KEPT DROPPED RECORDS BREAK REASON\n{numbers}\n");
+    assert_eq!(lsc::print(&input_of(&CHART_U, &write_log(records))), text);
     assert_eq!(lsc::print(&[0]), "refused input 41 at 0\n");
     assert_eq!(lsc::print(&[0; 65_537]), "refused input 40 at 0\n");
     assert_eq!(lsc::print(&[0, 0]), "refused chart 1 at 0\n");
@@ -76,7 +44,7 @@ fn printed_texts() {
 
 #[test]
 fn a_live_monitor_is_stored_and_taken_up_again() {
-    let mut monitor = LiveMonitor::open(&U).unwrap();
+    let mut monitor = LiveMonitor::open(&CHART_U).unwrap();
     assert_eq!(monitor.feed_time(7), Ok(Answer::Quiet));
     assert_eq!(monitor.standing().standing, Standing::Open);
     assert_eq!(monitor.feed_message(0, 1, 1, 100), Ok(Answer::Entered));
@@ -86,24 +54,27 @@ fn a_live_monitor_is_stored_and_taken_up_again() {
     assert_eq!(again.standing().standing, Standing::Owed);
     let broken = Answer::Broken {
         record: 3,
-        reason: 1,
+        reason: Reason::NoReadyRegion,
     };
     assert_eq!(again.feed_message(0, 1, 1, 100), Ok(broken));
     assert_eq!(again.feed_time(0), Ok(broken));
     assert_eq!(again.standing().to_string(), "3 0 0 3 3 1");
+    assert_eq!(again.standing().reason, Some(Reason::NoReadyRegion));
+    assert_eq!(monitor.standing().reason, None);
     assert_ne!(again.into_bytes(), monitor.into_bytes());
 }
 
 #[test]
 fn bytes_that_hold_no_monitor() {
     let no = |bytes: &[u8]| LiveMonitor::from_bytes(bytes.to_vec()).err();
-    let good = LiveMonitor::open(&U).unwrap().into_bytes();
+    let good = LiveMonitor::open(&CHART_U).unwrap().into_bytes();
     assert_eq!(no(&good), None);
     assert_eq!(no(&good[..102]), Some(FeedRefusal::NoLiveMonitor));
     assert_eq!(no(&[]), Some(FeedRefusal::NoLiveMonitor));
     let mut unfit = good.clone();
     unfit[0] = 1;
     assert_eq!(no(&unfit), Some(FeedRefusal::Unfit));
+    // The count of records stands at 40 in the image.
     let mut full = good;
     full[40..44].copy_from_slice(&1_000_000u32.to_be_bytes());
     let mut monitor = LiveMonitor::from_bytes(full).unwrap();

@@ -1,17 +1,16 @@
-//! A plain implementation of document 01's chart monitor, written to be compared with.
+//! Document 01's chart monitor, written from that document alone to be compared with.
 //!
 //! `reader`, `well_formed`, `monitor`, `log` and `print` follow document 01 sentence by
-//! sentence. `declarative` decides demand 3 by trying every row. `fast` answers the same
-//! questions at speed. `random` makes inputs and shrinks failing ones.
+//! sentence. `declarative` decides demand 3 by trying every row. `examples` has chart U and
+//! the document's examples over it.
 #![forbid(unsafe_code)]
 
-pub mod coverage;
+pub mod command;
 pub mod declarative;
-pub mod fast;
+pub mod examples;
 pub mod log;
 pub mod monitor;
 pub mod print;
-pub mod random;
 pub mod reader;
 pub mod value;
 pub mod well_formed;

@@ -21,8 +21,7 @@ pub struct Verdict {
     pub kept: u32,
     pub dropped: u32,
     pub records: u32,
-    pub break_record: u32,
-    pub reason: u8,
+    pub broken: Option<Break>,
 }
 
 impl Verdict {
@@ -32,9 +31,22 @@ impl Verdict {
         kept: 0,
         dropped: 0,
         records: 0,
-        break_record: 0,
-        reason: 0,
+        broken: None,
     };
+
+    /// The verdict's fields as numbers.
+    pub fn numbers(&self) -> [u32; 6] {
+        let (record, reason) = Break::numbers(self.broken);
+        let standing = self.standing.into();
+        [
+            standing,
+            self.kept,
+            self.dropped,
+            self.records,
+            record,
+            reason.into(),
+        ]
+    }
 }
 
 /// "With the place at or past the end of the bytes, it says 'end'; otherwise 31 or 30 as in
@@ -53,7 +65,7 @@ pub fn read_record(bytes: &[u8], place: usize) -> Next {
     if rest.len() < length {
         return Next::Refused(30);
     }
-    match RecordValue::from_image(&rest[..length]) {
+    match RecordValue::from_bytes(&rest[..length]) {
         Some(record) => Next::Taken(record, place + length),
         None => Next::Refused(31),
     }
@@ -84,10 +96,15 @@ pub fn read_log(bytes: &[u8]) -> Result<Vec<RecordValue>, (u8, usize)> {
     }
 }
 
+/// The records as a log's bytes.
+pub fn write_log(records: &[RecordValue]) -> Vec<u8> {
+    records.iter().flat_map(RecordValue::to_bytes).collect()
+}
+
 /// "Standing, the first that applies: 3 broken, 0 nothing fired (also where there is no
 /// prechart; choice), 1 in the prechart, 2 owed in the main chart."
-pub fn standing(chart: &ChartValue, monitor: &MonitorValue) -> u8 {
-    if monitor.reason != 0 {
+fn standing(chart: &ChartValue, monitor: &MonitorValue) -> u8 {
+    if monitor.broken().is_some() {
         3
     } else if monitor.fired == 0 {
         0
@@ -95,6 +112,17 @@ pub fn standing(chart: &ChartValue, monitor: &MonitorValue) -> u8 {
         1
     } else {
         2
+    }
+}
+
+/// The verdict that a fit monitor stands for.
+pub fn verdict(chart: &ChartValue, monitor: &MonitorValue) -> Verdict {
+    Verdict {
+        standing: standing(chart, monitor),
+        kept: monitor.kept,
+        dropped: monitor.dropped,
+        records: monitor.records,
+        broken: monitor.broken(),
     }
 }
 
@@ -109,12 +137,5 @@ pub fn judge(chart: &ChartValue, bytes: &[u8]) -> Result<Verdict, (u8, usize)> {
     for record in records {
         monitor = feed_fit(chart, &order, monitor, record).1;
     }
-    Ok(Verdict {
-        standing: standing(chart, &monitor),
-        kept: monitor.kept,
-        dropped: monitor.dropped,
-        records: monitor.records,
-        break_record: monitor.break_record,
-        reason: monitor.reason,
-    })
+    Ok(verdict(chart, &monitor))
 }

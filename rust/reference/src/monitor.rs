@@ -9,18 +9,6 @@ pub struct Order {
     above: Vec<Vec<bool>>,
 }
 
-/// Whether the region touches the line.
-fn touches(region: &RegionValue, line: u8) -> bool {
-    match region.event {
-        EventValue::Message {
-            source,
-            destination,
-            ..
-        } => line == source || line == destination,
-        EventValue::Plain(lines) => (lines >> line) & 1 == 1,
-    }
-}
-
 impl Order {
     /// "Region a is directly above b if a has the lower number, both are in the same half,
     /// and they share a line. 'Above' is the transitive closure. Every prechart region is
@@ -32,10 +20,8 @@ impl Order {
         for (b, row) in above.iter_mut().enumerate() {
             for (a, flag) in row.iter_mut().enumerate() {
                 let same_half = (a < prechart) == (b < prechart);
-                let share = (0..chart.lines).any(|line| {
-                    touches(&chart.regions[a], line) && touches(&chart.regions[b], line)
-                });
-                *flag = a < b && same_half && share;
+                let (above, below) = (&chart.regions[a].event, &chart.regions[b].event);
+                *flag = a < b && same_half && above.shares_line_with(below);
             }
         }
         for middle in 0..count {
@@ -73,14 +59,10 @@ fn is_ready(chart: &ChartValue, order: &Order, fired: u32, region: usize) -> boo
     !has(fired, region) && (0..count).all(|a| !order.is_above(a, region) || has(fired, a))
 }
 
-fn is_plain(region: &RegionValue) -> bool {
-    matches!(region.event, EventValue::Plain(_))
-}
-
 /// The lowest-numbered ready plain region.
 fn ready_plain(chart: &ChartValue, order: &Order, fired: u32) -> Option<usize> {
     (0..usize::from(chart.count))
-        .find(|&r| is_plain(&chart.regions[r]) && is_ready(chart, order, fired, r))
+        .find(|&r| chart.regions[r].message().is_none() && is_ready(chart, order, fired, r))
 }
 
 /// "The phase is prechart while a prechart region is unfired, else main."
@@ -92,26 +74,10 @@ fn all_fired(chart: &ChartValue, fired: u32) -> bool {
     (0..usize::from(chart.count)).all(|region| has(fired, region))
 }
 
-/// Whether the region's condition holds. "A clock's value is now minus its reset moment.
-/// 'First minus second' is the exact signed difference."
+/// Whether the region's condition holds. "A clock's value is now minus its reset moment."
 fn condition_holds(region: &RegionValue, now: u32, resets: &[u32; MAX_CLOCKS]) -> bool {
     let value = |clock: u8| i64::from(now) - i64::from(resets[usize::from(clock)]);
-    region.terms[..usize::from(region.term_count)]
-        .iter()
-        .all(|term| {
-            let left = match term.left {
-                LeftValue::Clock(clock) => value(clock),
-                LeftValue::Difference(first, second) => value(first) - value(second),
-            };
-            let n = i64::from(term.n);
-            match term.relation {
-                0 => left < n,
-                1 => left <= n,
-                2 => left == n,
-                3 => left >= n,
-                _ => left > n,
-            }
-        })
+    region.condition().iter().all(|term| term.holds(value))
 }
 
 /// "Making a monitor": a fresh one, or refusal 20.
@@ -154,10 +120,9 @@ fn is_fit_under(chart: &ChartValue, order: &Order, monitor: &MonitorValue) -> bo
     let counts = monitor.records <= MAX_RECORDS
         && u64::from(monitor.kept) + u64::from(monitor.dropped) <= u64::from(monitor.records);
     // "the break is two zeros, or a record from 1 to the count with reason 1 or 2"
-    let break_fits = match monitor.reason {
-        0 => monitor.break_record == 0,
-        1 | 2 => (1..=monitor.records).contains(&monitor.break_record),
-        _ => false,
+    let break_fits = match monitor.broken() {
+        Some(known) => (1..=monitor.records).contains(&known.record),
+        None => monitor.break_record == 0 && monitor.reason == 0,
     };
     closed && within && unfinished && settled && moments && counts && break_fits
 }
@@ -186,20 +151,23 @@ pub fn feed_fit(
     monitor: MonitorValue,
     record: RecordValue,
 ) -> (Answer, MonitorValue) {
-    if monitor.reason != 0 {
-        let again = Answer::Broken {
-            record: monitor.break_record,
-            reason: monitor.reason,
-        };
-        return (again, monitor);
+    match not_taken(&monitor, &record) {
+        Some(answer) => (answer, monitor),
+        None => take(chart, order, monitor, record),
     }
-    if record.time() < monitor.now {
-        return (Answer::Refused(22), monitor);
+}
+
+/// What a fit monitor answers without taking the record: its break again, or refusal 22 or 23.
+pub fn not_taken(monitor: &MonitorValue, record: &RecordValue) -> Option<Answer> {
+    if let Some(known) = monitor.broken() {
+        Some(Answer::Broken(known))
+    } else if record.time() < monitor.now {
+        Some(Answer::Refused(22))
+    } else if monitor.records == MAX_RECORDS {
+        Some(Answer::Refused(23))
+    } else {
+        None
     }
-    if monitor.records == MAX_RECORDS {
-        return (Answer::Refused(23), monitor);
-    }
-    take(chart, order, monitor, record)
 }
 
 /// Steps 1 to 7.
@@ -209,37 +177,49 @@ fn take(
     before: MonitorValue,
     record: RecordValue,
 ) -> (Answer, MonitorValue) {
-    let count = usize::from(chart.count);
-
     // 1. "The record is counted; now becomes its time."
-    let mut after = before;
-    after.records += 1;
-    after.now = record.time();
-
+    let counted = MonitorValue {
+        records: before.records + 1,
+        now: record.time(),
+        ..before
+    };
     // 2. "A record of time, or a message that no region of either half has (source, label
     // and destination all equal), does nothing more."
-    let carried: Vec<usize> = (0..count)
-        .filter(|&region| has_message(&chart.regions[region], &record))
-        .collect();
+    let carried = regions_with(chart, &record);
     if carried.is_empty() {
-        return (Answer::Quiet, after);
+        return (Answer::Quiet, counted);
     }
-
     // 3. "A message with a ready region that has it"
     let ready = carried
         .into_iter()
         .find(|&region| is_ready(chart, order, before.fired, region));
+    match ready {
+        Some(region) => fire(chart, order, counted, region),
+        // 6. "A chart message with no ready region: in the prechart the round is dropped; in
+        // the main chart the round is broken, reason 1."
+        None if in_prechart(chart, before.fired) => drop_round(chart, counted),
+        None => break_round(counted, Reason::NoReadyRegion),
+    }
+}
 
-    // 6. "A chart message with no ready region: in the prechart the round is dropped; in
-    // the main chart the round is broken, reason 1."
-    let Some(first) = ready else {
-        return if in_prechart(chart, before.fired) {
-            drop_round(chart, after)
-        } else {
-            break_round(after, 1)
-        };
+/// The regions that have the record's message.
+fn regions_with(chart: &ChartValue, record: &RecordValue) -> Vec<usize> {
+    let Some(message) = record.message() else {
+        return Vec::new();
     };
+    (0..usize::from(chart.count))
+        .filter(|&region| chart.regions[region].message() == Some(message))
+        .collect()
+}
 
+/// Steps 3, 4, 5 and 7 from a ready region that has the message.
+fn fire(
+    chart: &ChartValue,
+    order: &Order,
+    before: MonitorValue,
+    first: usize,
+) -> (Answer, MonitorValue) {
+    let mut after = before;
     // 3 and 4. The message region, then "while a plain region is ready, the lowest-numbered
     // is tested and fired likewise, at the same moment".
     let mut next = Some(first);
@@ -249,20 +229,16 @@ fn take(
         if !condition_holds(region, after.now, &after.resets) {
             // 7. "A condition that fails: cold, the round is dropped; hot, broken, reason 2."
             return if region.hot {
-                break_round(after, 2)
+                break_round(after, Reason::ConditionFails)
             } else {
                 drop_round(chart, after)
             };
         }
+        // "If it holds, the region fires, then resets."
         after.fired |= 1 << place;
-        for clock in 0..MAX_CLOCKS {
-            if (region.resets >> clock) & 1 == 1 {
-                after.resets[clock] = after.now;
-            }
-        }
+        reset(&mut after, region.resets);
         next = ready_plain(chart, order, after.fired);
     }
-
     // 5. "When all regions are fired, the round is kept."
     if all_fired(chart, after.fired) {
         after.kept += 1;
@@ -276,23 +252,12 @@ fn take(
     }
 }
 
-/// "source, label and destination all equal"
-fn has_message(region: &RegionValue, record: &RecordValue) -> bool {
-    match (region.event, *record) {
-        (
-            EventValue::Message {
-                source: s,
-                destination: d,
-                label: l,
-            },
-            RecordValue::Message {
-                source,
-                destination,
-                label,
-                ..
-            },
-        ) => s == source && d == destination && l == label,
-        _ => false,
+/// Resets a set of clocks now.
+fn reset(monitor: &mut MonitorValue, clocks: u8) {
+    for (clock, moment) in monitor.resets.iter_mut().enumerate() {
+        if (clocks >> clock) & 1 == 1 {
+            *moment = monitor.now;
+        }
     }
 }
 
@@ -313,12 +278,9 @@ fn drop_round(chart: &ChartValue, mut monitor: MonitorValue) -> (Answer, Monitor
 
 /// "A break stores its record and reason; fired regions and clocks are those just before
 /// the failing region, or, for reason 1, before the record."
-fn break_round(mut monitor: MonitorValue, reason: u8) -> (Answer, MonitorValue) {
-    monitor.break_record = monitor.records;
-    monitor.reason = reason;
-    let answer = Answer::Broken {
-        record: monitor.break_record,
-        reason,
-    };
-    (answer, monitor)
+fn break_round(mut monitor: MonitorValue, reason: Reason) -> (Answer, MonitorValue) {
+    let record = monitor.records;
+    monitor.break_record = record;
+    monitor.reason = reason.number();
+    (Answer::Broken(Break { record, reason }), monitor)
 }

@@ -32,17 +32,19 @@ pub fn respond(input: &[u8]) -> String {
     // each line"
     match judge(&chart, log) {
         Err((code, offset)) => refused("log", code, offset),
-        Ok(verdict) => format!(
-            "{}\n{} {} {} {} {} {}\n",
-            HEADER,
-            verdict.standing,
-            verdict.kept,
-            verdict.dropped,
-            verdict.records,
-            verdict.break_record,
-            verdict.reason
-        ),
+        Ok(verdict) => {
+            let words = verdict.numbers().map(|number| number.to_string());
+            format!("{HEADER}\n{}\n", words.join(" "))
+        }
     }
+}
+
+/// The input that holds a chart's bytes and a log's.
+pub fn input_of(chart: &[u8], log: &[u8]) -> Vec<u8> {
+    let mut input = (chart.len() as u16).to_be_bytes().to_vec();
+    input.extend(chart);
+    input.extend(log);
+    input
 }
 
 fn refused(part: &str, code: u8, offset: usize) -> String {

@@ -1,8 +1,7 @@
-//! Charts, monitors, records and answers as plain values, and their flat images.
-//!
-//! An image is a fixed row of bytes, numbers most significant byte first, that holds a
-//! value and nothing else.
+//! Charts, monitors, records and answers as plain values.
 
+/// "2 to 16 lines".
+pub const MAX_LINES: u8 = 16;
 /// "1 to 32 regions".
 pub const MAX_REGIONS: usize = 32;
 /// "at most one condition of 1 to 4 terms".
@@ -11,13 +10,6 @@ pub const MAX_TERMS: usize = 4;
 pub const MAX_CLOCKS: usize = 8;
 /// "23 it would be record 1,000,001".
 pub const MAX_RECORDS: u32 = 1_000_000;
-
-/// Bytes of a region's image.
-pub const REGION_IMAGE: usize = 42;
-/// Bytes of a chart's image.
-pub const CHART_IMAGE: usize = 4 + MAX_REGIONS * REGION_IMAGE;
-/// Bytes of a monitor's image.
-pub const MONITOR_IMAGE: usize = 57;
 
 /// What a term compares: "clock" or "first minus second".
 #[derive(Clone, Copy, Debug, PartialEq, Eq)]
@@ -34,15 +26,18 @@ pub struct TermValue {
     pub n: i32,
 }
 
-/// "A message region touches its two lines. A plain region, without a message, touches
-/// the lines it names."
+/// "message (source line, label, destination line)"
+#[derive(Clone, Copy, Debug, PartialEq, Eq)]
+pub struct Message {
+    pub source: u8,
+    pub destination: u8,
+    pub label: u16,
+}
+
+/// What a region waits for.
 #[derive(Clone, Copy, Debug, PartialEq, Eq)]
 pub enum EventValue {
-    Message {
-        source: u8,
-        destination: u8,
-        label: u16,
-    },
+    Message(Message),
     /// The set of lines; bit i is line i.
     Plain(u16),
 }
@@ -68,6 +63,22 @@ pub struct ChartValue {
     pub regions: [RegionValue; MAX_REGIONS],
 }
 
+/// Why a round is broken.
+#[derive(Clone, Copy, Debug, PartialEq, Eq)]
+pub enum Reason {
+    /// "A chart message with no ready region".
+    NoReadyRegion = 1,
+    /// "A condition that fails", of a hot region.
+    ConditionFails = 2,
+}
+
+/// "the break (record and reason ...)"
+#[derive(Clone, Copy, Debug, PartialEq, Eq)]
+pub struct Break {
+    pub record: u32,
+    pub reason: Reason,
+}
+
 /// "A monitor holds the set of fired regions, each clock's reset moment, now, the counts of
 /// records, kept rounds and dropped rounds, and the break (record and reason, zeros if
 /// none)."
@@ -81,18 +92,14 @@ pub struct MonitorValue {
     pub kept: u32,
     pub dropped: u32,
     pub break_record: u32,
+    /// A reason's number, zero if none; an unfit monitor may have any.
     pub reason: u8,
 }
 
 /// A log's record.
 #[derive(Clone, Copy, Debug, PartialEq, Eq)]
 pub enum RecordValue {
-    Message {
-        source: u8,
-        destination: u8,
-        label: u16,
-        time: u32,
-    },
+    Message { message: Message, time: u32 },
     Time(u32),
 }
 
@@ -101,12 +108,73 @@ pub enum RecordValue {
 #[derive(Clone, Copy, Debug, PartialEq, Eq)]
 pub enum Answer {
     Refused(u8),
-    Broken { record: u32, reason: u8 },
+    Broken(Break),
     Kept,
     Dropped,
     Entered,
     Moved,
     Quiet,
+}
+
+impl Message {
+    /// The message as it stands in charts and logs: "source(1) destination(1) label(2)".
+    pub const fn to_bytes(self) -> [u8; 4] {
+        let [high, low] = self.label.to_be_bytes();
+        [self.source, self.destination, high, low]
+    }
+
+    /// The message of such bytes.
+    pub const fn from_bytes([source, destination, high, low]: [u8; 4]) -> Message {
+        Message {
+            source,
+            destination,
+            label: u16::from_be_bytes([high, low]),
+        }
+    }
+
+    /// The record of this message at a time.
+    pub const fn at(self, time: u32) -> RecordValue {
+        RecordValue::Message {
+            message: self,
+            time,
+        }
+    }
+}
+
+impl EventValue {
+    /// "A message region touches its two lines. A plain region, without a message, touches
+    /// the lines it names."
+    fn touches(&self, line: u8) -> bool {
+        match *self {
+            EventValue::Message(message) => line == message.source || line == message.destination,
+            EventValue::Plain(lines) => (lines >> line) & 1 == 1,
+        }
+    }
+
+    /// "they share a line"
+    pub fn shares_line_with(&self, other: &EventValue) -> bool {
+        (0..MAX_LINES).any(|line| self.touches(line) && other.touches(line))
+    }
+}
+
+impl Reason {
+    pub fn number(self) -> u8 {
+        self as u8
+    }
+
+    /// The reason of a number; none but 1 and 2 have one.
+    pub fn of(number: u8) -> Option<Reason> {
+        [Reason::NoReadyRegion, Reason::ConditionFails]
+            .into_iter()
+            .find(|reason| reason.number() == number)
+    }
+}
+
+impl Break {
+    /// "record and reason, zeros if none"
+    pub fn numbers(broken: Option<Break>) -> (u32, u8) {
+        broken.map_or((0, 0), |known| (known.record, known.reason.number()))
+    }
 }
 
 impl TermValue {
@@ -115,6 +183,24 @@ impl TermValue {
         relation: 0,
         n: 0,
     };
+
+    /// Whether the term holds for these values of the clocks. "'First minus second' is the
+    /// exact signed difference."
+    pub fn holds(&self, value: impl Fn(u8) -> i64) -> bool {
+        let left = match self.left {
+            LeftValue::Clock(clock) => value(clock),
+            LeftValue::Difference(first, second) => value(first) - value(second),
+        };
+        let n = i64::from(self.n);
+        match self.relation {
+            0 => left < n,
+            1 => left <= n,
+            2 => left == n,
+            3 => left >= n,
+            4 => left > n,
+            _ => false,
+        }
+    }
 }
 
 impl RegionValue {
@@ -125,6 +211,19 @@ impl RegionValue {
         hot: false,
         resets: 0,
     };
+
+    /// The region's message; none for a plain region.
+    pub fn message(&self) -> Option<Message> {
+        match self.event {
+            EventValue::Message(message) => Some(message),
+            EventValue::Plain(_) => None,
+        }
+    }
+
+    /// The condition's terms.
+    pub fn condition(&self) -> &[TermValue] {
+        &self.terms[..usize::from(self.term_count)]
+    }
 }
 
 impl ChartValue {
@@ -136,124 +235,6 @@ impl ChartValue {
         count: 0,
         regions: [RegionValue::ZERO; MAX_REGIONS],
     };
-
-    /// The chart's image.
-    pub fn to_image(&self) -> [u8; CHART_IMAGE] {
-        let mut image = [0; CHART_IMAGE];
-        image[0] = self.lines;
-        image[1] = self.clocks;
-        image[2] = self.prechart;
-        image[3] = self.count;
-        for (region, place) in self
-            .regions
-            .iter()
-            .zip(image[4..].chunks_exact_mut(REGION_IMAGE))
-        {
-            put_region(region, place);
-        }
-        image
-    }
-
-    /// The chart of an image; none if the length is wrong or a byte has no value.
-    pub fn from_image(image: &[u8]) -> Option<ChartValue> {
-        if image.len() != CHART_IMAGE {
-            return None;
-        }
-        let mut chart = ChartValue {
-            lines: image[0],
-            clocks: image[1],
-            prechart: image[2],
-            count: image[3],
-            ..ChartValue::ZERO
-        };
-        for (region, place) in chart
-            .regions
-            .iter_mut()
-            .zip(image[4..].chunks_exact(REGION_IMAGE))
-        {
-            *region = get_region(place)?;
-        }
-        Some(chart)
-    }
-}
-
-fn put_region(region: &RegionValue, place: &mut [u8]) {
-    match region.event {
-        EventValue::Message {
-            source,
-            destination,
-            label,
-        } => {
-            place[0] = 1;
-            place[1] = source;
-            place[2] = destination;
-            place[3..5].copy_from_slice(&label.to_be_bytes());
-        }
-        EventValue::Plain(lines) => {
-            place[0] = 0;
-            place[1..3].copy_from_slice(&lines.to_be_bytes());
-        }
-    }
-    place[5] = u8::from(region.hot);
-    place[6] = region.resets;
-    place[7] = region.term_count;
-    for (term, part) in region.terms.iter().zip(place[10..].chunks_exact_mut(8)) {
-        match term.left {
-            LeftValue::Clock(clock) => {
-                part[0] = 0;
-                part[1] = clock;
-            }
-            LeftValue::Difference(first, second) => {
-                part[0] = 1;
-                part[1] = first;
-                part[2] = second;
-            }
-        }
-        part[3] = term.relation;
-        part[4..8].copy_from_slice(&term.n.to_be_bytes());
-    }
-}
-
-fn get_region(place: &[u8]) -> Option<RegionValue> {
-    let event = match place[0] {
-        0 if place[3] == 0 && place[4] == 0 => {
-            EventValue::Plain(u16::from_be_bytes([place[1], place[2]]))
-        }
-        1 => EventValue::Message {
-            source: place[1],
-            destination: place[2],
-            label: u16::from_be_bytes([place[3], place[4]]),
-        },
-        _ => return None,
-    };
-    let hot = match place[5] {
-        0 => false,
-        1 => true,
-        _ => return None,
-    };
-    if place[8] != 0 || place[9] != 0 {
-        return None;
-    }
-    let mut region = RegionValue {
-        event,
-        hot,
-        resets: place[6],
-        term_count: place[7],
-        ..RegionValue::ZERO
-    };
-    for (term, part) in region.terms.iter_mut().zip(place[10..].chunks_exact(8)) {
-        let left = match part[0] {
-            0 if part[2] == 0 => LeftValue::Clock(part[1]),
-            1 => LeftValue::Difference(part[1], part[2]),
-            _ => return None,
-        };
-        *term = TermValue {
-            left,
-            relation: part[3],
-            n: i32::from_be_bytes([part[4], part[5], part[6], part[7]]),
-        };
-    }
-    Some(region)
 }
 
 impl MonitorValue {
@@ -269,42 +250,11 @@ impl MonitorValue {
         reason: 0,
     };
 
-    /// The monitor's image.
-    pub fn to_image(&self) -> [u8; MONITOR_IMAGE] {
-        let mut image = [0; MONITOR_IMAGE];
-        let mut numbers = vec![self.fired];
-        numbers.extend(self.resets);
-        numbers.extend([self.now, self.records, self.kept]);
-        numbers.extend([self.dropped, self.break_record]);
-        for (number, part) in numbers.iter().zip(image.chunks_exact_mut(4)) {
-            part.copy_from_slice(&number.to_be_bytes());
-        }
-        image[MONITOR_IMAGE - 1] = self.reason;
-        image
-    }
-
-    /// The monitor of an image; none if the length is wrong.
-    pub fn from_image(image: &[u8]) -> Option<MonitorValue> {
-        if image.len() != MONITOR_IMAGE {
-            return None;
-        }
-        let number = |place: usize| {
-            let part = &image[4 * place..4 * place + 4];
-            u32::from_be_bytes([part[0], part[1], part[2], part[3]])
-        };
-        let mut resets = [0; MAX_CLOCKS];
-        for (clock, moment) in resets.iter_mut().enumerate() {
-            *moment = number(1 + clock);
-        }
-        Some(MonitorValue {
-            fired: number(0),
-            resets,
-            now: number(9),
-            records: number(10),
-            kept: number(11),
-            dropped: number(12),
-            break_record: number(13),
-            reason: image[MONITOR_IMAGE - 1],
+    /// The break of a fit monitor.
+    pub fn broken(&self) -> Option<Break> {
+        Reason::of(self.reason).map(|reason| Break {
+            record: self.break_record,
+            reason,
         })
     }
 }
@@ -318,37 +268,43 @@ impl RecordValue {
         }
     }
 
-    /// "01 source(1) destination(1) label(2) time(4): a message. 02 time(4): time passes."
-    pub fn to_image(&self) -> Vec<u8> {
-        let mut image = Vec::new();
+    /// The record's message; none for a record of time.
+    pub fn message(&self) -> Option<Message> {
         match *self {
-            RecordValue::Message {
-                source,
-                destination,
-                label,
-                time,
-            } => {
-                image.extend([1, source, destination]);
-                image.extend(label.to_be_bytes());
-                image.extend(time.to_be_bytes());
-            }
-            RecordValue::Time(time) => {
-                image.push(2);
-                image.extend(time.to_be_bytes());
-            }
+            RecordValue::Message { message, .. } => Some(message),
+            RecordValue::Time(_) => None,
         }
-        image
     }
 
-    /// The record of an image; none if the length or the record byte is wrong.
-    pub fn from_image(image: &[u8]) -> Option<RecordValue> {
-        match *image {
-            [1, source, destination, l0, l1, t0, t1, t2, t3] => Some(RecordValue::Message {
-                source,
-                destination,
-                label: u16::from_be_bytes([l0, l1]),
-                time: u32::from_be_bytes([t0, t1, t2, t3]),
-            }),
+    /// The record at another time.
+    pub fn with_time(self, time: u32) -> RecordValue {
+        match self {
+            RecordValue::Message { message, .. } => message.at(time),
+            RecordValue::Time(_) => RecordValue::Time(time),
+        }
+    }
+
+    /// "01 source(1) destination(1) label(2) time(4): a message. 02 time(4): time passes."
+    pub fn to_bytes(&self) -> Vec<u8> {
+        let mut bytes = Vec::new();
+        match *self {
+            RecordValue::Message { message, .. } => {
+                bytes.push(1);
+                bytes.extend(message.to_bytes());
+            }
+            RecordValue::Time(_) => bytes.push(2),
+        }
+        bytes.extend(self.time().to_be_bytes());
+        bytes
+    }
+
+    /// The record of such bytes; none if the length or the record byte is wrong.
+    pub fn from_bytes(bytes: &[u8]) -> Option<RecordValue> {
+        match *bytes {
+            [1, m0, m1, m2, m3, t0, t1, t2, t3] => {
+                let message = Message::from_bytes([m0, m1, m2, m3]);
+                Some(message.at(u32::from_be_bytes([t0, t1, t2, t3])))
+            }
             [2, t0, t1, t2, t3] => Some(RecordValue::Time(u32::from_be_bytes([t0, t1, t2, t3]))),
             _ => None,
         }

@@ -1,52 +1,56 @@
 //! Refusal 20: "the chart value is not one that some accepted bytes give (unused places
 //! hold zeros)".
 
+use crate::command::Command::*;
 use crate::reader::read_chart;
 use crate::value::*;
 
 /// The value written command by command, in the plainest order; none where a count has no
 /// places to count.
 pub fn write_chart(chart: &ChartValue) -> Option<Vec<u8>> {
-    let count = usize::from(chart.count);
-    if count > MAX_REGIONS || chart.prechart > chart.count {
+    if chart.prechart > chart.count {
         return None;
     }
-    let mut bytes = vec![0x10, chart.lines, chart.clocks];
-    for (place, region) in chart.regions[..count].iter().enumerate() {
+    let mut bytes = vec![Heading.byte(), chart.lines, chart.clocks];
+    let regions = chart.regions.get(..usize::from(chart.count))?;
+    for (place, region) in regions.iter().enumerate() {
         if place == usize::from(chart.prechart) {
-            bytes.push(0x50);
+            bytes.push(MainChart.byte());
         }
-        match region.event {
-            EventValue::Message {
-                source,
-                destination,
-                label,
-            } => {
-                bytes.extend([0x20, source, destination]);
-                bytes.extend(label.to_be_bytes());
-            }
-            EventValue::Plain(lines) => {
-                bytes.push(0x21);
-                bytes.extend(lines.to_be_bytes());
-            }
+        write_region(region, &mut bytes)?;
+    }
+    bytes.push(End.byte());
+    Some(bytes)
+}
+
+fn write_region(region: &RegionValue, bytes: &mut Vec<u8>) -> Option<()> {
+    match region.event {
+        EventValue::Message(message) => {
+            bytes.push(MessageRegion.byte());
+            bytes.extend(message.to_bytes());
         }
-        for term in region.terms.get(..usize::from(region.term_count))? {
-            match term.left {
-                LeftValue::Clock(clock) => bytes.extend([0x30, clock]),
-                LeftValue::Difference(first, second) => bytes.extend([0x31, first, second]),
-            }
-            bytes.push(term.relation);
-            bytes.extend(term.n.to_be_bytes());
-        }
-        if region.hot {
-            bytes.push(0x32);
-        }
-        if region.resets != 0 {
-            bytes.extend([0x40, region.resets]);
+        EventValue::Plain(lines) => {
+            bytes.push(PlainRegion.byte());
+            bytes.extend(lines.to_be_bytes());
         }
     }
-    bytes.push(0x7F);
-    Some(bytes)
+    for term in region.terms.get(..usize::from(region.term_count))? {
+        match term.left {
+            LeftValue::Clock(clock) => bytes.extend([ClockTerm.byte(), clock]),
+            LeftValue::Difference(first, second) => {
+                bytes.extend([DifferenceTerm.byte(), first, second]);
+            }
+        }
+        bytes.push(term.relation);
+        bytes.extend(term.n.to_be_bytes());
+    }
+    if region.hot {
+        bytes.push(Hot.byte());
+    }
+    if region.resets != 0 {
+        bytes.extend([Resets.byte(), region.resets]);
+    }
+    Some(())
 }
 
 /// Whether some accepted bytes give the value: writing it and reading it gives it back.

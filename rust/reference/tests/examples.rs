@@ -1,88 +1,51 @@
 //! Document 01's examples, and the edges its rules name.
 
-use lsc_reference::log::{judge, read_record, Next, Verdict};
-use lsc_reference::print::respond;
+use lsc_reference::declarative::Rows;
+use lsc_reference::examples::{headings, message, references, undo, CHART_U, OVER_CHART_U, WIDEST};
+use lsc_reference::log::{judge, read_record, write_log, Next, Verdict};
+use lsc_reference::print::{input_of, respond, HEADER};
 use lsc_reference::reader::read_chart;
 use lsc_reference::value::*;
-use lsc_reference::{declarative, fast, monitor, random, well_formed};
-
-const CHART_U: [u8; 38] = [
-    0x10, 0x04, 0x01, 0x20, 0x00, 0x01, 0x00, 0x01, 0x40, 0x01, 0x50, 0x20, 0x01, 0x00, 0x00, 0x02,
-    0x30, 0x00, 0x01, 0x00, 0x00, 0x00, 0x28, 0x32, 0x20, 0x02, 0x03, 0x00, 0x03, 0x30, 0x00, 0x01,
-    0x00, 0x00, 0x00, 0x28, 0x32, 0x7F,
-];
-
-fn message(source: u8, destination: u8, label: u16, time: u32) -> RecordValue {
-    RecordValue::Message {
-        source,
-        destination,
-        label,
-        time,
-    }
-}
-
-fn undo(time: u32) -> RecordValue {
-    message(0, 1, 1, time)
-}
-
-fn headings(time: u32) -> RecordValue {
-    message(1, 0, 2, time)
-}
-
-fn references(time: u32) -> RecordValue {
-    message(2, 3, 3, time)
-}
+use lsc_reference::{monitor, well_formed};
 
 fn printed(chart: &[u8], records: &[RecordValue]) -> String {
-    respond(&random::printing_input(chart, &random::log_bytes(records)))
+    respond(&input_of(chart, &write_log(records)))
 }
 
 fn numbers(chart: &[u8], records: &[RecordValue]) -> String {
     let text = printed(chart, records);
-    let rest = text
-        .strip_prefix("STANDING KEPT DROPPED RECORDS BREAK REASON\n")
-        .expect("a header");
-    rest.strip_suffix('\n').expect("a line feed").to_string()
+    let lines: Vec<&str> = text.split('\n').collect();
+    assert_eq!((lines.len(), lines[0], lines[2]), (3, HEADER, ""));
+    lines[1].to_string()
 }
 
 #[test]
 fn chart_u() {
-    let chart = &CHART_U;
     assert_eq!(
-        printed(chart, &[undo(100), references(120), headings(140)]),
+        printed(&CHART_U, OVER_CHART_U[0].0),
         "STANDING KEPT DROPPED RECORDS BREAK REASON\n0 1 0 3 0 0\n"
     );
-    let cases: [(&[RecordValue], &str); 7] = [
-        (&[undo(100), references(120), headings(141)], "3 0 0 3 3 2"),
-        (&[undo(100), headings(120)], "2 0 0 2 0 0"),
-        (&[undo(100), headings(120), headings(130)], "3 0 0 3 3 1"),
-        (&[undo(100), undo(110)], "3 0 0 2 2 1"),
-        (&[headings(5)], "0 0 1 1 0 0"),
-        (&[undo(100), message(3, 2, 3, 110)], "2 0 0 2 0 0"),
-        (&[], "0 0 0 0 0 0"),
-    ];
-    for (records, expected) in cases {
-        assert_eq!(numbers(chart, records), expected);
-        let value = read_chart(chart).unwrap();
-        let log = random::log_bytes(records);
-        assert_eq!(judge(&value, &log), fast::judge(&value, &log));
-        let meaning = declarative::Rows::of(&value).meaning(records);
+    let value = read_chart(&CHART_U).unwrap();
+    for (records, expected) in OVER_CHART_U {
+        if expected.starts_with("refused") {
+            assert_eq!(printed(&CHART_U, records), format!("{expected}\n"));
+            continue;
+        }
+        assert_eq!(numbers(&CHART_U, records), expected);
+        let meaning = Rows::of(&value).meaning(records);
         let end: Vec<u32> = expected
             .split(' ')
             .map(|word| word.parse().unwrap())
             .collect();
+        let monitor = meaning.monitor();
         assert_eq!(
-            [meaning.kept, meaning.dropped, meaning.break_record],
+            [monitor.kept, monitor.dropped, monitor.break_record],
             [end[1], end[2], end[4]]
         );
     }
-    assert_eq!(
-        printed(chart, &[undo(100), undo(99)]),
-        "refused log 22 at 9\n"
-    );
     // Either order of the two that come back.
     assert_eq!(
-        numbers(chart, &[undo(100), headings(101), references(140)]),
+        numbers(&CHART_U, &[undo(100), headings(101), references(140)]),
         "0 1 0 3 0 0"
     );
 }
@@ -121,7 +84,6 @@ fn thirty_two_regions_are_read_and_a_33rd_refused() {
             Answer::Moved
         };
         assert_eq!(answer, expected);
-        assert_eq!(fast::feed(&chart, state, undo(0)), (answer, after));
         state = after;
     }
     state.fired = u32::MAX;
@@ -159,92 +121,97 @@ fn a_then_b_then_c() {
     assert_eq!(numbers(&chart, &[a, b]), "2 0 0 2 0 0");
 }
 
+/// Bytes that are refused: the fault that decides, and its offset.
+const FAULTS: [(&[u8], (u8, usize)); 35] = [
+    (&[0x20, 0], (1, 0)),
+    (&[0x20, 0, 1, 0, 1], (3, 0)),
+    (&[0x00], (2, 0)),
+    (&[0x10, 2], (1, 0)),
+    (&[0x10, 2, 0], (1, 3)),
+    (&[0x10, 2, 0, 0x10], (1, 3)),
+    (&[0x10, 2, 0, 0x10, 0, 0], (3, 3)),
+    (&[0x10, 17, 0], (4, 0)),
+    (&[0x10, 2, 9], (4, 0)),
+    (&[0x10, 2, 0, 0x50, 0x50], (3, 4)),
+    (&[0x10, 2, 1, 0x32], (3, 3)),
+    (&[0x10, 2, 1, 0x20, 0, 1, 0, 1, 0x50, 0x40, 1], (3, 9)),
+    (&[0x10, 2, 1, 0x20, 0, 1, 0, 1, 0x40, 1, 0x40, 1], (3, 10)),
+    (&[0x10, 2, 1, 0x50, 0x20, 0, 1, 0, 1, 0x32, 0x32], (3, 10)),
+    // A second 50 comes before the open region's faults.
+    (&[0x10, 2, 1, 0x50, 0x20, 0, 1, 0, 1, 0x32, 0x50], (3, 10)),
+    (&[0x10, 2, 1, 0x50, 0x20, 0, 1, 0, 1, 0x32, 0x7F], (7, 4)),
+    // Closing comes before the closing command's own faults.
+    (
+        &[0x10, 2, 1, 0x50, 0x20, 0, 1, 0, 1, 0x32, 0x20, 0, 0, 0, 0],
+        (7, 4),
+    ),
+    (&[0x10, 2, 1, 0x20, 0, 1, 0, 1, 0x21, 0, 1, 0x50], (6, 8)),
+    (
+        &[0x10, 2, 1, 0x20, 0, 1, 0, 1, 0x50, 0x21, 0, 1, 0x32, 0x7F],
+        (6, 9),
+    ),
+    (
+        &[
+            0x10, 2, 1, 0x20, 0, 1, 0, 1, 0x50, 0x21, 0, 1, 0x40, 1, 0x32, 0x7F,
+        ],
+        (7, 9),
+    ),
+    (&[0x10, 2, 1, 0x20, 0, 0, 0, 1], (4, 3)),
+    (&[0x10, 2, 1, 0x20, 0, 2, 0, 1], (4, 3)),
+    (&[0x10, 2, 1, 0x21, 0, 0], (4, 3)),
+    (&[0x10, 2, 1, 0x21, 0, 4], (4, 3)),
+    (&[0x10, 2, 1, 0x20, 0, 1, 0, 1, 0x40, 0], (4, 8)),
+    (&[0x10, 2, 1, 0x20, 0, 1, 0, 1, 0x40, 2], (4, 8)),
+    (
+        &[0x10, 2, 1, 0x20, 0, 1, 0, 1, 0x30, 0, 5, 0, 0, 0, 0],
+        (4, 8),
+    ),
+    (
+        &[0x10, 2, 2, 0x20, 0, 1, 0, 1, 0x31, 1, 1, 0, 0, 0, 0, 0],
+        (4, 8),
+    ),
+    // Hot in the prechart is 8 also without a term.
+    (&[0x10, 2, 1, 0x20, 0, 1, 0, 1, 0x32], (8, 8)),
+    // 9 is at the 21, whatever follows.
+    (&[0x10, 3, 1, 0x20, 0, 1, 0, 1, 0x21, 0, 4, 0x00], (9, 8)),
+    (&[0x10, 3, 1, 0x50, 0x21, 0, 4, 0x00], (9, 4)),
+    (&[0x10, 2, 0, 0x7F], (10, 3)),
+    (&[0x10, 2, 0, 0x20, 0, 1, 0, 1, 0x50, 0x7F], (10, 9)),
+    (&[0x10, 2, 0, 0x50, 0x20, 0, 1, 0, 1, 0x7F, 0x00], (11, 10)),
+    (&[0x10, 2, 0, 0x50, 0x7F, 0x00], (10, 4)),
+];
+
 #[test]
 fn the_order_of_chart_faults() {
-    let cases: [(&[u8], (u8, usize)); 35] = [
-        (&[0x20, 0], (1, 0)),
-        (&[0x20, 0, 1, 0, 1], (3, 0)),
-        (&[0x00], (2, 0)),
-        (&[0x10, 2], (1, 0)),
-        (&[0x10, 2, 0], (1, 3)),
-        (&[0x10, 2, 0, 0x10], (1, 3)),
-        (&[0x10, 2, 0, 0x10, 0, 0], (3, 3)),
-        (&[0x10, 17, 0], (4, 0)),
-        (&[0x10, 2, 9], (4, 0)),
-        (&[0x10, 2, 0, 0x50, 0x50], (3, 4)),
-        (&[0x10, 2, 1, 0x32], (3, 3)),
-        (&[0x10, 2, 1, 0x20, 0, 1, 0, 1, 0x50, 0x40, 1], (3, 9)),
-        (&[0x10, 2, 1, 0x20, 0, 1, 0, 1, 0x40, 1, 0x40, 1], (3, 10)),
-        (&[0x10, 2, 1, 0x50, 0x20, 0, 1, 0, 1, 0x32, 0x32], (3, 10)),
-        // A second 50 comes before the open region's faults.
-        (&[0x10, 2, 1, 0x50, 0x20, 0, 1, 0, 1, 0x32, 0x50], (3, 10)),
-        (&[0x10, 2, 1, 0x50, 0x20, 0, 1, 0, 1, 0x32, 0x7F], (7, 4)),
-        // Closing comes before the closing command's own faults.
-        (
-            &[0x10, 2, 1, 0x50, 0x20, 0, 1, 0, 1, 0x32, 0x20, 0, 0, 0, 0],
-            (7, 4),
-        ),
-        (&[0x10, 2, 1, 0x20, 0, 1, 0, 1, 0x21, 0, 1, 0x50], (6, 8)),
-        (
-            &[0x10, 2, 1, 0x20, 0, 1, 0, 1, 0x50, 0x21, 0, 1, 0x32, 0x7F],
-            (6, 9),
-        ),
-        (
-            &[
-                0x10, 2, 1, 0x20, 0, 1, 0, 1, 0x50, 0x21, 0, 1, 0x40, 1, 0x32, 0x7F,
-            ],
-            (7, 9),
-        ),
-        (&[0x10, 2, 1, 0x20, 0, 0, 0, 1], (4, 3)),
-        (&[0x10, 2, 1, 0x20, 0, 2, 0, 1], (4, 3)),
-        (&[0x10, 2, 1, 0x21, 0, 0], (4, 3)),
-        (&[0x10, 2, 1, 0x21, 0, 4], (4, 3)),
-        (&[0x10, 2, 1, 0x20, 0, 1, 0, 1, 0x40, 0], (4, 8)),
-        (&[0x10, 2, 1, 0x20, 0, 1, 0, 1, 0x40, 2], (4, 8)),
-        (
-            &[0x10, 2, 1, 0x20, 0, 1, 0, 1, 0x30, 0, 5, 0, 0, 0, 0],
-            (4, 8),
-        ),
-        (
-            &[0x10, 2, 2, 0x20, 0, 1, 0, 1, 0x31, 1, 1, 0, 0, 0, 0, 0],
-            (4, 8),
-        ),
-        // Hot in the prechart is 8 also without a term.
-        (&[0x10, 2, 1, 0x20, 0, 1, 0, 1, 0x32], (8, 8)),
-        // 9 is at the 21, whatever follows.
-        (&[0x10, 3, 1, 0x20, 0, 1, 0, 1, 0x21, 0, 4, 0x00], (9, 8)),
-        (&[0x10, 3, 1, 0x50, 0x21, 0, 4, 0x00], (9, 4)),
-        (&[0x10, 2, 0, 0x7F], (10, 3)),
-        (&[0x10, 2, 0, 0x20, 0, 1, 0, 1, 0x50, 0x7F], (10, 9)),
-        (&[0x10, 2, 0, 0x50, 0x20, 0, 1, 0, 1, 0x7F, 0x00], (11, 10)),
-        (&[0x10, 2, 0, 0x50, 0x7F, 0x00], (10, 4)),
-    ];
-    for (bytes, refusal) in cases {
+    for (bytes, refusal) in FAULTS {
         assert_eq!(read_chart(bytes), Err(refusal), "{bytes:02X?}");
     }
-    // A fifth term, of whichever kind; a 33rd region with equal lines is 4.
+}
+
+#[test]
+fn four_terms_are_read_and_a_fifth_of_either_kind_refused() {
     let mut bytes = vec![0x10, 2, 2, 0x20, 0, 1, 0, 1];
     for _ in 0..2 {
         bytes.extend([0x30, 0, 0, 0, 0, 0, 0]);
         bytes.extend([0x31, 0, 1, 0, 0, 0, 0, 0]);
     }
     let offset = bytes.len();
-    let mut fifth = bytes.clone();
-    fifth.extend([0x31, 0, 1, 0, 0, 0, 0, 0]);
-    assert_eq!(read_chart(&fifth), Err((5, offset)));
+    for fifth in [&[0x30, 0, 0, 0, 0, 0, 0][..], &[0x31, 0, 1, 0, 0, 0, 0, 0]] {
+        let longer = [&bytes[..], fifth].concat();
+        assert_eq!(read_chart(&longer), Err((5, offset)));
+    }
     bytes.extend([0x50, 0x20, 0, 1, 0, 1, 0x7F]);
     assert_eq!(read_chart(&bytes).unwrap().regions[0].term_count, 4);
+}
+
+#[test]
+fn charts_at_the_edges_are_read() {
     // A plain region first in a main chart behind a prechart is fine.
     let plain_first = [
         0x10, 3, 1, 0x20, 0, 1, 0, 1, 0x50, 0x21, 0, 4, 0x40, 1, 0x7F,
     ];
     assert!(well_formed::is_given(&read_chart(&plain_first).unwrap()));
-    // The widest heading.
-    let widest = [
-        0x10, 16, 8, 0x50, 0x20, 15, 0, 0xFF, 0xFF, 0x40, 0xFF, 0x21, 0xFF, 0xFF, 0x31, 7, 6, 4,
-        0x80, 0, 0, 0, 0x7F,
-    ];
-    assert!(fast::is_given(&read_chart(&widest).unwrap()));
+    assert!(well_formed::is_given(&read_chart(&WIDEST).unwrap()));
 }
 
 #[test]
@@ -305,10 +272,10 @@ fn a_break_keeps_what_stood_before() {
     ])
     .unwrap();
     let (answer, after) = monitor::feed(&chart, MonitorValue::ZERO, undo(6));
-    let broken = Answer::Broken {
+    let broken = Answer::Broken(Break {
         record: 1,
-        reason: 2,
-    };
+        reason: Reason::ConditionFails,
+    });
     assert_eq!(answer, broken);
     assert_eq!((after.fired, after.resets[0], after.resets[1]), (1, 6, 0));
     assert_eq!((after.now, after.records), (6, 1));
@@ -329,7 +296,7 @@ fn a_break_keeps_what_stood_before() {
 
 #[test]
 fn reading_one_record_at_every_place() {
-    let mut log = random::log_bytes(&[undo(100), RecordValue::Time(101)]);
+    let mut log = write_log(&[undo(100), RecordValue::Time(101)]);
     log.extend([1, 0, 0]);
     assert_eq!(read_record(&log, 0), Next::Taken(undo(100), 9));
     assert_eq!(
@@ -347,16 +314,14 @@ fn reading_one_record_at_every_place() {
 #[test]
 fn the_millionth_record_and_the_next() {
     let chart = read_chart(&CHART_U).unwrap();
-    let mut log = RecordValue::Time(9).to_image().repeat(1_000_000);
+    let mut log = RecordValue::Time(9).to_bytes().repeat(1_000_000);
     let verdict = Verdict {
         records: 1_000_000,
         ..Verdict::ZERO
     };
     assert_eq!(judge(&chart, &log), Ok(verdict));
-    assert_eq!(fast::judge(&chart, &log), Ok(verdict));
-    log.extend(RecordValue::Time(9).to_image());
+    log.extend(RecordValue::Time(9).to_bytes());
     assert_eq!(judge(&chart, &log), Err((23, 5_000_000)));
-    assert_eq!(fast::judge(&chart, &log), Err((23, 5_000_000)));
     // 22 comes before 23, 30 before both.
     let place = log.len() - 1;
     log[place] = 8;
@@ -372,9 +337,9 @@ fn the_program_s_input() {
     assert_eq!(respond(&[0, 1]), "refused input 41 at 0\n");
     assert_eq!(respond(&[0xFF; 65_536]), "refused input 41 at 0\n");
     assert_eq!(respond(&[0xFF; 65_537]), "refused input 40 at 0\n");
-    let mut input = random::printing_input(&CHART_U, &[]);
+    let mut input = input_of(&CHART_U, &[]);
     while input.len() + 5 <= 65_536 {
-        input.extend(RecordValue::Time(0).to_image());
+        input.extend(RecordValue::Time(0).to_bytes());
     }
     let records = (65_536 - 40) / 5;
     assert_eq!(

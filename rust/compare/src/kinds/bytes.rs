@@ -1,24 +1,17 @@
 //! Live bytes of any kind, damaged ones too: 20 and 21, and nothing changed by a refusal.
 
-use super::live::{check_standing, feed_live, live_bytes, standing_numbers};
-use super::{number, Kind};
+use super::live::{check_standing, feed_live, standing_numbers};
+use super::number;
 use crate::difference::{same, Both, Hex};
+use crate::image::{live_bytes, Image, LIVE_HEAD, MONITOR_IMAGE};
+use crate::random::{self, Rng};
 use crate::seen::Seen;
 use lsc::LiveMonitor;
 use lsc_reference::monitor::{feed, is_fit};
-use lsc_reference::random::{self, Rng};
 use lsc_reference::reader::read_chart;
 use lsc_reference::value::*;
 
-pub const KIND: Kind = Kind {
-    name: "live bytes",
-    share: 10,
-    parts: ["live bytes", "record"],
-    make,
-    compare,
-};
-
-fn make(rng: &mut Rng) -> (Vec<u8>, Vec<u8>) {
+pub fn make(rng: &mut Rng) -> (Vec<u8>, Vec<u8>) {
     let size = random::some_size(rng);
     let (bytes, chart) = random::chart(rng, size);
     let monitor = random::monitor_value(rng, &chart);
@@ -31,13 +24,13 @@ fn make(rng: &mut Rng) -> (Vec<u8>, Vec<u8>) {
         0 | 1 => random::damage(rng, &mut live),
         2 => {
             // The length's own bytes.
-            let place = 57 + rng.below(8);
+            let place = MONITOR_IMAGE + rng.below(8);
             live[place] = rng.pick(&[0, 1, 2, 64, 128, 255]);
         }
         3 => {
             let shift = rng.pick(&[-2i64, -1, 1, 2]);
             let length = (bytes.len() as u64).wrapping_add_signed(shift);
-            live[57..65].copy_from_slice(&length.to_be_bytes());
+            live[MONITOR_IMAGE..LIVE_HEAD].copy_from_slice(&length.to_be_bytes());
             live.extend((0..rng.below(3)).map(|_| rng.byte()));
         }
         4 => live.truncate(rng.below(live.len() + 1)),
@@ -45,23 +38,23 @@ fn make(rng: &mut Rng) -> (Vec<u8>, Vec<u8>) {
             let more = rng.below(20);
             live.extend((0..more).map(|_| rng.byte()));
         }
-        7 => live[57..65].fill(255),
+        7 => live[MONITOR_IMAGE..LIVE_HEAD].fill(255),
         _ => {}
     }
-    (live, record.to_image())
+    (live, record.to_bytes())
 }
 
 /// The chart and the monitor that live bytes hold; none for refusal 20.
 fn parts(live: &[u8]) -> Option<(&[u8], ChartValue, MonitorValue)> {
     let monitor = MonitorValue::from_image(live.get(..MONITOR_IMAGE)?)?;
-    let length: [u8; 8] = live.get(MONITOR_IMAGE..65)?.try_into().ok()?;
+    let length: [u8; 8] = live.get(MONITOR_IMAGE..LIVE_HEAD)?.try_into().ok()?;
     let length = usize::try_from(u64::from_be_bytes(length)).ok()?;
-    let chart = live[65..].get(..length)?;
+    let chart = live[LIVE_HEAD..].get(..length)?;
     Some((chart, read_chart(chart).ok()?, monitor))
 }
 
 pub fn compare(before: &[u8], record: &[u8], seen: &mut Seen) -> Result<(), Both> {
-    let record = RecordValue::from_image(record).unwrap_or(RecordValue::Time(0));
+    let record = RecordValue::from_bytes(record).unwrap_or(RecordValue::Time(0));
     let held = parts(before);
     let standing = match &held {
         None => Err(20),

@@ -1,25 +1,18 @@
 //! The live functions: a chart opened, records fed one by one, the standing asked after
 //! each; against the reference's monitor, field by field as an image.
 
-use super::{filled, filled_places, number, Kind, BEYOND};
+use super::{filled, filled_places, number, BEYOND};
 use crate::difference::{same, Both, Hex};
+use crate::image::{live_bytes, Image, LIVE_HEAD, MONITOR_IMAGE};
+use crate::random::{self, Rng};
 use crate::seen::Seen;
 use lsc::{call, FeedRefusal, LiveMonitor};
-use lsc_reference::log::standing;
+use lsc_reference::log::{verdict, write_log};
 use lsc_reference::monitor::feed;
-use lsc_reference::random::{self, Rng};
 use lsc_reference::reader::read_chart;
 use lsc_reference::value::*;
 
-pub const KIND: Kind = Kind {
-    name: "live",
-    share: 9,
-    parts: ["chart", "records"],
-    make,
-    compare,
-};
-
-fn make(rng: &mut Rng) -> (Vec<u8>, Vec<u8>) {
+pub fn make(rng: &mut Rng) -> (Vec<u8>, Vec<u8>) {
     if rng.chance(25) {
         return (random::hostile_chart_bytes(rng), Vec::new());
     }
@@ -27,35 +20,24 @@ fn make(rng: &mut Rng) -> (Vec<u8>, Vec<u8>) {
     let (bytes, chart) = random::chart(rng, size);
     let count = rng.below(24);
     let feeds = random::feeds(rng, &chart, count);
-    (bytes, random::log_bytes(&feeds))
+    (bytes, write_log(&feeds))
 }
 
 /// The whole records of some bytes; other bytes are passed over.
 pub fn records(bytes: &[u8]) -> Vec<RecordValue> {
     random::log_pieces(bytes)
         .iter()
-        .filter_map(|piece| RecordValue::from_image(piece))
+        .filter_map(|piece| RecordValue::from_bytes(piece))
         .collect()
-}
-
-/// The live bytes of a chart and a monitor.
-pub fn live_bytes(chart: &[u8], monitor: &MonitorValue) -> Vec<u8> {
-    let mut live = monitor.to_image().to_vec();
-    live.extend((chart.len() as u64).to_be_bytes());
-    live.extend(chart);
-    live
 }
 
 /// Feeds a record to live bytes, whichever of the two it is.
 pub fn feed_live(live: &mut [u8], record: &RecordValue) -> u8 {
     match *record {
         RecordValue::Time(time) => call::feed_time(live, time),
-        RecordValue::Message {
-            source,
-            destination,
-            label,
-            time,
-        } => call::feed_message(live, source, destination, label, time),
+        RecordValue::Message { message: m, time } => {
+            call::feed_message(live, m.source, m.destination, m.label, time)
+        }
     }
 }
 
@@ -63,16 +45,13 @@ pub fn feed_live(live: &mut [u8], record: &RecordValue) -> u8 {
 fn feed_safe(monitor: &mut LiveMonitor, record: &RecordValue) -> (u8, Option<(u32, u8)>) {
     let answer = match *record {
         RecordValue::Time(time) => monitor.feed_time(time),
-        RecordValue::Message {
-            source,
-            destination,
-            label,
-            time,
-        } => monitor.feed_message(source, destination, label, time),
+        RecordValue::Message { message: m, time } => {
+            monitor.feed_message(m.source, m.destination, m.label, time)
+        }
     };
     match answer {
         Err(refusal) => (refusal.number(), None),
-        Ok(lsc::Answer::Broken { record, reason }) => (1, Some((record, reason))),
+        Ok(lsc::Answer::Broken { record, reason }) => (1, Some((record, reason.number()))),
         Ok(lsc::Answer::Kept) => (2, None),
         Ok(lsc::Answer::Dropped) => (3, None),
         Ok(lsc::Answer::Entered) => (4, None),
@@ -83,14 +62,7 @@ fn feed_safe(monitor: &mut LiveMonitor, record: &RecordValue) -> (u8, Option<(u3
 
 /// The six numbers of a fit monitor.
 pub fn standing_numbers(chart: &ChartValue, monitor: &MonitorValue) -> [u64; 6] {
-    [
-        standing(chart, monitor).into(),
-        monitor.kept.into(),
-        monitor.dropped.into(),
-        monitor.records.into(),
-        monitor.break_record.into(),
-        monitor.reason.into(),
-    ]
+    verdict(chart, monitor).numbers().map(u64::from)
 }
 
 /// `lsc_standing` on live bytes: the six numbers or the refusal, and the places beyond.
@@ -129,7 +101,7 @@ fn check_open(
     read: &Result<ChartValue, (u8, usize)>,
     seen: &mut Seen,
 ) -> Result<Vec<u8>, Both> {
-    let size = 65 + chart.len();
+    let size = LIVE_HEAD + chart.len();
     same("live size", call::live_size(chart.len()), size)?;
     for room in [0, size / 2, size - 1] {
         let (mut live, mut at) = (filled(room), 77);
@@ -178,10 +150,11 @@ pub fn compare(chart: &[u8], log: &[u8], seen: &mut Seen) -> Result<(), Both> {
         check_standing(&live, Ok(numbers), seen)?;
 
         let (said, broken) = feed_safe(&mut safe, &record);
-        let wanted = (number(&answer), Hex(&live[..65 + chart.len()]));
+        let wanted = (number(&answer), Hex(&live[..LIVE_HEAD + chart.len()]));
         same("the safe feed", (said, Hex(safe.as_bytes())), wanted)?;
-        if let Answer::Broken { record, reason } = answer {
-            same("the safe break", broken, Some((record, reason)))?;
+        if let Answer::Broken(known) = answer {
+            let wanted = (known.record, known.reason.number());
+            same("the safe break", broken, Some(wanted))?;
         }
         let words: Vec<String> = numbers.iter().map(u64::to_string).collect();
         let text = safe.standing().to_string();

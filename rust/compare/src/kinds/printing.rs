@@ -1,24 +1,16 @@
 //! The printing program: `lsc_print` and the safe `print` against the reference's text.
 
-use super::{filled, Kind};
+use super::filled;
 use crate::difference::{same, Both, Hex};
+use crate::random::{hostile_input, Rng};
 use crate::seen::Seen;
 use lsc::call;
 use lsc_reference::print::respond;
-use lsc_reference::random::{hostile_input, Rng};
 
 /// The bytes that `lsc_print` wants for any text.
 pub const ROOM: usize = 169;
 
-pub const KIND: Kind = Kind {
-    name: "print",
-    share: 14,
-    parts: ["nothing", "input"],
-    make,
-    compare,
-};
-
-fn make(rng: &mut Rng) -> (Vec<u8>, Vec<u8>) {
+pub fn make(rng: &mut Rng) -> (Vec<u8>, Vec<u8>) {
     (Vec::new(), hostile_input(rng))
 }
 

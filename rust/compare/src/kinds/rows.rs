@@ -1,29 +1,23 @@
 //! Small charts against the declared meaning: every row of regions is tried, no step of the
 //! monitor is used.
 
-use super::live::{feed_live, live_bytes, records};
-use super::{number, Kind};
+use super::live::{feed_live, records};
+use super::number;
 use crate::charts;
 use crate::difference::{same, Both, Hex};
+use crate::image::{live_bytes, Image, LIVE_HEAD, MONITOR_IMAGE};
+use crate::random::{self, Rng, Size};
 use crate::seen::Seen;
 use lsc::call;
-use lsc_reference::declarative::{Meaning, Rows};
-use lsc_reference::random::{self, Rng, Size};
+use lsc_reference::declarative::Rows;
+use lsc_reference::log::write_log;
 use lsc_reference::reader::read_chart;
 use lsc_reference::value::*;
 
 /// Charts with more regions have too many rows.
 const MOST_REGIONS: u8 = 5;
 
-pub const KIND: Kind = Kind {
-    name: "rows",
-    share: 3,
-    parts: ["chart", "records"],
-    make,
-    compare,
-};
-
-fn make(rng: &mut Rng) -> (Vec<u8>, Vec<u8>) {
+pub fn make(rng: &mut Rng) -> (Vec<u8>, Vec<u8>) {
     let (bytes, chart) = if rng.chance(30) {
         let bytes = rng.pick(&charts::SMALL).to_vec();
         let chart = read_chart(&bytes).unwrap_or(ChartValue::ZERO);
@@ -33,23 +27,7 @@ fn make(rng: &mut Rng) -> (Vec<u8>, Vec<u8>) {
     };
     let count = rng.below(11);
     let feeds = random::feeds(rng, &chart, count);
-    (bytes, random::log_bytes(&feeds))
-}
-
-/// The monitor that a list of feeds means: the row of the unended stretch as fired regions.
-fn meant(meaning: &Meaning) -> MonitorValue {
-    let mut resets = [0; MAX_CLOCKS];
-    resets[..meaning.resets.len()].copy_from_slice(&meaning.resets);
-    MonitorValue {
-        fired: meaning.cut.iter().map(|region| 1 << region).sum(),
-        resets,
-        now: meaning.now,
-        records: meaning.accepted,
-        kept: meaning.kept,
-        dropped: meaning.dropped,
-        break_record: meaning.break_record,
-        reason: meaning.reason,
-    }
+    (bytes, write_log(&feeds))
 }
 
 pub fn compare(chart: &[u8], log: &[u8], seen: &mut Seen) -> Result<(), Both> {
@@ -59,7 +37,7 @@ pub fn compare(chart: &[u8], log: &[u8], seen: &mut Seen) -> Result<(), Both> {
     };
     let feeds = records(log);
     let meaning = Rows::of(&value).meaning(&feeds);
-    let mut live = vec![0; 65 + chart.len()];
+    let mut live = vec![0; LIVE_HEAD + chart.len()];
     call::open(chart, &mut live, &mut 0);
     let said: Vec<u8> = feeds
         .iter()
@@ -68,8 +46,8 @@ pub fn compare(chart: &[u8], log: &[u8], seen: &mut Seen) -> Result<(), Both> {
     let wanted: Vec<u8> = meaning.answers.iter().map(number).collect();
     same("answers", said, wanted)?;
     let monitor = MonitorValue::from_image(&live[..MONITOR_IMAGE]);
-    same("the monitor behind", monitor, Some(meant(&meaning)))?;
-    let wanted = live_bytes(chart, &meant(&meaning));
+    same("the monitor behind", monitor, Some(meaning.monitor()))?;
+    let wanted = live_bytes(chart, &meaning.monitor());
     same("live bytes", Hex(&live), Hex(&wanted))?;
     for answer in &meaning.answers {
         seen.answer(answer);

@@ -1,23 +1,16 @@
 //! Chart and monitor values of any kind, through their images: `lsc_test_new` and
 //! `lsc_test_feed_*` against the reference's `new` and `feed`.
 
-use super::{filled, number, Kind, BEYOND};
+use super::{filled, number, BEYOND};
 use crate::difference::{same, Both, Hex};
+use crate::image::{Image, MONITOR_IMAGE};
+use crate::random::{self, Rng};
 use crate::seen::Seen;
 use lsc::call;
 use lsc_reference::monitor::{feed, new};
-use lsc_reference::random::{self, Rng};
 use lsc_reference::value::*;
 
-pub const KIND: Kind = Kind {
-    name: "values",
-    share: 30,
-    parts: ["chart image", "monitor image and record"],
-    make,
-    compare,
-};
-
-fn make(rng: &mut Rng) -> (Vec<u8>, Vec<u8>) {
+pub fn make(rng: &mut Rng) -> (Vec<u8>, Vec<u8>) {
     let chart = if rng.chance(60) {
         let size = random::some_size(rng);
         random::chart(rng, size).1
@@ -40,7 +33,7 @@ fn make(rng: &mut Rng) -> (Vec<u8>, Vec<u8>) {
     let monitor = random::monitor_value(rng, &chart);
     let record = random::record_value(rng, &chart, &monitor);
     let mut second = monitor.to_image().to_vec();
-    second.extend(record.to_image());
+    second.extend(record.to_bytes());
     (image, second)
 }
 
@@ -48,21 +41,31 @@ fn make(rng: &mut Rng) -> (Vec<u8>, Vec<u8>) {
 pub fn feed_images(chart: &[u8], monitor: &mut [u8], record: &RecordValue) -> u8 {
     match *record {
         RecordValue::Time(time) => call::test_feed_time(chart, monitor, time),
-        RecordValue::Message {
-            source,
-            destination,
-            label,
-            time,
-        } => call::test_feed_message(chart, monitor, source, destination, label, time),
+        RecordValue::Message { message: m, time } => {
+            call::test_feed_message(chart, monitor, m.source, m.destination, m.label, time)
+        }
     }
 }
 
 pub fn compare(image: &[u8], second: &[u8], seen: &mut Seen) -> Result<(), Both> {
     let (before, record) = second.split_at(second.len().min(MONITOR_IMAGE));
-    let record = RecordValue::from_image(record).unwrap_or(RecordValue::Time(0));
-    let chart = ChartValue::from_image(image);
+    let record = RecordValue::from_bytes(record).unwrap_or(RecordValue::Time(0));
+    check_new(image, seen)?;
+    check_feed(image, before, record, seen)?;
+    for length in [0, MONITOR_IMAGE - 1] {
+        let mut short = filled(length);
+        let said = call::test_new(image, &mut short);
+        let fed = feed_images(image, &mut short, &record);
+        let wanted = (12, 12, Hex(&filled(length)));
+        same("a short monitor", (said, fed, Hex(&short)), wanted)?;
+        seen.refusal(said);
+    }
+    Ok(())
+}
 
-    let made = match chart.map(|chart| new(&chart)) {
+/// A monitor made of a chart's image: zeros, or refused.
+fn check_new(image: &[u8], seen: &mut Seen) -> Result<(), Both> {
+    let made = match ChartValue::from_image(image).map(|chart| new(&chart)) {
         Some(Ok(_)) => 0,
         _ => 20,
     };
@@ -75,30 +78,31 @@ pub fn compare(image: &[u8], second: &[u8], seen: &mut Seen) -> Result<(), Both>
     if made != 0 {
         seen.refusal(made);
     }
+    Ok(())
+}
 
-    if let Some(value) = MonitorValue::from_image(before) {
-        let (answer, after) = match chart {
-            None => (Answer::Refused(20), value),
-            Some(chart) => feed(&chart, value, record),
-        };
-        let mut wanted = after.to_image().to_vec();
-        wanted.extend(filled(BEYOND));
-        let mut monitor = before.to_vec();
-        monitor.extend(filled(BEYOND));
-        let said = feed_images(image, &mut monitor, &record);
-        let fields = MonitorValue::from_image(&monitor[..MONITOR_IMAGE]);
-        same("feeding", (said, fields), (number(&answer), Some(after)))?;
-        same("bytes behind feeding", Hex(&monitor), Hex(&wanted))?;
-        seen.answer(&answer);
-    }
-
-    for length in [0, MONITOR_IMAGE - 1] {
-        let mut short = filled(length);
-        let said = call::test_new(image, &mut short);
-        let fed = feed_images(image, &mut short, &record);
-        let wanted = (12, 12, Hex(&filled(length)));
-        same("a short monitor", (said, fed, Hex(&short)), wanted)?;
-        seen.refusal(said);
-    }
+/// A record fed to images, if the monitor's is one.
+fn check_feed(
+    image: &[u8],
+    before: &[u8],
+    record: RecordValue,
+    seen: &mut Seen,
+) -> Result<(), Both> {
+    let Some(value) = MonitorValue::from_image(before) else {
+        return Ok(());
+    };
+    let (answer, after) = match ChartValue::from_image(image) {
+        None => (Answer::Refused(20), value),
+        Some(chart) => feed(&chart, value, record),
+    };
+    let mut wanted = after.to_image().to_vec();
+    wanted.extend(filled(BEYOND));
+    let mut monitor = before.to_vec();
+    monitor.extend(filled(BEYOND));
+    let said = feed_images(image, &mut monitor, &record);
+    let fields = MonitorValue::from_image(&monitor[..MONITOR_IMAGE]);
+    same("feeding", (said, fields), (number(&answer), Some(after)))?;
+    same("bytes behind feeding", Hex(&monitor), Hex(&wanted))?;
+    seen.answer(&answer);
     Ok(())
 }

@@ -1,23 +1,15 @@
 //! Whole logs: `lsc_judge` and the safe `judge` against the reference's.
 
-use super::{filled_places, Kind};
+use super::filled_places;
 use crate::difference::{same, Both};
+use crate::random::{self, Rng, Size};
 use crate::seen::Seen;
 use lsc::{call, Part};
 use lsc_reference::log;
-use lsc_reference::random::{self, Rng, Size};
 use lsc_reference::reader::read_chart;
 use lsc_reference::value::{ChartValue, MAX_RECORDS};
 
-pub const KIND: Kind = Kind {
-    name: "judge",
-    share: 34,
-    parts: ["chart", "log"],
-    make,
-    compare,
-};
-
-fn make(rng: &mut Rng) -> (Vec<u8>, Vec<u8>) {
+pub fn make(rng: &mut Rng) -> (Vec<u8>, Vec<u8>) {
     let size = random::some_size(rng);
     let (bytes, chart) = random::chart(rng, size);
     if rng.chance(35) {
@@ -34,7 +26,7 @@ fn some_log(rng: &mut Rng, chart: &ChartValue, size: Size) -> Vec<u8> {
         return random::hostile_log_bytes(rng, chart);
     }
     let count = rng.below(if size == Size::Large { 120 } else { 40 });
-    random::log_bytes(&random::records(rng, chart, count))
+    log::write_log(&random::records(rng, chart, count))
 }
 
 /// The number and the six places that the reference gives.
@@ -45,17 +37,7 @@ pub fn expected(chart: &[u8], bytes: &[u8]) -> (u8, [u64; 6]) {
     };
     match result {
         Err((number, offset)) => (number, [part, number.into(), offset as u64, 0, 0, 0]),
-        Ok(v) => {
-            let out = [
-                v.standing.into(),
-                v.kept.into(),
-                v.dropped.into(),
-                v.records.into(),
-                v.break_record.into(),
-                v.reason.into(),
-            ];
-            (0, out)
-        }
+        Ok(verdict) => (0, verdict.numbers().map(u64::from)),
     }
 }
 

@@ -1,12 +1,13 @@
-//! `benchmark [FILE]`: times of the proved library beside the reference's fast judge. Prints
-//! a table in Markdown and writes a plot to FILE (`docs/judge-time.svg` of the repository).
+//! `benchmark [FILE]`: times of the proved library beside a fast judge in Rust. Prints a table
+//! in Markdown and writes a plot to FILE (`docs/judge-time.svg` of the repository).
 
 mod lines;
 mod rows;
 mod subject;
 
-use lsc_compare::charts::{self, U};
+use lsc_compare::charts;
 use lsc_compare::plot::Plot;
+use lsc_reference::examples::CHART_U;
 use std::path::PathBuf;
 use std::process::ExitCode;
 use subject::{Subject, FED, LONG, ROUNDS};
@@ -60,7 +61,7 @@ fn target() -> PathBuf {
 
 fn main() -> ExitCode {
     let subjects = [
-        Subject::of("chart U", U.to_vec()),
+        Subject::of("chart U", CHART_U.to_vec()),
         Subject::of("large chart", charts::large()),
     ];
     explain(&subjects);

@@ -2,9 +2,10 @@
 
 use crate::subject::{check, proved, reference, scan, Subject, FED, LONG, ROUNDS};
 use lsc::call;
+use lsc_compare::fast;
+use lsc_compare::image::{Image, LIVE_HEAD, MONITOR_IMAGE};
 use lsc_compare::kinds::{feed_images, feed_live};
 use lsc_compare::measure::{interleaved, median, ratios};
-use lsc_reference::fast;
 use lsc_reference::reader::read_chart;
 use lsc_reference::value::*;
 use std::hint::black_box;
@@ -76,7 +77,7 @@ pub fn feeding_values(subject: &Subject) {
     row("feeding values", subject, FED, &times);
 }
 
-/// The reference doing what the functions over images do: read both, feed, write the monitor's.
+/// The fast judge doing what the functions over images do: read both, feed, write the monitor's.
 fn feed_values(image: &[u8], monitor: &mut [u8], record: &RecordValue) -> Option<Answer> {
     let chart = ChartValue::from_image(image)?;
     let (answer, after) = fast::feed(&chart, MonitorValue::from_image(monitor)?, *record);
@@ -109,9 +110,9 @@ pub fn feeding_live(subject: &Subject) {
     row("feeding live", subject, FED, &times);
 }
 
-/// The reference doing what the live functions do: read the chart, feed, write the image.
+/// The fast judge doing what the live functions do: read the chart, feed, write the image.
 fn feed_reference(live: &mut [u8], record: &RecordValue) -> Option<Answer> {
-    let chart = read_chart(&live[65..]).ok()?;
+    let chart = read_chart(&live[LIVE_HEAD..]).ok()?;
     let monitor = MonitorValue::from_image(&live[..MONITOR_IMAGE])?;
     let (answer, after) = fast::feed(&chart, monitor, *record);
     live[..MONITOR_IMAGE].copy_from_slice(&after.to_image());

@@ -2,7 +2,7 @@
 
 use lsc::call;
 use lsc_compare::charts;
-use lsc_reference::fast;
+use lsc_compare::fast;
 use lsc_reference::log::read_log;
 use lsc_reference::reader::read_chart;
 use lsc_reference::value::{ChartValue, RecordValue};
@@ -68,7 +68,7 @@ pub fn proved(chart: &[u8], log: &[u8]) {
     black_box(out);
 }
 
-/// The reference's fast judge from the chart's bytes: reading them is included.
+/// The fast judge beside it, from the chart's bytes: reading them is included.
 pub fn reference(chart: &[u8], log: &[u8]) {
     let value = read_chart(black_box(chart)).expect("the chart is read");
     let _ = black_box(fast::judge(&value, black_box(log)));

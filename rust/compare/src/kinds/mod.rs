@@ -8,8 +8,8 @@ mod values;
 mod whole;
 
 use crate::difference::{Both, Difference};
+use crate::random::{shrink, Rng};
 use crate::seen::Seen;
-use lsc_reference::random::{shrink, Rng};
 use lsc_reference::value::Answer;
 
 pub use bytes::compare as compare_bytes;
@@ -17,6 +17,9 @@ pub use live::feed_live;
 pub use printing::compare as compare_print;
 pub use values::{compare as compare_values, feed_images};
 pub use whole::compare as compare_judge;
+
+/// Makes an input's two parts.
+pub type Make = fn(&mut Rng) -> (Vec<u8>, Vec<u8>);
 
 /// Gives an input's two parts to both sides; the first point on which they differ.
 pub type Compare = fn(&[u8], &[u8], &mut Seen) -> Result<(), Both>;
@@ -28,19 +31,36 @@ pub struct Kind {
     pub share: usize,
     /// What the two parts of an input are.
     pub parts: [&'static str; 2],
-    pub make: fn(&mut Rng) -> (Vec<u8>, Vec<u8>),
+    pub make: Make,
     pub compare: Compare,
 }
 
 /// All kinds.
+#[rustfmt::skip]
 pub static KINDS: [Kind; 6] = [
-    whole::KIND,
-    printing::KIND,
-    values::KIND,
-    live::KIND,
-    bytes::KIND,
-    rows::KIND,
+    kind("judge", 34, ["chart", "log"], whole::make, whole::compare),
+    kind("print", 14, ["nothing", "input"], printing::make, printing::compare),
+    kind("values", 30, ["chart image", "monitor image and record"], values::make, values::compare),
+    kind("live", 9, ["chart", "records"], live::make, live::compare),
+    kind("live bytes", 10, ["live bytes", "record"], bytes::make, bytes::compare),
+    kind("rows", 3, ["chart", "records"], rows::make, rows::compare),
 ];
+
+const fn kind(
+    name: &'static str,
+    share: usize,
+    parts: [&'static str; 2],
+    make: Make,
+    compare: Compare,
+) -> Kind {
+    Kind {
+        name,
+        share,
+        parts,
+        make,
+        compare,
+    }
+}
 
 /// Longer inputs are not shrunk piece by piece: it would take too long.
 const SHRINKABLE: usize = 4_000;
@@ -102,7 +122,7 @@ fn filled_places(length: usize) -> Vec<u64> {
 pub fn number(answer: &Answer) -> u8 {
     match answer {
         Answer::Refused(number) => *number,
-        Answer::Broken { .. } => 1,
+        Answer::Broken(_) => 1,
         Answer::Kept => 2,
         Answer::Dropped => 3,
         Answer::Entered => 4,
@@ -123,15 +143,16 @@ mod tests {
         let reason = read_chart(chart)
             .ok()
             .and_then(|chart| judge(&chart, log).ok())
-            .map_or(0, |verdict| verdict.reason);
-        same("reason", 0, reason)
+            .and_then(|verdict| verdict.broken)
+            .map(|known| known.reason);
+        same("reason", None, reason)
     }
 
     #[test]
     fn a_difference_is_found_and_shrunk() {
         let kind = Kind {
             compare: forgets_breaks,
-            ..whole::KIND
+            ..KINDS[0]
         };
         let mut rng = Rng::new(5);
         let found = (0..10_000)

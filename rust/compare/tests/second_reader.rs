@@ -1,8 +1,8 @@
 //! A second reader of charts, without state: every fault is asked of the list of commands
 //! up to the one at hand. It is compared with the reader on damaged charts.
 
-use lsc_reference::coverage::Coverage;
-use lsc_reference::random::{self, Rng};
+use lsc_compare::coverage::Coverage;
+use lsc_compare::random::{self, Rng};
 use lsc_reference::reader::read_chart;
 use lsc_reference::value::*;
 
@@ -207,46 +207,53 @@ fn value(commands: &[Command]) -> ChartValue {
     chart.prechart = count(&commands[..main], starts_region) as u8;
     for (number, start) in starts.iter().enumerate() {
         let end = starts.get(number + 1).copied().unwrap_or(commands.len());
-        let region = &mut chart.regions[number];
-        let o = commands[*start].operands;
-        region.event = if commands[*start].byte == 0x20 {
-            EventValue::Message {
-                source: o[0],
-                destination: o[1],
-                label: u16::from(o[2]) * 256 + u16::from(o[3]),
-            }
-        } else {
-            EventValue::Plain(u16::from(o[0]) * 256 + u16::from(o[1]))
-        };
-        let parts = &commands[*start..end];
-        region.hot = has(parts, 0x32);
-        for part in parts.iter().filter(|part| part.byte == 0x40) {
-            region.resets = part.operands[0];
-        }
-        for (place, part) in parts.iter().filter(|part| is_term(part)).enumerate() {
-            let (left, rest) = match part.byte {
-                0x30 => (LeftValue::Clock(part.operands[0]), &part.operands[1..]),
-                _ => (
-                    LeftValue::Difference(part.operands[0], part.operands[1]),
-                    &part.operands[2..],
-                ),
-            };
-            let mut n = 0i64;
-            for byte in &rest[1..] {
-                n = n * 256 + i64::from(*byte);
-            }
-            if n >= 1 << 31 {
-                n -= 1 << 32;
-            }
-            region.terms[place] = TermValue {
-                left,
-                relation: rest[0],
-                n: n as i32,
-            };
-            region.term_count += 1;
-        }
+        chart.regions[number] = region_value(&commands[*start..end]);
     }
     chart
+}
+
+/// The value of a region's start and what follows up to the next.
+fn region_value(parts: &[Command]) -> RegionValue {
+    let mut region = RegionValue::ZERO;
+    let o = parts[0].operands;
+    region.event = if parts[0].byte == 0x20 {
+        EventValue::Message(Message {
+            source: o[0],
+            destination: o[1],
+            label: u16::from(o[2]) * 256 + u16::from(o[3]),
+        })
+    } else {
+        EventValue::Plain(u16::from(o[0]) * 256 + u16::from(o[1]))
+    };
+    region.hot = has(parts, 0x32);
+    for part in parts.iter().filter(|part| part.byte == 0x40) {
+        region.resets = part.operands[0];
+    }
+    for (place, part) in parts.iter().filter(|part| is_term(part)).enumerate() {
+        region.terms[place] = term_value(part);
+        region.term_count += 1;
+    }
+    region
+}
+
+fn term_value(term: &Command) -> TermValue {
+    let o = term.operands;
+    let (left, rest) = match term.byte {
+        0x30 => (LeftValue::Clock(o[0]), &o[1..]),
+        _ => (LeftValue::Difference(o[0], o[1]), &o[2..]),
+    };
+    let mut n = 0i64;
+    for byte in &rest[1..] {
+        n = n * 256 + i64::from(*byte);
+    }
+    if n >= 1 << 31 {
+        n -= 1 << 32;
+    }
+    TermValue {
+        left,
+        relation: rest[0],
+        n: n as i32,
+    }
 }
 
 #[test]

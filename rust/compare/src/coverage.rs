@@ -1,6 +1,6 @@
 //! Counts of what a run of tests has reached.
 
-use crate::value::Answer;
+use lsc_reference::value::{Answer, Reason};
 use std::collections::BTreeMap;
 
 /// Every refusal document 01 names.
@@ -33,8 +33,10 @@ impl Coverage {
     pub fn answer(&mut self, answer: &Answer) {
         let name = match answer {
             Answer::Refused(code) => return self.refusal(*code),
-            Answer::Broken { reason: 1, .. } => "broken 1",
-            Answer::Broken { .. } => "broken 2",
+            Answer::Broken(known) => match known.reason {
+                Reason::NoReadyRegion => "broken 1",
+                Reason::ConditionFails => "broken 2",
+            },
             Answer::Kept => "kept",
             Answer::Dropped => "dropped",
             Answer::Entered => "entered",

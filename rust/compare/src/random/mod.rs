@@ -1,0 +1,17 @@
+//! Seeded random inputs, plausible and damaged, and the shrinking of failing ones.
+
+mod charts;
+mod hostile;
+mod logs;
+mod pieces;
+mod rng;
+mod shrink;
+mod values;
+
+pub use charts::{chart, some_size, Size};
+pub use hostile::{damage, hostile_chart_bytes, hostile_input, hostile_log_bytes};
+pub use logs::{feeds, records};
+pub use pieces::{commands, log_pieces};
+pub use rng::Rng;
+pub use shrink::shrink;
+pub use values::{chart_value, monitor_value, record_value};

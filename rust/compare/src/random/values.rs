@@ -1,0 +1,203 @@
+//! Values of charts, monitors and records, fit and unfit.
+
+use super::charts::{chart, some_size};
+use super::logs::{chart_message, gap, message_of, records, stray_message};
+use super::Rng;
+use crate::fast::{Plan, State};
+use lsc_reference::value::*;
+
+/// A wild term.
+fn wild_term(rng: &mut Rng) -> TermValue {
+    let small = |rng: &mut Rng| rng.pick(&[0, 0, 1, 2, 7, 8, 9, 255]);
+    TermValue {
+        left: if rng.chance(50) {
+            LeftValue::Clock(small(rng))
+        } else {
+            LeftValue::Difference(small(rng), small(rng))
+        },
+        relation: rng.pick(&[0, 1, 2, 3, 4, 5, 255]),
+        n: rng.number() as i32,
+    }
+}
+
+/// A wild event.
+fn wild_event(rng: &mut Rng) -> EventValue {
+    let line = |rng: &mut Rng| rng.pick(&[0, 1, 2, 3, 15, 16, 17, 255]);
+    if rng.chance(50) {
+        EventValue::Message(Message {
+            source: line(rng),
+            destination: line(rng),
+            label: rng.draw() as u16,
+        })
+    } else {
+        EventValue::Plain(rng.pick(&[0, 1, 2, 3, 7, 0x10, 0x8000, 0xFFFF]))
+    }
+}
+
+/// A wild region.
+fn wild_region(rng: &mut Rng) -> RegionValue {
+    let mut region = RegionValue {
+        event: wild_event(rng),
+        ..RegionValue::ZERO
+    };
+    for _ in 0..rng.below(3) {
+        change_region(rng, &mut region);
+    }
+    region
+}
+
+/// Changes one field of a region.
+fn change_region(rng: &mut Rng, region: &mut RegionValue) {
+    let used = usize::from(region.term_count).clamp(1, MAX_TERMS);
+    match rng.below(10) {
+        0 | 1 => region.event = wild_event(rng),
+        2 => region.hot = !region.hot,
+        3 => region.resets = rng.pick(&[0, 1, 2, 3, 0x40, 0x80, 0xFF]),
+        4 => region.resets ^= 1 << rng.below(8),
+        5 => region.term_count = rng.pick(&[0, 1, 2, 3, 4, 5, 255]),
+        6 => region.terms[rng.below(MAX_TERMS)] = wild_term(rng),
+        7 => region.terms[rng.below(used)] = wild_term(rng),
+        8 => region.terms[rng.below(MAX_TERMS)].n ^= 1 << rng.below(32),
+        _ => {
+            let term = &mut region.terms[rng.below(used)];
+            match rng.below(3) {
+                0 => term.relation = rng.pick(&[0, 4, 5, 6]),
+                1 => term.left = wild_term(rng).left,
+                _ => {
+                    term.left = match term.left {
+                        LeftValue::Clock(clock) => LeftValue::Difference(clock, 0),
+                        LeftValue::Difference(first, _) => LeftValue::Difference(first, first),
+                    }
+                }
+            }
+        }
+    }
+}
+
+/// Changes one field of a chart value.
+fn change_chart(rng: &mut Rng, chart: &mut ChartValue) {
+    let used = usize::from(chart.count).clamp(1, MAX_REGIONS);
+    let near = rng.pick(&[0, 1, 2, 8, 9, 15, 16, 17, 31, 32, 33, 255]);
+    match rng.below(12) {
+        0 => chart.lines = near,
+        1 => chart.clocks = near,
+        2 => chart.prechart = near,
+        3 => chart.count = near,
+        4 => chart.count = chart.count.wrapping_add(1),
+        5 => chart.prechart = chart.prechart.wrapping_add(1),
+        6 => {
+            let place = rng.below(MAX_REGIONS);
+            change_region(rng, &mut chart.regions[place]);
+        }
+        7 => {
+            let (a, b) = (rng.below(used), rng.below(used));
+            chart.regions.swap(a, b);
+        }
+        _ => {
+            let place = rng.below(used);
+            change_region(rng, &mut chart.regions[place]);
+        }
+    }
+}
+
+/// A chart value: well-formed, with one or two fields changed, or wild.
+pub fn chart_value(rng: &mut Rng) -> ChartValue {
+    let size = some_size(rng);
+    let mut value = chart(rng, size).1;
+    match rng.below(10) {
+        0..=2 => {}
+        3..=6 => change_chart(rng, &mut value),
+        7 | 8 => {
+            change_chart(rng, &mut value);
+            change_chart(rng, &mut value);
+        }
+        _ => {
+            value = ChartValue {
+                lines: rng.pick(&[0, 2, 4, 16, 17, 255]),
+                clocks: rng.pick(&[0, 1, 8, 9, 255]),
+                prechart: rng.pick(&[0, 1, 2, 32, 33, 255]),
+                count: rng.pick(&[0, 1, 2, 3, 32, 33, 255]),
+                ..ChartValue::ZERO
+            };
+            for _ in 0..rng.below(40) {
+                value.regions[rng.below(MAX_REGIONS)] = wild_region(rng);
+            }
+        }
+    }
+    value
+}
+
+/// A monitor reached by feeding a random log.
+fn reached_monitor(rng: &mut Rng, chart: &ChartValue) -> MonitorValue {
+    let Some(plan) = Plan::of(chart) else {
+        return MonitorValue::ZERO;
+    };
+    let count = rng.below(16);
+    let mut state = State::FRESH;
+    for record in records(rng, chart, count) {
+        if state.broken.is_none() {
+            plan.take_record(&mut state, &record);
+        }
+    }
+    state.to_value()
+}
+
+/// Changes one field of a monitor.
+fn change_monitor(rng: &mut Rng, monitor: &mut MonitorValue) {
+    match rng.below(14) {
+        0 => monitor.fired ^= 1 << rng.below(32),
+        1 => monitor.fired ^= 1 << rng.below(6),
+        2 => monitor.fired = rng.draw() as u32 & rng.draw() as u32,
+        3 => monitor.fired = u32::MAX.checked_shr(rng.below(33) as u32).unwrap_or(0),
+        4 => monitor.resets[rng.below(MAX_CLOCKS)] = rng.number(),
+        5 => monitor.resets[rng.below(MAX_CLOCKS)] = monitor.now,
+        6 => monitor.resets[rng.below(MAX_CLOCKS)] = monitor.now.wrapping_add(1),
+        7 => monitor.now = rng.number(),
+        8 => monitor.records = rng.number(),
+        9 => monitor.records = rng.pick(&[0, 999_999, 1_000_000, 1_000_001]),
+        10 => monitor.kept = rng.number(),
+        11 => monitor.dropped = rng.number(),
+        12 => {
+            monitor.break_record = rng.pick(&[0, 1, 2, monitor.records, u32::MAX]);
+        }
+        _ => {
+            monitor.reason = rng.pick(&[0, 1, 2, 3, 255]);
+            if rng.chance(50) {
+                monitor.break_record = rng.pick(&[0, 1, monitor.records]);
+            }
+        }
+    }
+}
+
+/// A monitor for a chart: reached by feeding, or that with some fields changed.
+pub fn monitor_value(rng: &mut Rng, chart: &ChartValue) -> MonitorValue {
+    let mut monitor = reached_monitor(rng, chart);
+    let changes = rng.pick(&[0, 0, 0, 1, 1, 1, 2, 3]);
+    for _ in 0..changes {
+        change_monitor(rng, &mut monitor);
+    }
+    monitor
+}
+
+/// A record to feed: awaited, of the chart, stray, of time; its time about now.
+pub fn record_value(rng: &mut Rng, chart: &ChartValue, monitor: &MonitorValue) -> RecordValue {
+    let time = match rng.below(12) {
+        0 => rng.number(),
+        1 => monitor.now.saturating_sub(1),
+        _ => monitor.now.saturating_add(gap(rng, true)),
+    };
+    match rng.below(10) {
+        0 => RecordValue::Time(time),
+        1 => stray_message(rng, chart, time),
+        2..=4 => chart_message(rng, chart, time),
+        _ => {
+            let count = usize::from(chart.count).min(MAX_REGIONS);
+            let unfired = (0..count).find(|place| {
+                (monitor.fired >> place) & 1 == 0 && message_of(&chart.regions[*place], 0).is_some()
+            });
+            unfired
+                .and_then(|place| message_of(&chart.regions[place], time))
+                .unwrap_or(RecordValue::Time(time))
+        }
+    }
+}

@@ -1,0 +1,60 @@
+//! The fast judge on document 01's examples and at its limits.
+
+use lsc_compare::fast;
+use lsc_reference::examples::{undo, CHART_U, OVER_CHART_U, WIDEST};
+use lsc_reference::log::{judge, write_log};
+use lsc_reference::monitor;
+use lsc_reference::reader::read_chart;
+use lsc_reference::value::*;
+
+#[test]
+fn chart_u() {
+    let chart = read_chart(&CHART_U).unwrap();
+    for (records, expected) in OVER_CHART_U {
+        let log = write_log(records);
+        let verdict = fast::judge(&chart, &log);
+        assert_eq!(verdict, judge(&chart, &log), "{expected}");
+    }
+}
+
+#[test]
+fn thirty_two_regions_are_fed() {
+    let mut bytes = vec![0x10, 2, 0, 0x50];
+    bytes.extend([0x20, 0, 1, 0, 1].repeat(32));
+    bytes.push(0x7F);
+    let chart = read_chart(&bytes).unwrap();
+    let mut state = MonitorValue::ZERO;
+    for _ in 0..32 {
+        let expected = monitor::feed(&chart, state, undo(0));
+        assert_eq!(fast::feed(&chart, state, undo(0)), expected);
+        state = expected.1;
+    }
+    assert_eq!(state.kept, 1);
+}
+
+#[test]
+fn the_widest_heading_is_given() {
+    assert!(fast::is_given(&read_chart(&WIDEST).unwrap()));
+}
+
+#[test]
+fn the_millionth_record_and_the_next() {
+    let chart = read_chart(&CHART_U).unwrap();
+    let full = RecordValue::Time(9).to_bytes().repeat(1_000_000);
+    let behind = [
+        Vec::new(),
+        RecordValue::Time(9).to_bytes(),
+        RecordValue::Time(8).to_bytes(),
+        vec![2, 0, 0, 0],
+        vec![3],
+    ];
+    let said = behind.map(|behind| {
+        let log = [&full[..], &behind].concat();
+        let verdict = fast::judge(&chart, &log);
+        assert_eq!(verdict, judge(&chart, &log));
+        verdict.map(|verdict| verdict.records)
+    });
+    let refused = [23, 22, 30, 31].map(|number| Err((number, 5_000_000)));
+    assert_eq!(said[0], Ok(1_000_000));
+    assert_eq!(said[1..], refused);
+}

@@ -1,0 +1,203 @@
+//! "A list of feeds": accepted records cut into stretches, each ended by its lawful rows.
+
+use super::rows::{Rows, Stretch};
+use crate::value::*;
+use std::collections::BTreeSet;
+
+/// What a list of feeds means.
+#[derive(Clone, Debug, PartialEq, Eq)]
+pub struct Meaning {
+    /// The answer of every feed, refused ones included.
+    pub answers: Vec<Answer>,
+    pub accepted: u32,
+    pub kept: u32,
+    pub dropped: u32,
+    pub broken: Option<Break>,
+    /// The last accepted record's time, or 0.
+    pub now: u32,
+    /// The cut: the regions (from 0) of the unended last stretch's row, or those left by the
+    /// broken one.
+    pub cut: BTreeSet<usize>,
+    /// Each clock's last reset in that cut, or the opening.
+    pub resets: Vec<u32>,
+}
+
+impl Meaning {
+    /// The monitor behind the list.
+    pub fn monitor(&self) -> MonitorValue {
+        let mut resets = [0; MAX_CLOCKS];
+        resets[..self.resets.len()].copy_from_slice(&self.resets);
+        let (break_record, reason) = Break::numbers(self.broken);
+        MonitorValue {
+            fired: self.cut.iter().map(|region| 1 << region).sum(),
+            resets,
+            now: self.now,
+            records: self.accepted,
+            kept: self.kept,
+            dropped: self.dropped,
+            break_record,
+            reason,
+        }
+    }
+}
+
+/// The cutting of a list, so far.
+struct Cutting<'a> {
+    rows: &'a Rows<'a>,
+    accepted: u32,
+    kept: u32,
+    dropped: u32,
+    broken: Option<Break>,
+    now: u32,
+    /// The last stretch: its opening, its records, and its row up to the last of them.
+    opening: u32,
+    records: Vec<RecordValue>,
+    row: Vec<usize>,
+}
+
+impl Rows<'_> {
+    /// The meaning of a list of feeds, the first with a fresh monitor.
+    pub fn meaning(&self, feeds: &[RecordValue]) -> Meaning {
+        let mut cutting = Cutting::of(self);
+        let answers = feeds.iter().map(|record| cutting.feed(*record)).collect();
+        Meaning {
+            answers,
+            accepted: cutting.accepted,
+            kept: cutting.kept,
+            dropped: cutting.dropped,
+            broken: cutting.broken,
+            now: cutting.now,
+            resets: cutting.resets(),
+            cut: cutting.row.into_iter().collect(),
+        }
+    }
+}
+
+impl<'a> Cutting<'a> {
+    /// "The first opening is before them all, at moment 0."
+    fn of(rows: &'a Rows<'a>) -> Cutting<'a> {
+        let cutting = Cutting {
+            rows,
+            accepted: 0,
+            kept: 0,
+            dropped: 0,
+            broken: None,
+            now: 0,
+            opening: 0,
+            records: Vec::new(),
+            row: Vec::new(),
+        };
+        let row = rows.lawful_row(cutting.stretch(), false);
+        assert_eq!(row, Some(&[][..]), "the empty stretch's row is empty");
+        cutting
+    }
+
+    fn stretch(&self) -> Stretch<'_> {
+        Stretch {
+            records: &self.records,
+            opening: self.opening,
+        }
+    }
+
+    /// The answer for the next record.
+    fn feed(&mut self, record: RecordValue) -> Answer {
+        // "A record not accepted gets its refusal or, behind a broken stretch, the broken
+        // answer again."
+        if let Some(known) = self.broken {
+            return Answer::Broken(known);
+        }
+        if record.time() < self.now {
+            return Answer::Refused(22);
+        }
+        if self.accepted == MAX_RECORDS {
+            return Answer::Refused(23);
+        }
+        self.accepted += 1;
+        self.now = record.time();
+        self.records.push(record);
+        // "A stretch ends with the first record up to which it has no lawful row, or one with
+        // every region."
+        let rows = self.rows;
+        match rows.lawful_row(self.stretch(), false) {
+            Some(row) if row.len() < rows.count() => self.run_on(row),
+            // "Ending with a row, it is kept."
+            Some(_) => self.keep(),
+            None => self.end_without_row(),
+        }
+    }
+
+    /// "otherwise the round runs on (entered, moved, quiet)"
+    fn run_on(&mut self, row: &[usize]) -> Answer {
+        let before = std::mem::replace(&mut self.row, row.to_vec());
+        if self.rows.has_prechart(row) && !self.rows.has_prechart(&before) {
+            Answer::Entered
+        } else if row != before {
+            Answer::Moved
+        } else {
+            Answer::Quiet
+        }
+    }
+
+    /// "Ending with none, take the conditions at its last record as holding."
+    fn end_without_row(&mut self) -> Answer {
+        let rows = self.rows;
+        let Some(row) = rows.lawful_row(self.stretch(), true) else {
+            // "Still no row: broken, reason 1, if the stretch's row up to the record before
+            // has every prechart region, else dropped."
+            return if rows.has_prechart(&self.row) {
+                self.break_off(self.row.clone(), Reason::NoReadyRegion)
+            } else {
+                self.drop()
+            };
+        };
+        // "Otherwise, in the row there then is, the first region whose condition fails
+        // decides: hot, broken, reason 2; cold, dropped."
+        let laid = rows.lay(row, self.stretch()).expect("a lawful row");
+        let failing = (0..row.len())
+            .find(|&place| !laid.condition_holds(place))
+            .expect("the row is not lawful without sparing");
+        if laid.region(failing).hot {
+            self.break_off(row[..failing].to_vec(), Reason::ConditionFails)
+        } else {
+            self.drop()
+        }
+    }
+
+    fn keep(&mut self) -> Answer {
+        self.kept += 1;
+        self.open();
+        Answer::Kept
+    }
+
+    fn drop(&mut self) -> Answer {
+        self.dropped += 1;
+        self.open();
+        Answer::Dropped
+    }
+
+    /// "The next opening is just behind, at that record's time."
+    fn open(&mut self) {
+        self.opening = self.now;
+        self.records.clear();
+        self.row.clear();
+    }
+
+    /// "the break is ... the number of accepted records and the broken stretch's reason". What
+    /// stays is the row before the failing region, or up to the record before.
+    fn break_off(&mut self, row: Vec<usize>, reason: Reason) -> Answer {
+        let record = self.accepted;
+        let known = Break { record, reason };
+        self.broken = Some(known);
+        self.row = row;
+        Answer::Broken(known)
+    }
+
+    /// The reset moments that the last stretch's row leaves.
+    fn resets(&self) -> Vec<u32> {
+        let laid = self.rows.lay(&self.row, self.stretch());
+        let laid = laid.expect("a lawful row, or the first part of one");
+        (0..self.rows.clocks())
+            .map(|clock| laid.last_reset(self.row.len(), clock))
+            .collect()
+    }
+}

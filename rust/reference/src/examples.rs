@@ -1,0 +1,59 @@
+//! Chart U, the examples over it and the widest chart, for every test that wants them.
+
+use crate::value::{Message, RecordValue};
+
+/// Document 01's chart U: once undo is seen, headings and references are owed, each at most
+/// 40 ticks later.
+pub const CHART_U: [u8; 38] = [
+    0x10, 4, 1, // 4 lines, 1 clock
+    0x20, 0, 1, 0, 1, 0x40, 1,    // prechart: undo resets clock 0
+    0x50, // the main chart starts
+    0x20, 1, 0, 0, 2, 0x30, 0, 1, 0, 0, 0, 40, 0x32, // headings, clock 0 <= 40, hot
+    0x20, 2, 3, 0, 3, 0x30, 0, 1, 0, 0, 0, 40, 0x32, // references likewise
+    0x7F,
+];
+
+/// A chart with the widest heading, its last line, all its clocks and lines, the highest
+/// label and the lowest number.
+pub const WIDEST: [u8; 23] = [
+    0x10, 16, 8, 0x50, 0x20, 15, 0, 0xFF, 0xFF, 0x40, 0xFF, 0x21, 0xFF, 0xFF, 0x31, 7, 6, 4, 0x80,
+    0, 0, 0, 0x7F,
+];
+
+/// A message at a time.
+pub const fn message(source: u8, destination: u8, label: u16, time: u32) -> RecordValue {
+    let message = Message {
+        source,
+        destination,
+        label,
+    };
+    message.at(time)
+}
+
+/// Chart U's undo at a time.
+pub const fn undo(time: u32) -> RecordValue {
+    message(0, 1, 1, time)
+}
+
+/// Chart U's headings at a time.
+pub const fn headings(time: u32) -> RecordValue {
+    message(1, 0, 2, time)
+}
+
+/// Chart U's references at a time.
+pub const fn references(time: u32) -> RecordValue {
+    message(2, 3, 3, time)
+}
+
+/// "Examples over chart U": a log's records, and the verdict's line or the refusal's.
+pub const OVER_CHART_U: [(&[RecordValue], &str); 9] = [
+    (&[undo(100), references(120), headings(140)], "0 1 0 3 0 0"),
+    (&[undo(100), references(120), headings(141)], "3 0 0 3 3 2"),
+    (&[undo(100), headings(120)], "2 0 0 2 0 0"),
+    (&[undo(100), headings(120), headings(130)], "3 0 0 3 3 1"),
+    (&[undo(100), undo(110)], "3 0 0 2 2 1"),
+    (&[headings(5)], "0 0 1 1 0 0"),
+    (&[undo(100), message(3, 2, 3, 110)], "2 0 0 2 0 0"),
+    (&[], "0 0 0 0 0 0"),
+    (&[undo(100), undo(99)], "refused log 22 at 9"),
+];
