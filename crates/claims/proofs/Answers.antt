@@ -70,7 +70,7 @@ judge-answer (judged.Refused log.TooManyRecords o) = refl
 judgements-tell : (x y : Judgement) → judge.said x ≡ judge.said y → x ≡ y
 judgements-tell x y e =
     let a : x .answer ≡ y .answer
-        = sym (judge-answer (x .answer)) ∙ ap (λ (s : judge.Said). judgeAnswer (s .number) (s .offset)) e ∙ judge-answer (y .answer) in
+    = sym (judge-answer (x .answer)) ∙ ap (λ (s : judge.Said). judgeAnswer (s .number) (s .offset)) e ∙ judge-answer (y .answer) in
     λ i. record { answer = a i; verdict = e i .verdict }
 
 told : Told → Answer

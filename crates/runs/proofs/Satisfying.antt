@@ -121,7 +121,7 @@ module _ (C : Chart) where
       let a : left (z .cut) + heard w ≡ C .regions = prompt-adds P in
       let b : C .regions ≤ left (S .end .cut) + heard (S .prefix) = run-adds (S .run) in
       let c : n + left (S .end .cut) ≤ C .regions
-          = counted-rest (C .regions) n (λ i. not (S .end .cut i)) h (λ j l. ap not (S .maximal j .1 l)) in
+      = counted-rest (C .regions) n (λ i. not (S .end .cut i)) h (λ j l. ap not (S .maximal j .1 l)) in
       let d : heard (S .prefix) ≤ heard w = subst (λ (u : Snoc Letter). heard (S .prefix) ≤ heard u) (sym (S .parts)) (heard-more (S .prefix) (S .rest)) in
       omega arith
 
@@ -139,12 +139,12 @@ module _ (C : Chart) where
             let m : C .prechart < C .regions = A .has-main in
             let a : C .prechart + left (z .cut) ≤ C .regions = lacks-few (C .prechart) (omega arith) P S in
             let b : C .regions < C .prechart + left (z .cut)
-                = counted-from (C .regions) (C .prechart) (λ j. not (z .cut j)) (omega arith)
-                (counted (C .prechart) (λ j. not (z .cut j)) i h (ap not q))
-                (λ j k l. elim (split (z .cut j)) [
-                  | inl p ↦ clash (run-is-cut C R .closed j i p (A .halves i j h k l)) q
-                  | inr p ↦ ap not p
-                ]) in
+            = counted-from (C .regions) (C .prechart) (λ j. not (z .cut j)) (omega arith)
+            (counted (C .prechart) (λ j. not (z .cut j)) i h (ap not q))
+            (λ j k l. elim (split (z .cut j)) [
+              | inl p ↦ clash (run-is-cut C R .closed j i p (A .halves i j h k l)) q
+              | inr p ↦ ap not p
+            ]) in
             absurd (omega arith)
       ]
 

@@ -21,11 +21,11 @@ ghost use Rattle.rounds.specs.Base.{first, allBelow, someBelow};
 ghost use Rattle.rounds.specs.Chart.{Chart};
 ghost use Rattle.rounds.specs.Rows.{Ready};
 ghost use Rattle.rounds.specs.Feeds.{mostRecords, entered, moved};
-ghost use Rattle.rounds.specs.Tally.{counted as tallied, countedKept, countedDropped, countedBroken};
+ghost use Rattle.rounds.specs.Tally.{countedAs, counted as tallied, countedKept, countedDropped, countedBroken};
 ghost use Rattle.rounds.specs.Machine.{stuck, opening as opened, goOn, keepRound, dropRound, breakRound, conclude as concluded, accept as accepted, feed as fed, Fit};
 ghost use Rattle.stepping.specs.declared.Rest.the-variants.{Fails as FailsAt};
 ghost use Rattle.stepping.specs.Answers.{feedRefusalNumber, answerNumber, answerOf, HandsBack};
-ghost use Rattle.stepping.specs.Monitors.{momentsOf, placeAt, tallyAt, monitorAt, stepOf};
+ghost use Rattle.stepping.specs.Monitors.{momentsOf, placeAt, breakAt, tallyAt, monitorAt, stepOf};
 ghost use Rattle.stepping.specs.View.{bias, boundOf, bounded, Within, conditionBy, planChart, recordOf, Compiled};
 ghost use Rattle.stepping.specs.Parts.{readyBy, foundOf, Covers, soughtBy, valueAt, Testable, fireBy, takenAt, moveOf};
 
@@ -375,65 +375,51 @@ fn opening(clocks: usize, t: Moment) -> Place
     Place { fired: 0, resets }
 }
 
-// A record at moment t is counted, and the round runs on.
+// A record at moment t is counted, with these counts of rounds and this break.
+fn counted_as(x: Tally, t: Moment, kept: u32, dropped: u32, broken: Break) -> Tally
+    requires { ⌜ x .records < mostRecords ⌝ }
+    ensures { λ r. ⌜ tallyAt r ≡ countedAs (tallyAt x) (t .0) kept dropped (breakAt broken) ⌝ }
+{
+    Tally {
+        now: t,
+        records: x.records + 1,
+        kept,
+        dropped,
+        broken,
+    }
+}
+
+// The round runs on.
 fn counted(x: Tally, t: Moment) -> Tally
     requires { ⌜ x .records < mostRecords ⌝ }
     ensures { λ r. ⌜ tallyAt r ≡ tallied (tallyAt x) (t .0) ⌝ }
 {
-    let broken = Break { at: 0, reason: 0 };
-    Tally {
-        now: t,
-        records: x.records + 1,
-        kept: x.kept,
-        dropped: x.dropped,
-        broken,
-    }
+    counted_as(x, t, x.kept, x.dropped, Break { at: 0, reason: 0 })
 }
 
-// A record at moment t is counted, and so is a kept round.
+// The round is kept.
 fn counted_kept(x: Tally, t: Moment) -> Tally
     requires { ⌜ (x .records < mostRecords) × (x .kept ≤ x .records) ⌝ }
     ensures { λ r. ⌜ tallyAt r ≡ countedKept (tallyAt x) (t .0) ⌝ }
 {
-    let broken = Break { at: 0, reason: 0 };
-    Tally {
-        now: t,
-        records: x.records + 1,
-        kept: x.kept + 1,
-        dropped: x.dropped,
-        broken,
-    }
+    counted_as(x, t, x.kept + 1, x.dropped, Break { at: 0, reason: 0 })
 }
 
-// A record at moment t is counted, and so is a dropped round.
+// The round is dropped.
 fn counted_dropped(x: Tally, t: Moment) -> Tally
     requires { ⌜ (x .records < mostRecords) × (x .dropped ≤ x .records) ⌝ }
     ensures { λ r. ⌜ tallyAt r ≡ countedDropped (tallyAt x) (t .0) ⌝ }
 {
-    let broken = Break { at: 0, reason: 0 };
-    Tally {
-        now: t,
-        records: x.records + 1,
-        kept: x.kept,
-        dropped: x.dropped + 1,
-        broken,
-    }
+    counted_as(x, t, x.kept, x.dropped + 1, Break { at: 0, reason: 0 })
 }
 
-// A record at moment t is counted, and it is the break.
+// The round is broken at the record that is counted.
 fn counted_broken(x: Tally, t: Moment, reason: u8) -> Tally
     requires { ⌜ x .records < mostRecords ⌝ }
     ensures { λ r. ⌜ tallyAt r ≡ countedBroken (tallyAt x) (t .0) reason ⌝ }
 {
     let n = x.records + 1;
-    let broken = Break { at: n, reason };
-    Tally {
-        now: t,
-        records: n,
-        kept: x.kept,
-        dropped: x.dropped,
-        broken,
-    }
+    counted_as(x, t, x.kept, x.dropped, Break { at: n, reason })
 }
 
 // The round runs on at a place.
