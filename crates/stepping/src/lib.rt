@@ -389,7 +389,7 @@ fn counted_as(x: Tally, t: Moment, kept: u32, dropped: u32, broken: Break) -> Ta
     }
 }
 
-// The round runs on.
+// A record is counted, and the round runs on.
 fn counted(x: Tally, t: Moment) -> Tally
     requires { ⌜ x .records < mostRecords ⌝ }
     ensures { λ r. ⌜ tallyAt r ≡ tallied (tallyAt x) (t .0) ⌝ }
@@ -397,7 +397,7 @@ fn counted(x: Tally, t: Moment) -> Tally
     counted_as(x, t, x.kept, x.dropped, Break { at: 0, reason: 0 })
 }
 
-// The round is kept.
+// A record is counted, and the round is kept.
 fn counted_kept(x: Tally, t: Moment) -> Tally
     requires { ⌜ (x .records < mostRecords) × (x .kept ≤ x .records) ⌝ }
     ensures { λ r. ⌜ tallyAt r ≡ countedKept (tallyAt x) (t .0) ⌝ }
@@ -405,7 +405,7 @@ fn counted_kept(x: Tally, t: Moment) -> Tally
     counted_as(x, t, x.kept + 1, x.dropped, Break { at: 0, reason: 0 })
 }
 
-// The round is dropped.
+// A record is counted, and the round is dropped.
 fn counted_dropped(x: Tally, t: Moment) -> Tally
     requires { ⌜ (x .records < mostRecords) × (x .dropped ≤ x .records) ⌝ }
     ensures { λ r. ⌜ tallyAt r ≡ countedDropped (tallyAt x) (t .0) ⌝ }
@@ -413,7 +413,7 @@ fn counted_dropped(x: Tally, t: Moment) -> Tally
     counted_as(x, t, x.kept, x.dropped + 1, Break { at: 0, reason: 0 })
 }
 
-// The round is broken at the record that is counted.
+// A record is counted, and the round is broken at it.
 fn counted_broken(x: Tally, t: Moment, reason: u8) -> Tally
     requires { ⌜ x .records < mostRecords ⌝ }
     ensures { λ r. ⌜ tallyAt r ≡ countedBroken (tallyAt x) (t .0) reason ⌝ }
@@ -427,10 +427,11 @@ fn go_on(m: Monitor, t: Moment, answer: Answer, place: Place) -> Step
     requires { ⌜ m .tally .records < mostRecords ⌝ }
     ensures { λ r. ⌜ ((C : Chart) (code : ℕ) → stepOf r ≡ goOn C (monitorAt m) (recordOf code (t .0)) (answerOf answer) (placeAt place)) ⌝ }
 {
-    let before = m.tally;
-    let tally = counted(before, t);
-    let next = Monitor { at: place, tally };
-    Step { answer, next }
+    let tally = counted(m.tally, t);
+    Step {
+        answer,
+        next: Monitor { at: place, tally },
+    }
 }
 
 // The round is kept.
@@ -440,12 +441,10 @@ fn keep_round(clocks: usize, m: Monitor, t: Moment) -> Step
     ensures { λ r. ⌜ ((C : Chart) (code : ℕ) → C .clocks ≡ clocks → stepOf r ≡ keepRound C (monitorAt m) (recordOf code (t .0))) ⌝ }
 {
     let at = opening(clocks, t);
-    let before = m.tally;
-    let tally = counted_kept(before, t);
-    let next = Monitor { at, tally };
+    let tally = counted_kept(m.tally, t);
     Step {
         answer: Answer::Kept,
-        next,
+        next: Monitor { at, tally },
     }
 }
 
@@ -456,12 +455,10 @@ fn drop_round(clocks: usize, m: Monitor, t: Moment) -> Step
     ensures { λ r. ⌜ ((C : Chart) (code : ℕ) → C .clocks ≡ clocks → stepOf r ≡ dropRound C (monitorAt m) (recordOf code (t .0))) ⌝ }
 {
     let at = opening(clocks, t);
-    let before = m.tally;
-    let tally = counted_dropped(before, t);
-    let next = Monitor { at, tally };
+    let tally = counted_dropped(m.tally, t);
     Step {
         answer: Answer::Dropped,
-        next,
+        next: Monitor { at, tally },
     }
 }
 
@@ -470,12 +467,10 @@ fn break_round(m: Monitor, t: Moment, reason: u8, place: Place) -> Step
     requires { ⌜ m .tally .records < mostRecords ⌝ }
     ensures { λ r. ⌜ ((C : Chart) (code : ℕ) → stepOf r ≡ breakRound C (monitorAt m) (recordOf code (t .0)) reason (placeAt place)) ⌝ }
 {
-    let before = m.tally;
-    let tally = counted_broken(before, t, reason);
-    let next = Monitor { at: place, tally };
+    let tally = counted_broken(m.tally, t, reason);
     Step {
         answer: Answer::Broken(tally.broken.at, reason),
-        next,
+        next: Monitor { at: place, tally },
     }
 }
 
