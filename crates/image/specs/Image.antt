@@ -35,7 +35,8 @@ momentNumbers r =
 
 -- what stands behind them
 abbrev pub tallyBytes : Tally → List ℕ
-tallyBytes x = wordsBytes (x .now .0 ∷ x .records ∷ x .kept ∷ x .dropped ∷ x .broken .at ∷ []) ++ (x .broken .reason ∷ [])
+tallyBytes x =
+    wordsBytes (x .now .0 ∷ x .records ∷ x .kept ∷ x .dropped ∷ x .broken .at ∷ []) ++ (x .broken .reason ∷ [])
 
 unfoldable pub monitorBytes : Monitor → List ℕ
 monitorBytes m = wordBytes (m .at .fired) ++ (wordsBytes (momentNumbers (m .at .resets)) ++ tallyBytes (m .tally))

@@ -9,7 +9,7 @@ use borrow.Author.Tests.{eqb-true, ltb-false, ltb-true, leb-false, not-false}
 use Rattle.rounds.specs.Base.{Snoc, ε, _▸_}
 use Rattle.rounds.specs.Chart.{Chart, Accepted}
 use Rattle.rounds.specs.Rows.{LogRecord, chartMessage, plain, Ready, values, opened, Full}
-use Rattle.rounds.specs.Tally.{noBreak}
+use Rattle.rounds.specs.Tally.{noBreak, countedAs}
 use Rattle.rounds.specs.Feeds.{mostRecords, noReadyRegion, conditionFails}
 use Rattle.rounds.specs.Machine.{Place, Monitor, fresh, Move, stuck, fails, rests, readyPlain, readyFor, fire, unfired, settle, place, opening, full, prechartDone, goOn, keepRound, dropRound, breakRound, conclude, accept, feed, after, Fit}
 use Rattle.rounds.proofs.Facts.{split, or-right, or-cases, found}
@@ -91,7 +91,7 @@ module _ (C : Chart) (A : Accepted C) where
 
     -- at place p, with k kept and d dropped rounds and no break
     abbrev unbrokenAt : Place → ℕ → ℕ → Monitor
-    unbrokenAt p k d = record { at = p; tally = record { now = e .time; records = suc (m .tally .records); kept = k; dropped = d; broken = noBreak } }
+    unbrokenAt p k d = record { at = p; tally = countedAs (m .tally) (e .time) k d noBreak }
 
     unbroken-fits : (p : Place) (k d : ℕ) → FitPlace (e .time) p → ¬ Full C (p .fired) → Settled p → k + d ≤ suc (m .tally .records)
         → Fit C (unbrokenAt p k d)

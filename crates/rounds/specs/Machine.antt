@@ -90,10 +90,16 @@ module _ (C : Chart) where
 
   -- "Kept or dropped returns to the opening"
   unfoldable pub keepRound : Monitor → LogRecord → Step
-  keepRound m e = record { answer = toldKept; next = record { at = opening (e .time); tally = countedKept (m .tally) (e .time) } }
+  keepRound m e = record {
+    answer = toldKept;
+    next = record { at = opening (e .time); tally = countedKept (m .tally) (e .time) };
+  }
 
   unfoldable pub dropRound : Monitor → LogRecord → Step
-  dropRound m e = record { answer = toldDropped; next = record { at = opening (e .time); tally = countedDropped (m .tally) (e .time) } }
+  dropRound m e = record {
+    answer = toldDropped;
+    next = record { at = opening (e .time); tally = countedDropped (m .tally) (e .time) };
+  }
 
   -- "A break stores its record and reason; fired regions and clocks are those just before the failing region, or, for reason 1,
   -- before the record": the place p.
@@ -119,7 +125,8 @@ module _ (C : Chart) where
   -- "a broken monitor answers broken again, with record and reason, and nothing changes. Otherwise 22 the time is below now; 23 it
   -- would be record 1,000,001." "A refusal gives the monitor as it came."
   unfoldable pub feed : Monitor → LogRecord → Step
-  feed m e = cond (not (eqb (m .tally .broken .at) 0)) (record { answer = toldBroken (m .tally .broken .at) (m .tally .broken .reason); next = m })
+  feed m e = cond (not (eqb (m .tally .broken .at) 0))
+      (record { answer = toldBroken (m .tally .broken .at) (m .tally .broken .reason); next = m })
       (cond (ltb (e .time) (m .tally .now)) (record { answer = refused timeFalls; next = m })
       (cond (leb mostRecords (m .tally .records)) (record { answer = refused tooManyRecords; next = m })
       (accept m e)))
@@ -152,4 +159,5 @@ pub record Fit (C : Chart) (m : Monitor) : Type 0 where
   pub counts : m .tally .kept + m .tally .dropped ≤ m .tally .records
   -- "and the break is two zeros, or a record from 1 to the count with reason 1 or 2"
   pub break-fits : ((m .tally .broken .at ≡ 0) × (m .tally .broken .reason ≡ 0))
-      ⊎ ((1 ≤ m .tally .broken .at) × (m .tally .broken .at ≤ m .tally .records) × ((m .tally .broken .reason ≡ noReadyRegion) ⊎ (m .tally .broken .reason ≡ conditionFails)))
+      ⊎ ((1 ≤ m .tally .broken .at) × (m .tally .broken .at ≤ m .tally .records)
+      × ((m .tally .broken .reason ≡ noReadyRegion) ⊎ (m .tally .broken .reason ≡ conditionFails)))

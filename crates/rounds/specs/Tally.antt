@@ -21,24 +21,22 @@ noBreak = record { at = 0; reason = 0 }
 abbrev pub freshTally : Tally
 freshTally = record { now = 0; records = 0; kept = 0; dropped = 0; broken = noBreak }
 
--- Each of the four counts one record, whose time is now; they are for a tally without a break. The round runs on:
+-- one more record, at time t, with these numbers of kept and of dropped rounds and this break
+abbrev pub countedAs : Tally → ℕ → ℕ → ℕ → Break → Tally
+countedAs x t kept dropped broken = record { now = t; records = suc (x .records); kept = kept; dropped = dropped; broken = broken }
+
+-- Four ways to take a record, each for a tally without a break. The round runs on:
 abbrev pub counted : Tally → ℕ → Tally
-counted x t = record { now = t; records = suc (x .records); kept = x .kept; dropped = x .dropped; broken = noBreak }
+counted x t = countedAs x t (x .kept) (x .dropped) noBreak
 
--- the round is kept, and it too is counted
+-- the round is kept
 abbrev pub countedKept : Tally → ℕ → Tally
-countedKept x t = record { now = t; records = suc (x .records); kept = suc (x .kept); dropped = x .dropped; broken = noBreak }
+countedKept x t = countedAs x t (suc (x .kept)) (x .dropped) noBreak
 
--- likewise for a dropped one
+-- the round is dropped
 abbrev pub countedDropped : Tally → ℕ → Tally
-countedDropped x t = record { now = t; records = suc (x .records); kept = x .kept; dropped = suc (x .dropped); broken = noBreak }
+countedDropped x t = countedAs x t (x .kept) (suc (x .dropped)) noBreak
 
 -- the round is broken for reason k, at the record that is counted
 abbrev pub countedBroken : Tally → ℕ → ℕ → Tally
-countedBroken x t k = record {
-  now = t;
-  records = suc (x .records);
-  kept = x .kept;
-  dropped = x .dropped;
-  broken = record { at = suc (x .records); reason = k };
-}
+countedBroken x t k = countedAs x t (x .kept) (x .dropped) (record { at = suc (x .records); reason = k })

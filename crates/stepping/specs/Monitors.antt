@@ -26,7 +26,13 @@ abbrev pub breakAt : Break → AbstractBreak
 breakAt b = record { at = b .at; reason = b .reason }
 
 abbrev pub tallyAt : Tally → AbstractTally
-tallyAt x = record { now = x .now .0; records = x .records; kept = x .kept; dropped = x .dropped; broken = breakAt (x .broken) }
+tallyAt x = record {
+  now = x .now .0;
+  records = x .records;
+  kept = x .kept;
+  dropped = x .dropped;
+  broken = breakAt (x .broken);
+}
 
 -- a stored monitor
 abbrev pub monitorAt : Monitor → AbstractMonitor

@@ -21,11 +21,11 @@ ghost use Rattle.rounds.specs.Base.{first, allBelow, someBelow};
 ghost use Rattle.rounds.specs.Chart.{Chart};
 ghost use Rattle.rounds.specs.Rows.{Ready};
 ghost use Rattle.rounds.specs.Feeds.{mostRecords, entered, moved};
-ghost use Rattle.rounds.specs.Tally.{counted as tallied, countedKept, countedDropped, countedBroken};
+ghost use Rattle.rounds.specs.Tally.{countedAs, counted as tallied, countedKept, countedDropped, countedBroken};
 ghost use Rattle.rounds.specs.Machine.{stuck, opening as opened, goOn, keepRound, dropRound, breakRound, conclude as concluded, accept as accepted, feed as fed, Fit};
 ghost use Rattle.stepping.specs.declared.Rest.the-variants.{Fails as FailsAt};
 ghost use Rattle.stepping.specs.Answers.{feedRefusalNumber, answerNumber, answerOf, HandsBack};
-ghost use Rattle.stepping.specs.Monitors.{momentsOf, placeAt, tallyAt, monitorAt, stepOf};
+ghost use Rattle.stepping.specs.Monitors.{momentsOf, placeAt, breakAt, tallyAt, monitorAt, stepOf};
 ghost use Rattle.stepping.specs.View.{bias, boundOf, bounded, Within, conditionBy, planChart, recordOf, Compiled};
 ghost use Rattle.stepping.specs.Parts.{readyBy, foundOf, Covers, soughtBy, valueAt, Testable, fireBy, takenAt, moveOf};
 
@@ -375,65 +375,51 @@ fn opening(clocks: usize, t: Moment) -> Place
     Place { fired: 0, resets }
 }
 
-// A record at moment t is counted, and the round runs on.
+// A record at moment t is counted, with these counts of rounds and this break.
+fn counted_as(x: Tally, t: Moment, kept: u32, dropped: u32, broken: Break) -> Tally
+    requires { ⌜ x .records < mostRecords ⌝ }
+    ensures { λ r. ⌜ tallyAt r ≡ countedAs (tallyAt x) (t .0) kept dropped (breakAt broken) ⌝ }
+{
+    Tally {
+        now: t,
+        records: x.records + 1,
+        kept,
+        dropped,
+        broken,
+    }
+}
+
+// A record is counted, and the round runs on.
 fn counted(x: Tally, t: Moment) -> Tally
     requires { ⌜ x .records < mostRecords ⌝ }
     ensures { λ r. ⌜ tallyAt r ≡ tallied (tallyAt x) (t .0) ⌝ }
 {
-    let broken = Break { at: 0, reason: 0 };
-    Tally {
-        now: t,
-        records: x.records + 1,
-        kept: x.kept,
-        dropped: x.dropped,
-        broken,
-    }
+    counted_as(x, t, x.kept, x.dropped, Break { at: 0, reason: 0 })
 }
 
-// A record at moment t is counted, and so is a kept round.
+// A record is counted, and the round is kept.
 fn counted_kept(x: Tally, t: Moment) -> Tally
     requires { ⌜ (x .records < mostRecords) × (x .kept ≤ x .records) ⌝ }
     ensures { λ r. ⌜ tallyAt r ≡ countedKept (tallyAt x) (t .0) ⌝ }
 {
-    let broken = Break { at: 0, reason: 0 };
-    Tally {
-        now: t,
-        records: x.records + 1,
-        kept: x.kept + 1,
-        dropped: x.dropped,
-        broken,
-    }
+    counted_as(x, t, x.kept + 1, x.dropped, Break { at: 0, reason: 0 })
 }
 
-// A record at moment t is counted, and so is a dropped round.
+// A record is counted, and the round is dropped.
 fn counted_dropped(x: Tally, t: Moment) -> Tally
     requires { ⌜ (x .records < mostRecords) × (x .dropped ≤ x .records) ⌝ }
     ensures { λ r. ⌜ tallyAt r ≡ countedDropped (tallyAt x) (t .0) ⌝ }
 {
-    let broken = Break { at: 0, reason: 0 };
-    Tally {
-        now: t,
-        records: x.records + 1,
-        kept: x.kept,
-        dropped: x.dropped + 1,
-        broken,
-    }
+    counted_as(x, t, x.kept, x.dropped + 1, Break { at: 0, reason: 0 })
 }
 
-// A record at moment t is counted, and it is the break.
+// A record is counted, and the round is broken at it.
 fn counted_broken(x: Tally, t: Moment, reason: u8) -> Tally
     requires { ⌜ x .records < mostRecords ⌝ }
     ensures { λ r. ⌜ tallyAt r ≡ countedBroken (tallyAt x) (t .0) reason ⌝ }
 {
     let n = x.records + 1;
-    let broken = Break { at: n, reason };
-    Tally {
-        now: t,
-        records: n,
-        kept: x.kept,
-        dropped: x.dropped,
-        broken,
-    }
+    counted_as(x, t, x.kept, x.dropped, Break { at: n, reason })
 }
 
 // The round runs on at a place.
@@ -441,10 +427,11 @@ fn go_on(m: Monitor, t: Moment, answer: Answer, place: Place) -> Step
     requires { ⌜ m .tally .records < mostRecords ⌝ }
     ensures { λ r. ⌜ ((C : Chart) (code : ℕ) → stepOf r ≡ goOn C (monitorAt m) (recordOf code (t .0)) (answerOf answer) (placeAt place)) ⌝ }
 {
-    let before = m.tally;
-    let tally = counted(before, t);
-    let next = Monitor { at: place, tally };
-    Step { answer, next }
+    let tally = counted(m.tally, t);
+    Step {
+        answer,
+        next: Monitor { at: place, tally },
+    }
 }
 
 // The round is kept.
@@ -454,12 +441,10 @@ fn keep_round(clocks: usize, m: Monitor, t: Moment) -> Step
     ensures { λ r. ⌜ ((C : Chart) (code : ℕ) → C .clocks ≡ clocks → stepOf r ≡ keepRound C (monitorAt m) (recordOf code (t .0))) ⌝ }
 {
     let at = opening(clocks, t);
-    let before = m.tally;
-    let tally = counted_kept(before, t);
-    let next = Monitor { at, tally };
+    let tally = counted_kept(m.tally, t);
     Step {
         answer: Answer::Kept,
-        next,
+        next: Monitor { at, tally },
     }
 }
 
@@ -470,12 +455,10 @@ fn drop_round(clocks: usize, m: Monitor, t: Moment) -> Step
     ensures { λ r. ⌜ ((C : Chart) (code : ℕ) → C .clocks ≡ clocks → stepOf r ≡ dropRound C (monitorAt m) (recordOf code (t .0))) ⌝ }
 {
     let at = opening(clocks, t);
-    let before = m.tally;
-    let tally = counted_dropped(before, t);
-    let next = Monitor { at, tally };
+    let tally = counted_dropped(m.tally, t);
     Step {
         answer: Answer::Dropped,
-        next,
+        next: Monitor { at, tally },
     }
 }
 
@@ -484,12 +467,10 @@ fn break_round(m: Monitor, t: Moment, reason: u8, place: Place) -> Step
     requires { ⌜ m .tally .records < mostRecords ⌝ }
     ensures { λ r. ⌜ ((C : Chart) (code : ℕ) → stepOf r ≡ breakRound C (monitorAt m) (recordOf code (t .0)) reason (placeAt place)) ⌝ }
 {
-    let before = m.tally;
-    let tally = counted_broken(before, t, reason);
-    let next = Monitor { at: place, tally };
+    let tally = counted_broken(m.tally, t, reason);
     Step {
         answer: Answer::Broken(tally.broken.at, reason),
-        next,
+        next: Monitor { at: place, tally },
     }
 }
 

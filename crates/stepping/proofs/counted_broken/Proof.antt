@@ -1,4 +1,4 @@
--- Field by field. Assumes nothing.
+-- As `counted_as` says. Assumes nothing.
 use native.Mathlib.Numerals.{add-one}
 use borrow.Author.Needs.{needs}
 use Rattle.stepping.proofs.counted_broken.Statement.{statement}
@@ -7,8 +7,11 @@ use Rattle.stepping.proofs.counted_broken.Tie as tie
 add-n : tie.Need-add-n
 add-n c = search needs
 
+counted-as-requires : tie.Need-counted-as-requires
+counted-as-requires c κs = search needs
+
 returns : tie.Need-returns
-returns c = rw add-one
+returns c = rw (c .counted-as .ensures, add-one)
 
 pub counted-broken-spec : {M : Type 1} → statement M
-counted-broken-spec = tie.close (tie.spec add-n returns)
+counted-broken-spec = tie.close (tie.spec add-n counted-as-requires returns)

@@ -1,17 +1,17 @@
--- Field by field. Assumes nothing.
+-- As `counted_as` says. Assumes nothing.
 use native.Mathlib.Numerals.{add-one}
 use borrow.Author.Needs.{needs}
 use Rattle.stepping.proofs.counted_dropped.Statement.{statement}
 use Rattle.stepping.proofs.counted_dropped.Tie as tie
 
-add-t4 : tie.Need-add-t4
-add-t4 c = search needs
+add-counted-as : tie.Need-add-counted-as
+add-counted-as c = search needs
 
-add-t5 : tie.Need-add-t5
-add-t5 c = search needs
+counted-as-requires : tie.Need-counted-as-requires
+counted-as-requires c κs = search needs
 
 returns : tie.Need-returns
-returns c = simp add-one
+returns c = rw (c .counted-as .ensures, add-one)
 
 pub counted-dropped-spec : {M : Type 1} → statement M
-counted-dropped-spec = tie.close (tie.spec add-t4 add-t5 returns)
+counted-dropped-spec = tie.close (tie.spec add-counted-as counted-as-requires returns)

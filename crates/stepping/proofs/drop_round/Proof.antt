@@ -12,7 +12,7 @@ counted-dropped-requires c κs = search needs
 
 returns : tie.Need-returns
 unfolding dropRound
-returns c = λ C code q. rw (c .counted-dropped .ensures, c .before .before .opening .ensures C q)
+returns c = λ C code q. rw (c .counted-dropped .ensures, c .before .opening .ensures C q)
 
 pub drop-round-spec : {M : Type 1} → statement M
 drop-round-spec = tie.close (tie.spec opening-requires counted-dropped-requires returns)

@@ -12,7 +12,7 @@ counted-kept-requires c κs = search needs
 
 returns : tie.Need-returns
 unfolding keepRound
-returns c = λ C code q. rw (c .counted-kept .ensures, c .before .before .opening .ensures C q)
+returns c = λ C code q. rw (c .counted-kept .ensures, c .before .opening .ensures C q)
 
 pub keep-round-spec : {M : Type 1} → statement M
 keep-round-spec = tie.close (tie.spec opening-requires counted-kept-requires returns)
