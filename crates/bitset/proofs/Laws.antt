@@ -1,4 +1,4 @@
--- What callers use of sets: the members of each operation's result, and that a set is its members.
+-- What callers use of sets: which numbers each operation's result has, and that a set is what it has.
 -- Assumes nothing.
 use mathlib.Core.Path.{_≡_, refl, sym, ap, ap₂, _∙_}
 use mathlib.Core.Bool.{Bool, true, false, true≢false, false≢true, not, _||_, _&&_}
@@ -192,7 +192,7 @@ even : (s : ℕ) → (s + 1) % 2 ≡ 1 → contains s 0 ≡ false
 unfolding contains
 even s e = ne-eqb (s / 1 % 2) 1 (rw (div-one s) (λ f. omega arith))
 
--- and the number at their count is none
+-- and the number at their count is no member
 pub trailing-gap : (k s : ℕ) → s < 2 ^ k → contains s (trailingZeros k (s + 1)) ≡ false
 unfolding trailingZeros
 trailing-gap zero s h = let e : s ≡ 0 = omega arith in rw e (contains-empty 0)
@@ -205,7 +205,7 @@ trailing-gap (suc k) s h = by ((s + 1) % 2) refl (trailing-gap k (s / 2) (let m 
         rw q (sym (contains-half s (trailingZeros k (s / 2 + 1))) ∙ ih)
     by (suc r) e ih = even s (omega arith)
 
--- the members of the complement
+-- what the complement has
 other-digit : (m s : ℕ) → s < m * 2 → eqb ((m * 2 - 1 - s) % 2) 1 ≡ not (eqb (s % 2) 1)
 other-digit m s h = elim (ℕ-discrete (s % 2) 1) [
   | yes e ↦ rw (eq-eqb (s % 2) 1 e) (ne-eqb ((m * 2 - 1 - s) % 2) 1 (λ f. omega arith))

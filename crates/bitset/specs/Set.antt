@@ -1,4 +1,4 @@
--- Sets of numbers, as the binary digits of a number.
+-- N4: sets of numbers, as the binary digits of a number.
 use Prim.Native.Nat.{ℕ, _/_, _%_, _^_}
 use mathlib.Core.Bool.{Bool}
 use lib.Dec.{eqb, ltb}

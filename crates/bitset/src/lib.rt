@@ -36,7 +36,7 @@ fn wide(set: u32) -> u64
     set as u64
 }
 
-// How many numbers from 0 on are members, up to the first that is none.
+// How many numbers from 0 on are members, up to the first that is not.
 pub fn run(set: u32) -> u32
     ensures members { λ r. ⌜ ((i : ℕ) → i < r → So (contains set i)) ⌝ }
     ensures gap { λ r. ⌜ contains set r ≡ false ⌝ }

@@ -22,7 +22,7 @@ pub enum Command {
     End,
 }
 
-// What stands at a place: a command with the place just behind it, or why there is none.
+// What stands at a place: a command with the place just after it, or why there is no command.
 pub enum Decoded {
     CutShort,
     Unknown,

@@ -1,4 +1,4 @@
--- A chart value as 1,348 bytes: "lines, clocks, prechart, count (1 byte each), then 32 regions of 42 bytes".
+-- V15: a chart value as 1,348 bytes, four numbers and then the 32 places for regions.
 use Prim.Native.Nat.{ℕ, zero, suc, _+_, _*_}
 use mathlib.Core.Bool.{Bool, cond, _&&_, _||_}
 use mathlib.Core.List.{List, [], _∷_, _++_}
@@ -23,7 +23,7 @@ chartSize = 1348
 abbrev pub regionPlace : ℕ → ℕ
 regionPlace i = 4 + i * 42
 
--- "kind (0 clock, 1 difference), first, second (0 for a one-clock term), relation, n(4)"
+-- V15: a term of one clock or of two
 abbrev pub leftOf : ℕ → ℕ → ℕ → Left
 leftOf kind first second = cond (eqb kind 0) (Clock first) (Difference first second)
 
@@ -35,18 +35,18 @@ termIn s at =
       n = word32 s (at + 4);
     }
 
--- no byte of the term is without a value
+-- each byte of the term has a meaning
 abbrev pub termFits : List ℕ → ℕ → Bool
 termFits s at =
     leb (getD s at 0) 1 && (leb (getD s (at + 3) 0) 4 && (eqb (getD s at 0) 1 || eqb (getD s (at + 2) 0) 0))
 
--- "kind (0 plain, 1 message), four payload bytes (message: source, destination, label(2); plain: lines(2), 0, 0)"
+-- V15: a plain region's lines, or a region's message
 abbrev pub eventIn : List ℕ → ℕ → Event
 eventIn s at =
     cond (eqb (getD s at 0) 0) (Plain (word16 s (at + 1)))
     (Message (record { source = getD s (at + 1) 0; destination = getD s (at + 2) 0; label = word16 s (at + 3) }))
 
--- then "hot (0 or 1), resets, term_count, two bytes 0 0, then 4 terms of 8 bytes"
+-- V15: a region's 42 bytes
 abbrev pub regionIn : List ℕ → ℕ → Region
 regionIn s at =
     record {
@@ -71,13 +71,19 @@ unfoldable pub regionsIn : ℕ → List ℕ → List Region
 regionsIn zero s = []
 regionsIn (suc n) s = regionsIn n s ++ (regionIn s (regionPlace n) ∷ [])
 
--- the bytes are an image: of this length, with no byte that has no value
+-- the bytes are an image: of this length, and each byte has a meaning
 unfoldable pub isImage : List ℕ → Bool
 isImage s = eqb (length s) chartSize && allBelow mostRegions (λ i. regionFits s (regionPlace i))
 
--- the chart value in an image; bytes that are none give a chart of zeros, which is no chart
+-- the chart value in an image; other bytes give a chart of zeros, which is no chart
 unfoldable pub chartValue : List ℕ → Chart
 chartValue s =
     cond (isImage s)
-    (record { lines = getD s 0 0; clocks = getD s 1 0; prechart = getD s 2 0; count = getD s 3 0; regions = regionsIn mostRegions s })
+    (record {
+      lines = getD s 0 0;
+      clocks = getD s 1 0;
+      prechart = getD s 2 0;
+      count = getD s 3 0;
+      regions = regionsIn mostRegions s;
+    })
     zeroChart

@@ -9,7 +9,8 @@ use model::Term;
 ghost use mathlib.Core.Path.{_≡_};
 ghost use Prim.Native.Nat.{_+_, _≤_};
 ghost use Rattle.model.specs.Chart.{mostRegions};
-ghost use Rattle.chart_image.specs.ChartImage.{chartSize, leftOf, termIn, termFits, eventIn, regionIn, headFits, regionFits, regionsIn, isImage, chartValue};
+ghost use Rattle.chart_image.specs.ChartImage.{chartSize, leftOf, termIn, termFits, eventIn, regionIn, headFits};
+ghost use Rattle.chart_image.specs.ChartImage.{regionFits, regionsIn, isImage, chartValue};
 
 // The bytes of a chart's image: the heading, then the regions.
 const CHART_SIZE: usize = 1348;
@@ -51,7 +52,7 @@ fn term_at(s: &[u8], at: usize) -> Term
     }
 }
 
-// No byte of the term is without a value.
+// Each byte of the term has a meaning.
 fn term_fits(s: &[u8], at: usize) -> bool
     requires { ⌜ at ≤ chartSize ⌝ }
     ensures { λ r. ⌜ r ≡ termFits (now (s .entry)) at ⌝ }
@@ -98,7 +99,7 @@ fn region_at(s: &[u8], at: usize) -> Region
     }
 }
 
-// No byte before the region's terms is without a value.
+// Each byte before the region's terms has a meaning.
 fn head_fits(s: &[u8], at: usize) -> bool
     requires { ⌜ at ≤ chartSize ⌝ }
     ensures { λ r. ⌜ r ≡ headFits (now (s .entry)) at ⌝ }
@@ -109,7 +110,7 @@ fn head_fits(s: &[u8], at: usize) -> bool
     (kind <= MOST_KIND) & ((wire::byte_at(s, at + 5) <= 1) & (empty & whole))
 }
 
-// No byte of the region is without a value.
+// Each byte of the region has a meaning.
 fn region_fits(s: &[u8], at: usize) -> bool
     requires { ⌜ at + 42 ≤ chartSize ⌝ }
     ensures { λ r. ⌜ r ≡ regionFits (now (s .entry)) at ⌝ }
@@ -151,7 +152,7 @@ fn regions_at(s: &[u8]) -> [Region; MOST_REGIONS]
     regions
 }
 
-// The chart value in an image; zeros where the bytes are none.
+// The chart value in an image; zeros where the bytes are no image.
 pub fn chart_at(s: &[u8]) -> Chart
     ensures value { λ r. ⌜ r ≡ chartValue (now (s .entry)) ⌝ }
     ensures unchanged { λ r. ⌜ now (s .exit) ≡ now (s .entry) ⌝ }

@@ -1,4 +1,5 @@
--- A chart's commands never run out of the count that the definition gives them: a larger count reads the same. Assumes nothing.
+-- A chart's commands never run out of the count that the definition gives them: a larger count reads the same.
+-- Assumes nothing.
 use mathlib.Core.Path.{_≡_, refl, _∙_}
 use mathlib.Core.Bool.{Bool, true, false, cond}
 use mathlib.Core.List.{List}

@@ -1,4 +1,4 @@
--- Reading a chart: its bytes give the chart, or the first fault with its offset and a chart of zeros.
+-- What the program does with a chart's bytes: command by command, up to the end or to a fault (R1 to R3).
 use Prim.Native.Nat.{ℕ, zero, suc, _+_}
 use mathlib.Core.Bool.{false}
 use mathlib.Core.List.{List}
@@ -21,7 +21,7 @@ use Rattle.chart_reader.specs.declared.ChartAnswer.{ChartAnswer}
 use Rattle.chart_reader.specs.declared.ChartAnswer.the-variants as answer
 use Rattle.chart_reader.specs.declared.ChartRead.{ChartRead}
 
--- What reading says: 0 and the chart, or a refusal from 1 to 11 with its offset and a chart of zeros.
+-- R3: what reading says; with a refusal the chart is zeros, without one the offset is 0
 pub record Said : Type 0 where
   pub number : ℕ
   pub offset : ℕ
@@ -48,9 +48,17 @@ said r = record { number = numberOf (r .answer); offset = offsetOf (r .answer); 
 -- before the first command
 abbrev pub startReading : Reading
 startReading =
-    record { headed = false; main = false; started = false; «region_at» = 0; touched = 0; region = zeroRegion; chart = zeroChart }
+    record {
+      headed = false;
+      main = false;
+      started = false;
+      «region_at» = 0;
+      touched = 0;
+      region = zeroRegion;
+      chart = zeroChart;
+    }
 
--- One command at a place: decoded (1, 2, 1), then taken (the checks from 3 on).
+-- R4 at one place: decoding finds 1 and 2, the command's own checks come after
 abbrev pub advanceBy : List ℕ → ℕ → Reading → Decoded → Step
 advanceBy s at r decoded.CutShort = record { outcome = Refused CutShort at; reading = r }
 advanceBy s at r decoded.Unknown = record { outcome = Refused UnknownCommand at; reading = r }
@@ -64,7 +72,7 @@ continueBy k (Going next) r = k next r
 continueBy k Ended r = acceptedAs (r .chart)
 continueBy k (Refused refusal offset) r = refusedFor refusal offset
 
--- Commands are taken from the left; the first fault decides. (n: at most so many commands.)
+-- R1, R2: at most n commands from a place on, up to the first with a fault
 unfoldable pub readFrom : ℕ → List ℕ → ℕ → Reading → Said
 readFrom zero s at r = refusedFor CutShort (length s)
 readFrom (suc n) s at r = continueBy (readFrom n s) (advanceOf s at r .outcome) (advanceOf s at r .reading)

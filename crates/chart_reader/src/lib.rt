@@ -8,14 +8,15 @@ use model::Chart;
 ghost use mathlib.Core.Path.{_≡_};
 ghost use Prim.Native.Nat.{ℕ, _<_};
 ghost use lib.ListN.{length};
-ghost use Rattle.chart_reader.specs.Read.{startReading, advanceOf, acceptedAs, refusedFor, said, readFrom, readChart};
+ghost use Rattle.chart_reader.specs.Read.{startReading, advanceOf, acceptedAs, refusedFor, said, readFrom};
+ghost use Rattle.chart_reader.specs.Read.{readChart};
 
 pub enum ChartAnswer {
     Accepted,
     Refused(Refusal, usize),
 }
 
-// A chart, or why there is none, with a chart of zeros.
+// A chart, or why the bytes are refused, with a chart of zeros.
 pub struct ChartRead {
     pub answer: ChartAnswer,
     pub chart: Chart,
@@ -75,10 +76,11 @@ fn advance(s: &[u8], at: usize, r: Reading) -> Step
     }
 }
 
-// The chart that the bytes give, or the first fault. No count of commands above the number of bytes says anything else.
+// The chart that the bytes give, or the first fault. A larger count of commands would say the same.
 pub fn read(bytes: &[u8]) -> ChartRead
     ensures answer { λ o. ⌜ said o ≡ readChart (now (bytes .entry)) ⌝ }
-    ensures count { λ o. ⌜ ((n : ℕ) → length (now (bytes .entry)) < n → said o ≡ readFrom n (now (bytes .entry)) 0 startReading) ⌝ }
+    ensures count { λ o. ⌜ ((n : ℕ) → length (now (bytes .entry)) < n
+        → said o ≡ readFrom n (now (bytes .entry)) 0 startReading) ⌝ }
     ensures unchanged { λ o. ⌜ now (bytes .exit) ≡ now (bytes .entry) ⌝ }
 {
     let mut r = start();

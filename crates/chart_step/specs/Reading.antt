@@ -1,4 +1,5 @@
--- One command of a chart: the checks in document 01's order, then what the command does.
+-- What the program does with one command: its checks in their order, then its effect. The crate chart_faults says
+-- the rules, and the two are proved to agree.
 use Prim.Native.Nat.{ℕ, _+_}
 use mathlib.Core.Bool.{Bool, true, false, cond, not, _&&_, _||_}
 use lib.ListN.{set, replicate}
@@ -15,9 +16,12 @@ use Rattle.model.specs.declared.Relation.{Relation}
 use Rattle.model.specs.declared.Relation.the-variants.{Less, AtMost, Equal, AtLeast, More}
 use Rattle.model.specs.Chart.{leastLines, mostLines, mostClocks, mostRegions, mostTerms, zeroTerm, isBare, touched}
 use Rattle.chart_command.specs.declared.Command.{Command}
-use Rattle.chart_command.specs.declared.Command.the-variants.{Heading, Message, Plain, ClockTerm, DifferenceTerm, Hot, Resets, Main, End}
+use Rattle.chart_command.specs.declared.Command.the-variants.{Heading, Message, Plain, ClockTerm, DifferenceTerm, Hot}
+use Rattle.chart_command.specs.declared.Command.the-variants.{Resets, Main, End}
 use Rattle.chart_step.specs.declared.Refusal.{Refusal}
-use Rattle.chart_step.specs.declared.Refusal.the-variants.{OutOfPlace, OutOfRange, NoRoom, BareRegion, HotWithoutTerm, HotInPrechart, NoneAbove, NoMainRegion, BytesAfterEnd}
+use Rattle.chart_step.specs.declared.Refusal.the-variants.{OutOfPlace, OutOfRange, NoRoom, BareRegion}
+use Rattle.chart_step.specs.declared.Refusal.the-variants.{HotWithoutTerm, HotInPrechart, NoneAbove, NoMainRegion}
+use Rattle.chart_step.specs.declared.Refusal.the-variants.{BytesAfterEnd}
 use Rattle.chart_step.specs.declared.Reading.{Reading}
 use Rattle.chart_step.specs.declared.Fault.{Fault}
 use Rattle.chart_step.specs.declared.Fault.the-variants.{Nothing, Found}
@@ -51,8 +55,7 @@ closed r =
     })
     (r .chart)
 
--- 3 out of place: not a heading first, a second heading, a second 50, or 30, 31, 32, 40 with no region started in this half,
--- or a second 32 or 40 for a region.
+-- R5: 3, the command has no place here
 abbrev pub outOfPlace : Reading → Command → Bool
 outOfPlace r (Heading l k) = r .headed
 outOfPlace r (Message s d l) = not (r .headed)
@@ -64,13 +67,13 @@ outOfPlace r (Resets k) = not (r .started) || not (eqb (r .region .resets) 0)
 outOfPlace r Main = not (r .headed) || r .main
 outOfPlace r End = not (r .headed)
 
--- 6 a plain region with neither term nor reset; 7 hot without a term: at the offset of the region that is closed.
+-- R4: 6 and 7, what the region that is closed lacks, at the offset of its own command
 abbrev pub closingFault : Reading → Fault
 closingFault r =
     orElse (when (r .started && isBare (r .region)) BareRegion (r .«region_at»))
     (when (r .started && (r .region .hot && eqb (r .region .«term_count») 0)) HotWithoutTerm (r .«region_at»))
 
--- At 20, 21, 50 and 7F the region started last in this half is closed.
+-- R6: the commands that close a region
 abbrev pub closes : Reading → Command → Fault
 closes r (Heading l k) = Nothing
 closes r (Message s d l) = closingFault r
@@ -82,8 +85,7 @@ closes r (Resets k) = Nothing
 closes r Main = closingFault r
 closes r End = closingFault r
 
--- 4 an operand outside its range: equal source and destination, two equal clocks in 31, an empty set, and bits or numbers beyond
--- the heading included.
+-- R7: 4, an operand out of its range
 abbrev pub outOfRange : Chart → Command → Bool
 outOfRange c (Heading l k) = not (leb leastLines l && (leb l mostLines && leb k mostClocks))
 outOfRange c (Message s d l) = leb (c .lines) s || (leb (c .lines) d || eqb s d)
@@ -95,7 +97,7 @@ outOfRange c (Resets k) = eqb k 0 || not (within (c .clocks) k)
 outOfRange c Main = false
 outOfRange c End = false
 
--- 5 a 33rd region or a fifth term.
+-- R4: 5, one region or one term too many
 abbrev pub noRoom : Reading → Command → Bool
 noRoom r (Heading l k) = false
 noRoom r (Message s d l) = leb mostRegions (closed r .count)
@@ -107,7 +109,7 @@ noRoom r (Resets k) = false
 noRoom r Main = false
 noRoom r End = false
 
--- 8 hot in the prechart.
+-- R4: 8, hot before the 50
 abbrev pub hotInPrechart : Reading → Command → Bool
 hotInPrechart r (Heading l k) = false
 hotInPrechart r (Message s d l) = false
@@ -119,8 +121,7 @@ hotInPrechart r (Resets k) = false
 hotInPrechart r Main = false
 hotInPrechart r End = false
 
--- 9 a plain region with none above it in the opening half (the prechart, or the main chart if the prechart is empty): none that
--- was started before it touches a line of it.
+-- R8: 9, a plain region of the opening half, of whose lines no earlier region touches one
 abbrev pub noneAbove : Reading → Command → Bool
 noneAbove r (Heading l k) = false
 noneAbove r (Message s d l) = false
@@ -132,31 +133,28 @@ noneAbove r (Resets k) = false
 noneAbove r Main = false
 noneAbove r End = false
 
--- 10 end without a main region.
+-- the command is the 7F
+abbrev pub isEnd : Command → Bool
+isEnd (Heading l k) = false
+isEnd (Message s d l) = false
+isEnd (Plain l) = false
+isEnd (ClockTerm k e n) = false
+isEnd (DifferenceTerm a b e n) = false
+isEnd Hot = false
+isEnd (Resets k) = false
+isEnd Main = false
+isEnd End = true
+
+-- R4: 10, at the 7F no 50 has come, or no region since
 abbrev pub noMainRegion : Reading → Command → Bool
-noMainRegion r (Heading l k) = false
-noMainRegion r (Message s d l) = false
-noMainRegion r (Plain l) = false
-noMainRegion r (ClockTerm k e n) = false
-noMainRegion r (DifferenceTerm a b e n) = false
-noMainRegion r Hot = false
-noMainRegion r (Resets k) = false
-noMainRegion r Main = false
-noMainRegion r End = not (r .main) || eqb (closed r .count) (closed r .prechart)
+noMainRegion r c = isEnd c && (not (r .main) || eqb (closed r .count) (closed r .prechart))
 
--- 11 bytes after the end.
+-- R4: 11, a byte stands after the 7F
 abbrev pub bytesAfter : Bool → Command → Bool
-bytesAfter more (Heading l k) = false
-bytesAfter more (Message s d l) = false
-bytesAfter more (Plain l) = false
-bytesAfter more (ClockTerm k e n) = false
-bytesAfter more (DifferenceTerm a b e n) = false
-bytesAfter more Hot = false
-bytesAfter more (Resets k) = false
-bytesAfter more Main = false
-bytesAfter more End = more
+bytesAfter more c = isEnd c && more
 
--- The checks of one command in their order. All faults are at the command itself, but closing's, and 11 at the first byte after it.
+-- R4: the checks of one command, the first that fails. Closing's fault brings its offset; 11 is at the byte after the
+-- command, every other fault at the command itself.
 abbrev pub firstFault : Bool → Fault → Bool → Bool → Bool → Bool → Bool → Bool → ℕ → ℕ → Fault
 firstFault misplaced closing beyond full early alone empty trailing at next =
     orElse (when misplaced OutOfPlace at)
@@ -182,7 +180,14 @@ withHeading r l k =
       «region_at» = r .«region_at»;
       touched = r .touched;
       region = r .region;
-      chart = record { lines = l; clocks = k; prechart = r .chart .prechart; count = r .chart .count; regions = r .chart .regions };
+      chart =
+          record {
+            lines = l;
+            clocks = k;
+            prechart = r .chart .prechart;
+            count = r .chart .count;
+            regions = r .chart .regions;
+          };
     }
 
 -- the region last started closed, and one with the event started
@@ -200,9 +205,17 @@ begunWith r at e =
 
 abbrev pub withRegion : Reading → Region → Reading
 withRegion r g =
-    record { headed = r .headed; main = r .main; started = r .started; «region_at» = r .«region_at»; touched = r .touched; region = g; chart = r .chart }
+    record {
+      headed = r .headed;
+      main = r .main;
+      started = r .started;
+      «region_at» = r .«region_at»;
+      touched = r .touched;
+      region = g;
+      chart = r .chart;
+    }
 
--- Relations: 0 <, 1 ≤, 2 =, 3 ≥, 4 >.
+-- B2: the relation that a byte stands for
 abbrev pub relationOf : ℕ → Relation
 relationOf b = cond (eqb b 0) Less (cond (eqb b 1) AtMost (cond (eqb b 2) Equal (cond (eqb b 3) AtLeast More)))
 
@@ -222,22 +235,48 @@ withTerm r left e n =
 abbrev pub withHot : Reading → Reading
 withHot r =
     withRegion r
-    (record { event = r .region .event; terms = r .region .terms; «term_count» = r .region .«term_count»; hot = true; resets = r .region .resets })
+    (record {
+      event = r .region .event;
+      terms = r .region .terms;
+      «term_count» = r .region .«term_count»;
+      hot = true;
+      resets = r .region .resets;
+    })
 
 abbrev pub withResets : Reading → ℕ → Reading
 withResets r k =
     withRegion r
-    (record { event = r .region .event; terms = r .region .terms; «term_count» = r .region .«term_count»; hot = r .region .hot; resets = k })
+    (record {
+      event = r .region .event;
+      terms = r .region .terms;
+      «term_count» = r .region .«term_count»;
+      hot = r .region .hot;
+      resets = k;
+    })
 
 -- the region last started closed, and none started
 abbrev pub withChart : Reading → Bool → Chart → Reading
 withChart r main c =
-    record { headed = r .headed; main = main; started = false; «region_at» = r .«region_at»; touched = r .touched; region = r .region; chart = c }
+    record {
+      headed = r .headed;
+      main = main;
+      started = false;
+      «region_at» = r .«region_at»;
+      touched = r .touched;
+      region = r .region;
+      chart = c;
+    }
 
 abbrev pub withMain : Reading → Reading
 withMain r =
     withChart r true
-    (record { lines = closed r .lines; clocks = closed r .clocks; prechart = closed r .count; count = closed r .count; regions = closed r .regions })
+    (record {
+      lines = closed r .lines;
+      clocks = closed r .clocks;
+      prechart = closed r .count;
+      count = closed r .count;
+      regions = closed r .regions;
+    })
 
 -- What a command does where no check refuses it.
 abbrev pub applied : Reading → ℕ → Command → Reading
@@ -251,17 +290,9 @@ applied r at (Resets k) = withResets r k
 applied r at Main = withMain r
 applied r at End = withChart r (r .main) (closed r)
 
--- 7F ends the chart; behind any other command the next one is taken.
+-- R1: the next command is just after this one, unless it is the 7F
 abbrev pub outcomeOf : ℕ → Command → Outcome
-outcomeOf next (Heading l k) = Going next
-outcomeOf next (Message s d l) = Going next
-outcomeOf next (Plain l) = Going next
-outcomeOf next (ClockTerm k e n) = Going next
-outcomeOf next (DifferenceTerm a b e n) = Going next
-outcomeOf next Hot = Going next
-outcomeOf next (Resets k) = Going next
-outcomeOf next Main = Going next
-outcomeOf next End = Ended
+outcomeOf next c = cond (isEnd c) Ended (Going next)
 
 abbrev pub decided : Fault → Reading → Step → Step
 decided Nothing r s = s

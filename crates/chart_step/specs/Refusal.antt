@@ -1,7 +1,9 @@
--- The numbers of the reader's refusals.
+-- R4: the numbers of the reader's refusals.
 use Prim.Native.Nat.{ℕ}
 use Rattle.chart_step.specs.declared.Refusal.{Refusal}
-use Rattle.chart_step.specs.declared.Refusal.the-variants.{CutShort, UnknownCommand, OutOfPlace, OutOfRange, NoRoom, BareRegion, HotWithoutTerm, HotInPrechart, NoneAbove, NoMainRegion, BytesAfterEnd}
+use Rattle.chart_step.specs.declared.Refusal.the-variants.{CutShort, UnknownCommand, OutOfPlace, OutOfRange}
+use Rattle.chart_step.specs.declared.Refusal.the-variants.{NoRoom, BareRegion, HotWithoutTerm, HotInPrechart}
+use Rattle.chart_step.specs.declared.Refusal.the-variants.{NoneAbove, NoMainRegion, BytesAfterEnd}
 
 abbrev pub refusalNumber : Refusal → ℕ
 refusalNumber CutShort = 1

@@ -17,7 +17,9 @@ ghost use mathlib.Core.Bool.{false, true, not};
 ghost use lib.Dec.{leb};
 ghost use Rattle.model.specs.Chart.{mostTerms};
 ghost use Rattle.chart_step.specs.Refusal.{refusalNumber};
-ghost use Rattle.chart_step.specs.Reading.{when, orElse, closed, closingFault, firstFault, withHeading, begunWith, relationOf, withTerm, withHot, withResets, withMain, withChart, decided, stepOf};
+ghost use Rattle.chart_step.specs.Reading.{when, orElse, closed, closingFault, firstFault, withHeading};
+ghost use Rattle.chart_step.specs.Reading.{begunWith, relationOf, withTerm, withHot, withResets, withMain};
+ghost use Rattle.chart_step.specs.Reading.{withChart, decided, stepOf};
 
 const RELATIONS: u8 = 5;
 
@@ -36,8 +38,9 @@ pub enum Refusal {
     BytesAfterEnd,
 }
 
-// What stands between two commands: whether the heading and 50 were read, whether a region was started in this half and at which
-// offset, the lines that the regions started so far touch, the region last started, and the chart with the regions closed so far.
+// What stands between two commands: whether the heading and 50 were read, whether a region was started in this half
+// and at which offset, the lines that the regions started so far touch, the region last started, and the chart with the
+// regions closed so far.
 pub struct Reading {
     pub headed: bool,
     pub main: bool,
@@ -115,7 +118,16 @@ struct Checks {
 }
 
 fn no_fault() -> Checks
-    ensures { λ o. ⌜ o ≡ record { misplaced = false; beyond = false; full = false; early = false; alone = false; empty = false; trailing = false } ⌝ }
+    ensures { λ o. ⌜ o
+        ≡ record {
+          misplaced = false;
+          beyond = false;
+          full = false;
+          early = false;
+          alone = false;
+          empty = false;
+          trailing = false;
+        } ⌝ }
 {
     Checks {
         misplaced: false,
@@ -128,9 +140,11 @@ fn no_fault() -> Checks
     }
 }
 
-// The checks of a command in document 01's order, from the last to the first.
+// The checks of a command in the order of R4, put together from the last to the first.
 fn first_fault(closing: Fault, k: Checks, at: usize, next: usize) -> Fault
-    ensures { λ o. ⌜ o ≡ firstFault (k .misplaced) closing (k .beyond) (k .full) (k .early) (k .alone) (k .empty) (k .trailing) at next ⌝ }
+    ensures { λ o. ⌜ o
+        ≡ firstFault (k .misplaced) closing (k .beyond) (k .full) (k .early) (k .alone) (k .empty) (k .trailing)
+        at next ⌝ }
 {
     let f = when(k.trailing, Refusal::BytesAfterEnd, next);
     let f = or_else(when(k.empty, Refusal::NoMainRegion, at), f);
@@ -302,7 +316,9 @@ fn with_term(r: Reading, left: Left, relation: u8, n: u32) -> Reading
 }
 
 fn term_fault(r: Reading, beyond: bool, at: usize, next: usize) -> Fault
-    ensures { λ o. ⌜ o ≡ firstFault (not (r .started)) Fault.Nothing beyond (leb mostTerms (r .region .«term_count»)) false false false false at next ⌝ }
+    ensures { λ o. ⌜ o
+        ≡ firstFault (not (r .started)) Fault.Nothing beyond (leb mostTerms (r .region .«term_count»)) false false false
+        false at next ⌝ }
 {
     let mut k = no_fault();
     k.misplaced = !r.started;

@@ -85,7 +85,7 @@ module _ (s : List ℕ) (x : Said) where
         ≡ (getD (b ∷ xs) k 0 * 256 + getD (b ∷ xs) (k + 1) 0) * 65536 + (getD (b ∷ xs) (k + 2) 0 * 256 + getD (b ∷ xs) (k + 2 + 1) 0)
     long k = λ i. word k i * 65536 + (ap (λ (j : ℕ). word16 s j) (add-assoc at k 2) ∙ word (k + 2)) i
 
-    -- a command that goes on, behind which the rest stands
+    -- a command that goes on, after which the rest stands
     pub on : (r r′ : Reading) (rest : List ℕ) (n : ℕ) (c c′ : Command) → decodeByte s at b ≡ operands s at n c′ → c′ ≡ c → n ≤ length xs → drop n xs ≡ rest
         → outcomeOf (at + 1 + n) c ≡ Going (at + 1 + n) → faultOf r at (at + 1 + n) (ltb (at + 1 + n) (length s)) c ≡ Nothing
         → applied r at c ≡ r′ → ((at′ : ℕ) → drop at′ s ≡ rest → Gives at′ r′) → Gives at r

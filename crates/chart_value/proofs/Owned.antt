@@ -1,4 +1,4 @@
--- What owning a chart tells: the lengths of its arrays. Assumes nothing.
+-- What owning a chart says: the lengths of its arrays. Assumes nothing.
 use mathlib.Core.Path.{_≡_, sym, _∙_}
 use mathlib.Core.List.{List, [], _∷_, map}
 use Prim.Native.Nat.{ℕ, zero, suc, _<_}

@@ -1,4 +1,6 @@
--- Reading the bytes of a well-formed chart gives the chart. Assumes nothing.
+-- Reading the bytes of a well-formed chart gives the chart. The reader is followed along the writer: from a place where
+-- the writer's bytes of something stand, reading goes on after them in the state that has it. So for a term, for hot,
+-- for resets, for a region, for all regions, and at last the end. Assumes nothing.
 use mathlib.Core.Path.{_≡_, refl, sym, ap, subst, _∙_}
 use mathlib.Core.Bool.{Bool, true, false, cond, not, _&&_, _||_}
 use mathlib.Core.List.{List, [], _∷_}
@@ -48,6 +50,7 @@ module _ {A : Type 0} (z d : A) (n : ℕ) (xs : List A) where
   length-first zero = length-replicate n z
   length-first (suc k) = length-set (firstOf k) k _ ∙ length-first k
 
+  -- the places below k have the list's elements, the others z
   first-used : (k i : ℕ) → i < k → k ≤ n → getD (firstOf k) i d ≡ getD xs i d
   unfolding firstOf
   first-used zero i h l = absurd (omega arith)
@@ -73,6 +76,7 @@ module _ {A : Type 0} (z d : A) (n : ℕ) (xs : List A) where
       by i q true e = first-used k i (ltb-true _ _ e) h
       by i q false e = let j = ltb-false _ _ e in first-unused k i j q ∙ sym (f i j q)
 
+-- a relation's byte stands for it, and is in its range
 relation-back : (e : Relation) → relationOf (relationByte e) ≡ e
 relation-back Less = refl
 relation-back AtMost = refl
@@ -92,11 +96,12 @@ abbrev partly : Region → ℕ → Bool → ℕ → Region
 partly g j hot resets =
     record { event = g .event; terms = firstOf zeroTerm zeroTerm 4 (g .terms) j; «term_count» = j; hot = hot; resets = resets }
 
--- the state in which the region g is the last started, behind the state r
+-- the state after r in which the region g is the last started
 abbrev busy : Reading → ℕ → ℕ → Region → Reading
 busy r at l g =
     record { headed = r .headed; main = r .main; started = true; «region_at» = at; touched = union (r .touched) l; region = g; chart = closed r }
 
+-- the parts of one region
 module _ (s : List ℕ) (x : Said) (clocks : ℕ) (r : Reading) (start l : ℕ) (same : closed r .clocks ≡ clocks) (g : Region) where
   -- adding term j in its place
   added : (j : ℕ) → j < 4 → (left : Left) → termAt g j .left ≡ left
@@ -180,6 +185,7 @@ whole lines clocks main opening before g f l =
     same-region (partly g (g .«term_count») (g .hot) (g .resets)) g refl
     (first-all zeroTerm zeroTerm 4 (g .terms) (g .«term_count») (t .count) l (λ j h k. t .unused j h k)) refl refl refl
 
+-- from the tests of the value to the reader's: not 9, not 7
 not-alone : (main : Bool) (p : ℕ) (z : Bool) → (not (not main || eqb p 0) || not z) ≡ true → ((not main || eqb (cond main p 0) 0) && z) ≡ false
 not-alone false p z e = not-true z e
 not-alone true p z e = by (eqb p 0) e
@@ -192,6 +198,7 @@ cold : (hot main z : Bool) → (not hot || (main && not z)) ≡ true → (hot &&
 cold true main z e = not-true z (both main (not z) e .1)
 cold false main z e = refl
 
+-- one region of a chart
 module _ (c : Chart) where
   -- the chart when its first i regions are closed
   abbrev soFar : Bool → ℕ → Chart
@@ -222,6 +229,7 @@ module _ (c : Chart) where
     line-fits : (k : ℕ) → ltb k (c .lines) ≡ true → leb (r .chart .lines) k ≡ false
     line-fits k e = ap (λ (n : ℕ). leb n k) (b .lines) ∙ lt-leb (c .lines) k (ltb-true _ _ e)
 
+    -- its 20 or 21
     start-read : (e : Event) → eventFits (c .lines) (not main || eqb (c .prechart) 0) (touchedBefore (c .regions) i) e ≡ true
         → (rest : List ℕ) (at : ℕ) → drop at s ≡ eventBytes e rest
         → ((at′ : ℕ) → drop at′ s ≡ rest → Gives s x at′ (begunWith r at e)) → Gives s x at r
@@ -242,7 +250,7 @@ module _ (c : Chart) where
         on-plain s x at r rest l d
         (λ i. firstFault (ap not (b .headed) i) (b .fine i) (range i) (room i) false (alone i) false false at at)
 
-    -- the state behind the region
+    -- the state after the region
     before-next : (at : ℕ) → Before (busy r at (touched (regionAt c i .event)) (regionAt c i)) main (suc i)
     unfolding firstOf touchedBefore
     before-next at =
@@ -262,6 +270,7 @@ module _ (c : Chart) where
         put : Chart → Bool → Chart
         put d t = cond t (withRegions d (d .count + 1) (set (d .regions) (d .count) (regionAt c i))) d
 
+    -- all of it
     region-read : length (regionAt c i .terms) ≡ 4 → (rest : List ℕ) (at : ℕ) → drop at s ≡ regionBytes (regionAt c i) rest
         → ((at′ : ℕ) (r′ : Reading) → Before r′ main (suc i) → drop at′ s ≡ rest → Gives s x at′ r′) → Gives s x at r
     unfolding regionBytes firstOf
@@ -303,6 +312,7 @@ module _ (c : Chart) where
                 (ap (λ (c : Chart). c .count) (b .chart) ∙ e) (ap (λ (c : Chart). c .count) (b .chart)) (ap (λ (c : Chart). c .regions) (b .chart));
           }
 
+-- all regions of a well-formed chart
 module _ (c : Chart) (w : WellFormed c) (shape : Shape c) (s : List ℕ) where
   abbrev given : Said
   given = acceptedAs c
@@ -311,7 +321,7 @@ module _ (c : Chart) (w : WellFormed c) (shape : Shape c) (s : List ℕ) where
       → Fits (c .lines) (c .clocks) main (not main || eqb (c .prechart) 0) (touchedBefore (c .regions) i) (regionAt c i)
   fits-at i h main e = fits-of _ _ _ _ _ _ (rw e at (w .used i h))
 
-  -- 7F
+  -- the 7F
   end-read : (r : Reading) → Before c r true (c .count) → (at : ℕ) → drop at s ≡ endByte ∷ [] → Gives s given at r
   end-read r b at d =
       on-end s given at r d
@@ -327,6 +337,7 @@ module _ (c : Chart) (w : WellFormed c) (shape : Shape c) (s : List ℕ) where
           (first-all zeroRegion absentRegion 32 (c .regions) (c .count) (w .room) (shape .regions)
           (λ i h k. zero-region (regionAt c i) (shape .terms i k) (w .unused i h k)))
 
+  -- region i, before which a 50 stands if it is the first of the main chart
   region-at : (i : ℕ) → i < c .count → (main : Bool) → leb (c .prechart) i ≡ main → (r : Reading) → Before c r main i → (rest : List ℕ) (at : ℕ)
       → drop at s ≡ regionBytes (regionAt c i) rest
       → ((at′ : ℕ) (r′ : Reading) → Before c r′ (ltb (c .prechart) (suc i)) (suc i) → drop at′ s ≡ rest → Gives s given at′ r′) → Gives s given at r
@@ -360,6 +371,7 @@ module _ (c : Chart) (w : WellFormed c) (shape : Shape c) (s : List ℕ) where
       place-read i (omega arith) (eqb i (c .prechart)) refl r b (regionsBytes c n (suc i) (endByte ∷ [])) at d
       (λ at′ r′ b′ d′. regions-read n (suc i) (omega arith) r′ b′ at′ d′)
 
+-- the heading, the regions, the end
 pub round-trip : (c : Chart) → Shape c → wellFormed c ≡ true → readChart (chartBytes c) ≡ acceptedAs c
 unfolding chartBytes firstOf touchedBefore
 round-trip c shape e =

@@ -1,4 +1,6 @@
--- Accepted bytes give a well-formed chart: an invariant of the reading state, kept by each command. Assumes nothing.
+-- Accepted bytes give a well-formed chart. The invariant of the reading state: the closed regions fit their places
+-- (SoFar), the region last started fits up to what its closing asks (Grows). Each command without a fault keeps it,
+-- a closing turns the second into the first, and at the 7F the first is what the test asks. Assumes nothing.
 use mathlib.Core.Path.{_≡_, refl, sym, ap, subst, _∙_}
 use mathlib.Core.Bool.{Bool, true, false, true≢false, cond, not, _&&_, _||_}
 use mathlib.Core.Logic.{_⊎_, inl, inr}
@@ -66,6 +68,7 @@ pub record Grows (c : Chart) (main : Bool) (g : Region) : Type 0 where
   pub resets : g .resets < 2 ^ c .clocks
   pub hot : (not (g .hot) || main) ≡ true
 
+-- both, between two commands; and the lines touched so far
 pub data State (r : Reading) : Type 0 where
   idle : r .started ≡ false → SoFar (r .chart) (r .main) → r .touched ≡ touchedBefore (r .chart .regions) (r .chart .count) → State r
   busy : r .started ≡ true → SoFar (r .chart) (r .main) → Grows (r .chart) (r .main) (r .region)
@@ -91,6 +94,7 @@ touched-set gs k g zero h = refl
 touched-set gs k g (suc i) h =
     λ j. union (touched-set gs k g i (omega arith) j) (touched (getD-set-other gs k i g absentRegion (omega arith) j .event))
 
+-- small facts for the closing of a region
 and-true : (b : Bool) → (b && true) ≡ b
 and-true true = refl
 and-true false = refl
@@ -110,7 +114,7 @@ closed-same r = by (r .started && ltb (r .chart .count) 32)
     by true = (refl, refl, refl)
     by false = (refl, refl, refl)
 
--- putting a region that fits behind the closed ones
+-- putting a region that fits after the closed ones
 module _ (c : Chart) (main : Bool) (s : SoFar c main) (g : Region) (w : Grows c main g) (bare : isBare g ≡ false)
     (hot : (g .hot && eqb (g .«term_count») 0) ≡ false) where
   abbrev one-more : Chart
@@ -174,6 +178,7 @@ record Closed (r : Reading) : Type 0 where
   soFar : SoFar (closed r) (r .main)
   touched : r .touched ≡ touchedBefore (closed r .regions) (closed r .count)
 
+-- closing without 6 and 7 puts the region last started among the closed ones
 close : (r : Reading) → State r → closingFault r ≡ Nothing → Closed r
 close r (idle e s t) f =
     let q : closed r ≡ r .chart =
@@ -203,6 +208,7 @@ pub record Whole (c : Chart) : Type 0 where
   pub fine : wellFormed c ≡ true
   pub shape : Shape c
 
+-- what each command keeps, and what is true after one: the invariant, a whole chart, or nothing
 pub record Inv (r : Reading) : Type 0 where
   pub headed : r .headed ≡ true
   pub state : State r
@@ -284,6 +290,7 @@ grow r h (busy s c w t) f left e n room fits =
           t;
     })
 
+-- 32: the region becomes hot
 heat : (r : Reading) → r .headed ≡ true → State r → not (r .started) ≡ false → not (r .main) ≡ false → Inv (withHot r)
 heat r h (idle s c t) f m = absurd (true≢false (sym (not-false _ f) ∙ s))
 heat r h (busy s c w t) f m =
@@ -302,6 +309,7 @@ heat r h (busy s c w t) f m =
           t;
     }
 
+-- 40: the region has resets
 reset : (r : Reading) → r .headed ≡ true → State r → not (r .started) ≡ false → (k : ℕ) → k < 2 ^ r .chart .clocks → Inv (withResets r k)
 reset r h (idle s c t) f k l = absurd (true≢false (sym (not-false _ f) ∙ s))
 reset r h (busy s c w t) f k l =
@@ -320,7 +328,7 @@ reset r h (busy s c w t) f k l =
           t;
     }
 
--- 50
+-- 50: the main chart starts
 cross : (r : Reading) → r .headed ≡ true → Closed r → r .main ≡ false → Inv (withMain r)
 cross r h c m =
     let s = c .soFar in
@@ -345,7 +353,7 @@ cross r h c m =
           (c .touched);
     }
 
--- 7F
+-- 7F: the chart is whole
 finish : (r : Reading) → Closed r → r .main ≡ true → eqb (closed r .count) (closed r .prechart) ≡ false → Whole (closed r)
 finish r c m e =
     let s = c .soFar in
@@ -368,6 +376,7 @@ finish r c m e =
     by i l true q = c .soFar .terms i (ltb-true _ _ q)
     by i l false q = ap (λ (g : Region). length (g .terms)) (c .soFar .unused i (ltb-false _ _ q) l)
 
+-- tests that were not passed, turned round
 inside : (a n : ℕ) → leb n a ≡ false → ltb a n ≡ true
 inside a n e = lt-ltb a n (leb-false n a e)
 
@@ -375,6 +384,7 @@ nand : (x y : Bool) → (x && y) ≡ false → (not x || not y) ≡ true
 nand true y e = ap not e
 nand false y e = refl
 
+-- each command after the heading, by what its checks say
 module _ (r : Reading) (h : r .headed ≡ true) (s : State r) (at next : ℕ) (more : Bool) where
   kept : (c : Command) → faultOf r at next more c ≡ Nothing → AfterBy (outcomeOf next c) (applied r at c)
   unfolding AfterBy
@@ -469,6 +479,7 @@ started at next more (Resets k) = tt
 started at next more Main = tt
 started at next more End = tt
 
+-- at the start, or with the invariant, every command keeps it
 unfoldable pub Ready : Reading → Type 0
 Ready r = (r ≡ startReading) ⊎ Inv r
 
@@ -488,6 +499,7 @@ advance-keeps s at r v = by (decodeAt s at)
     by decoded.Unknown = tt
     by (decoded.Taken c next) = command-keeps r v at next (ltb next (length s)) c
 
+-- the whole reading, by the count of commands
 pub never : {A : Type 0} (f : Refusal) (o : ℕ) (c : Chart) → refusedFor f o ≡ acceptedAs c → A
 never f o c e = absurd (refusal-nonzero f (ap (λ (x : Said). x .number) e))
 

@@ -1,5 +1,5 @@
--- The guards of the reader's definition: a place among the 32 for the region that is closed, a place among the 4 for a term, a line
--- below 16 for a message. None of them ever fires.
+-- The guards of the reader's definition: a place among the 32 for the region that is closed, a place among the 4 for a
+-- term, a line below 16 for a message. None of them ever fires.
 use mathlib.Core.Path.{_≡_}
 use mathlib.Core.Logic.{_↔_}
 use mathlib.Core.Bool.{Bool, true}
@@ -17,7 +17,8 @@ use Rattle.chart_reader.specs.Read.{advanceOf, startReading, readChart, accepte
 -- the states that reading the bytes passes through, each with its place
 pub data Reached (s : List ℕ) : ℕ → Reading → Type 0 where
   start : Reached s 0 startReading
-  next : {at : ℕ} {r : Reading} (m : ℕ) → Reached s at r → advanceOf s at r .outcome ≡ Going m → Reached s m (advanceOf s at r .reading)
+  next : {at : ℕ} {r : Reading} (m : ℕ) → Reached s at r → advanceOf s at r .outcome ≡ Going m
+      → Reached s m (advanceOf s at r .reading)
 
 -- such a state whose command ends the chart, which is then c
 pub record EndsAs (s : List ℕ) (c : Chart) : Type 0 where

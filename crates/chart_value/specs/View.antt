@@ -17,7 +17,7 @@ use Rattle.order.specs.Order.{aboveOf}
 use Rattle.condition.specs.Condition.{conditionHolds}
 use Rattle.rounds.specs.Chart.{Chart as Abstract, Accepted}
 
--- One number for a message's source line, label and destination line; 0 is left for a plain region.
+-- C8: one number for what makes a message; 0 is left for a plain region
 abbrev pub codeOf : Message → ℕ
 codeOf m = suc (m .label * 65536 + m .source * 256 + m .destination)
 
@@ -47,9 +47,11 @@ pub record Shown (c : Chart) : Type 0 where
   pub accepted : Accepted (chartOf c)
   -- each region is shown as it is stored: its message's code, its resets, its condition and its temperature
   pub region : (i : ℕ) → i < c .count → regionOf c i ≡ regionAt c i
-  -- the abstract chart's order is document 01's
+  -- its order is O3
   pub order : (a b : ℕ) → So (chartOf c .above a b) ↔ ((b < c .count) × AboveIn c a b)
 
--- messages have one code exactly if source, label and destination are all equal; lines are stored in a byte
+-- C8: messages of one code are the same; lines are stored in a byte
 abbrev pub CodesTell : Type 0
-CodesTell = (m n : Message) → m .source < 256 → m .destination < 256 → n .source < 256 → n .destination < 256 → codeOf m ≡ codeOf n → m ≡ n
+CodesTell =
+    (m n : Message) → m .source < 256 → m .destination < 256 → n .source < 256 → n .destination < 256
+    → codeOf m ≡ codeOf n → m ≡ n

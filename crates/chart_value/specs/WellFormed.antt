@@ -1,4 +1,4 @@
--- Refusal 20: the charts that some accepted bytes give, as a test of the value.
+-- M5 to M7: refusal 20 as a test of the value.
 use Prim.Native.Nat.{ℕ, zero, suc}
 use mathlib.Core.Bool.{Bool, true, false, cond, not, _&&_, _||_}
 use mathlib.Core.List.{List}
@@ -15,14 +15,15 @@ use Rattle.model.specs.declared.Left.{Left}
 use Rattle.model.specs.declared.Left.the-variants.{Clock, Difference}
 use Rattle.model.specs.declared.Relation.{Relation}
 use Rattle.model.specs.declared.Relation.the-variants.{Less, AtMost, Equal, AtLeast, More}
-use Rattle.model.specs.Chart.{leastLines, mostLines, mostClocks, mostRegions, mostTerms, absentRegion, regionAt, termAt, isBare, touched}
+use Rattle.model.specs.Chart.{leastLines, mostLines, mostClocks, mostRegions, mostTerms, absentRegion, regionAt, termAt}
+use Rattle.model.specs.Chart.{isBare, touched}
 
 -- the test holds of each number below n
 unfoldable pub allBelow : ℕ → (ℕ → Bool) → Bool
 allBelow zero p = true
 allBelow (suc n) p = allBelow n p && p n
 
--- zeros
+-- M3: zeros
 abbrev pub isZeroLeft : Left → Bool
 isZeroLeft (Clock k) = eqb k 0
 isZeroLeft (Difference a b) = false
@@ -37,12 +38,12 @@ isLess More = false
 unfoldable pub isZeroTerm : Term → Bool
 isZeroTerm t = isZeroLeft (t .left) && (isLess (t .relation) && eqb (t .n) 0)
 
--- clocks in their range, and two different ones
+-- R7: a term's clocks
 abbrev pub leftFits : ℕ → Left → Bool
 leftFits clocks (Clock k) = ltb k clocks
 leftFits clocks (Difference a b) = ltb a clocks && (ltb b clocks && not (eqb a b))
 
--- a term that is used fits, and an unused place holds zeros
+-- M6, M7: a term in use fits, a place not in use holds zeros
 unfoldable pub termPlaced : ℕ → ℕ → ℕ → Term → Bool
 termPlaced clocks count j t = cond (ltb j count) (leftFits clocks (t .left)) (isZeroTerm t)
 
@@ -50,14 +51,14 @@ unfoldable pub termsFit : ℕ → Region → Bool
 termsFit clocks g =
     leb (g .«term_count») mostTerms && allBelow mostTerms (λ j. termPlaced clocks (g .«term_count») j (termAt g j))
 
--- lines in their range, two different ones or some; in the opening half, a plain region shares a line with one before it (9)
+-- R7: a region's lines; R8: a plain one of the opening half shares a line with an earlier one
 abbrev pub eventFits : ℕ → Bool → ℕ → Event → Bool
 eventFits lines opening before (Message m) =
     ltb (m .source) lines && (ltb (m .destination) lines && not (eqb (m .source) (m .destination)))
 eventFits lines opening before (Plain l) =
     not (eqb l 0) && (within lines l && (not opening || not (eqb (bitAnd l before) 0)))
 
--- a region that is used: 4, 5, 9; not 6; hot only in the main chart and with a term (7, 8)
+-- M6: a region in use; it has none of the faults 4 to 9
 unfoldable pub regionFits : ℕ → ℕ → Bool → Bool → ℕ → Region → Bool
 regionFits lines clocks main opening before g =
     eventFits lines opening before (g .event)
@@ -78,23 +79,26 @@ unfoldable pub touchedBefore : List Region → ℕ → ℕ
 touchedBefore gs zero = 0
 touchedBefore gs (suc i) = union (touchedBefore gs i) (touched (getD gs i absentRegion .event))
 
--- region g at place i, with the lines touched before it: used and fitting, or zeros
+-- M6, M7: region g at place i, with the lines touched before it: in use and fitting, or zeros
 unfoldable pub regionPlaced : ℕ → ℕ → ℕ → ℕ → ℕ → ℕ → Region → Bool
 regionPlaced lines clocks prechart count i before g =
-    cond (ltb i count) (regionFits lines clocks (leb prechart i) (not (leb prechart i) || eqb prechart 0) before g) (isZeroRegion g)
+    cond (ltb i count) (regionFits lines clocks (leb prechart i) (not (leb prechart i) || eqb prechart 0) before g)
+    (isZeroRegion g)
 
--- the region at a place that is used; `main` says whether it is in the main chart
+-- the region at a place in use; `main` says whether it is in the main chart
 abbrev pub placeFits : Chart → Bool → ℕ → Bool
 placeFits c main i =
-    regionFits (c .lines) (c .clocks) main (not main || eqb (c .prechart) 0) (touchedBefore (c .regions) i) (regionAt c i)
+    regionFits (c .lines) (c .clocks) main (not main || eqb (c .prechart) 0) (touchedBefore (c .regions) i)
+    (regionAt c i)
 
 abbrev pub placedAt : Chart → ℕ → Bool
-placedAt c i = regionPlaced (c .lines) (c .clocks) (c .prechart) (c .count) i (touchedBefore (c .regions) i) (regionAt c i)
+placedAt c i =
+    regionPlaced (c .lines) (c .clocks) (c .prechart) (c .count) i (touchedBefore (c .regions) i) (regionAt c i)
 
 abbrev pub headingFits : Chart → Bool
 headingFits c = leb leastLines (c .lines) && (leb (c .lines) mostLines && leb (c .clocks) mostClocks)
 
--- at least one main region (10), at most 32 regions (5)
+-- M5: one main region at least, 32 regions at most
 abbrev pub countsFit : Chart → Bool
 countsFit c = ltb (c .prechart) (c .count) && leb (c .count) mostRegions
 

@@ -1,4 +1,5 @@
--- The bytes of a chart: heading, regions in order, 50 between the halves, 7F last; within each region the terms in order, hot and resets if any.
+-- The bytes of a chart: heading, regions in order, 50 between the halves, 7F last; within each region the terms in
+-- order, then 32 and 40 if it is hot and has resets.
 use Prim.Native.Nat.{ℕ, zero, suc, _/_, _%_}
 use mathlib.Core.Bool.{Bool, true, false, cond}
 use mathlib.Core.List.{List, [], _∷_}
@@ -13,7 +14,8 @@ use Rattle.model.specs.declared.Left.the-variants.{Clock, Difference}
 use Rattle.model.specs.declared.Relation.{Relation}
 use Rattle.model.specs.declared.Relation.the-variants.{Less, AtMost, Equal, AtLeast, More}
 use Rattle.model.specs.Chart.{regionAt, termAt}
-use Rattle.chart_command.specs.Command.{headingByte, messageByte, plainByte, clockTermByte, differenceTermByte, hotByte, resetsByte, mainByte, endByte}
+use Rattle.chart_command.specs.Command.{headingByte, messageByte, plainByte, clockTermByte, differenceTermByte, hotByte}
+use Rattle.chart_command.specs.Command.{resetsByte, mainByte, endByte}
 
 -- numbers in two and in four bytes before what follows, most significant byte first
 abbrev pub two : ℕ → List ℕ → List ℕ

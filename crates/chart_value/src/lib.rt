@@ -1,4 +1,4 @@
-// Whether a chart value is one that some accepted bytes give (refusal 20).
+// M4: whether a chart value is what some accepted bytes are read as, or is refused with 20.
 use model::Chart;
 use model::Event;
 use model::LEAST_LINES;
@@ -15,7 +15,9 @@ ghost use mathlib.Core.Bool.{true};
 ghost use mathlib.Core.Logic.{_↔_};
 ghost use Rattle.model.specs.Chart.{mostTerms, termAt};
 ghost use Rattle.chart_reader.specs.Read.{readChart, acceptedAs};
-ghost use Rattle.chart_value.specs.WellFormed.{allBelow, isZeroLeft, isLess, isZeroTerm, leftFits, termPlaced, termsFit, eventFits, regionFits, isZeroEvent, isZeroRegion, regionPlaced, headingFits, countsFit, wellFormed};
+ghost use Rattle.chart_value.specs.WellFormed.{allBelow, isZeroLeft, isLess, isZeroTerm, leftFits, termPlaced};
+ghost use Rattle.chart_value.specs.WellFormed.{termsFit, eventFits, regionFits, isZeroEvent, isZeroRegion};
+ghost use Rattle.chart_value.specs.WellFormed.{regionPlaced, headingFits, countsFit, wellFormed};
 ghost use Rattle.chart_value.specs.Writer.{chartBytes};
 ghost use Rattle.chart_value.specs.Given.{Given};
 ghost use Rattle.chart_value.specs.Guards.{NeverFire};
@@ -173,7 +175,7 @@ fn counts_fit(c: Chart) -> bool
     (c.prechart < c.count) & (c.count as usize <= MOST_REGIONS)
 }
 
-// Whether the chart is one that some accepted bytes give: then those that the writer lays out give it too.
+// Whether some accepted bytes are read as the chart: then those that the writer lays out are, too.
 pub fn well_formed(c: Chart) -> bool
     ensures { λ r. ⌜ (r ≡ wellFormed c)
         × ((r ≡ true) ↔ Given c)
@@ -194,7 +196,7 @@ pub fn well_formed(c: Chart) -> bool
     heading_fits(c) & (counts_fit(c) & ok)
 }
 
-// What document 01 says of every chart that some accepted bytes give.
+// What is true of every chart that accepted bytes are read as.
 pub fn accepted_charts()
     ensures shown { λ r. ⌜ ((c : Chart) → Given c → Shown c) ⌝ }
     ensures codes { λ r. ⌜ CodesTell ⌝ }

@@ -1,4 +1,4 @@
--- The fact behind the five relations, once for both kinds of term. Assumes nothing.
+-- A comparison of unsigned numbers is the one of signed numbers: one fact for all relations and terms. Assumes nothing.
 use mathlib.Core.Path.{_≡_, refl, sym, ap, ap₂, _∙_}
 use mathlib.Core.Bool.{Bool, true, false, cond, not, _&&_}
 use Prim.Native.Nat.{ℕ, zero, suc, _+_, _-_, _≤_, _<_}

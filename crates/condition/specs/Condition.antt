@@ -1,4 +1,4 @@
--- When a condition holds, over the exact signed numbers.
+-- When a condition holds (C9 to C12), over the exact signed numbers.
 use Prim.Native.Nat.{ℕ, zero, suc}
 use mathlib.Core.Bool.{Bool, true, cond, _&&_}
 use lib.IntN.{ℤ, pos, _-ℤ_}
@@ -12,11 +12,11 @@ use Rattle.model.specs.declared.Term.{Term}
 use Rattle.model.specs.declared.Region.{Region}
 use Rattle.model.specs.Chart.{termAt}
 
--- n(4, signed): the number that 32 bits of two's complement stand for
+-- C11: the number that 32 bits of two's complement stand for
 abbrev pub signed : ℕ → ℤ
 signed n = cond (ltb n 0x8000_0000) (pos n) (pos n -ℤ pos 0x1_0000_0000)
 
--- Relations: 0 <, 1 ≤, 2 =, 3 ≥, 4 >.
+-- C10: the five relations
 abbrev pub related : Relation → ℤ → ℤ → Bool
 related Less x y = ltZ x y
 related AtMost x y = leZ x y
@@ -24,7 +24,7 @@ related Equal x y = leZ x y && leZ y x
 related AtLeast x y = leZ y x
 related More x y = ltZ y x
 
--- A term's left side is a clock, or "first minus second", the exact signed difference. `value` gives each clock's value.
+-- C10, C12: a clock's value, or one clock's value less another's; `value` says each clock's
 abbrev pub leftOf : Left → (ℕ → ℕ) → ℤ
 leftOf (Clock k) value = pos (value k)
 leftOf (Difference a b) value = pos (value a) -ℤ pos (value b)
@@ -32,11 +32,11 @@ leftOf (Difference a b) value = pos (value a) -ℤ pos (value b)
 abbrev pub termHolds : Term → (ℕ → ℕ) → Bool
 termHolds t value = related (t .relation) (leftOf (t .left) value) (signed (t .n))
 
--- the first j terms, joined by "and"
+-- each of the first j terms holds
 unfoldable pub termsHold : ℕ → Region → (ℕ → ℕ) → Bool
 termsHold zero g value = true
 termsHold (suc j) g value = termsHold j g value && termHolds (termAt g j) value
 
--- a region's condition; without a term it holds
+-- C9: a region's condition; without a term it holds
 abbrev pub conditionHolds : Region → (ℕ → ℕ) → Bool
 conditionHolds g value = termsHold (g .«term_count») g value

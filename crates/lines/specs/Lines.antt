@@ -5,7 +5,7 @@ use mathlib.Core.List.{List, [], _∷_}
 use lib.ListN.{length, getD, set}
 use lib.Dec.{eqb, leb, ltb}
 
--- the first of the n places from `at` on that holds the byte; the place behind them if none does
+-- the first of the n places from `at` on that holds the byte; the place after them if none does
 unfoldable pub firstAmong : ℕ → List ℕ → ℕ → ℕ → ℕ
 firstAmong zero s at byte = at
 firstAmong (suc n) s at byte = cond (eqb (getD s at 0) byte) at (firstAmong n s (at + 1) byte)
@@ -26,7 +26,7 @@ pub record Filled : Type 0 where
 abbrev pub filledWith : List ℕ → ℕ → Filled
 filledWith l n = record { bytes = l; digits = n }
 
--- a digit behind the lower half of a byte
+-- a digit after the lower half of a byte
 abbrev pub withDigit : ℕ → ℕ → ℕ
 withDigit byte d = byte % 16 * 16 + d
 
@@ -39,7 +39,7 @@ digitPut f d =
 abbrev pub digitMore : Filled → ℕ → Filled
 digitMore f d = cond (ltb (f .digits / 2) (length (f .bytes))) (digitPut f d) f
 
--- one byte of a text: its digit, or passed over if it is none
+-- one byte of a text: its digit, or passed over if it is no digit
 abbrev pub byteMore : Filled → ℕ → Filled
 byteMore f b = cond (ltb (digitOf b) 16) (digitMore f (digitOf b)) f
 

@@ -37,7 +37,7 @@ pub fn find(text: &[u8], from: usize, to: usize, byte: u8) -> usize
     i
 }
 
-// The byte with a digit put behind its lower half.
+// The byte with a digit put after its lower half.
 fn with_digit(byte: u8, d: u8) -> u8
     requires { ⌜ d < 16 ⌝ }
     ensures { λ r. ⌜ r ≡ withDigit byte d ⌝ }
@@ -45,7 +45,7 @@ fn with_digit(byte: u8, d: u8) -> u8
     byte % 16 * 16 + d
 }
 
-// Puts what the byte of a text spells behind the n digits that a buffer has, and answers how many it has then.
+// Puts what the byte of a text spells after the n digits that a buffer has, and answers how many it has then.
 fn put_byte(out: &mut [u8], n: usize, b: u8) -> usize
     ensures { λ r. ⌜ filledWith (now (out .exit)) r ≡ byteMore (filledWith (now (out .entry)) n) b ⌝ }
 {

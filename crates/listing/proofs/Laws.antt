@@ -1,4 +1,4 @@
--- The parts of a listing, put one behind the other, are the listing: appending is associative. Assumes nothing.
+-- The parts of a listing, put one after the other, are the listing: appending is associative. Assumes nothing.
 use mathlib.Core.Path.{_≡_}
 use mathlib.Core.List.{List, [], _∷_, _++_, append-assoc, append-nil}
 use Prim.Native.Nat.{ℕ}
@@ -9,7 +9,7 @@ use Rattle.listing.specs.declared.Part.the-variants.{Input, Chart, Log}
 use Rattle.listing.specs.Listing.{joined, verdictLines, refusalLine}
 use Rattle.listing.specs.Parts.{fieldText, threeFields, partText}
 
--- a header h, six texts, spaces s between them and n behind the last
+-- a header h, six texts, spaces s between them and n after the last
 six : (h a b c d e f s n : List ℕ)
     → (h ++ (((a ++ s) ++ (b ++ s)) ++ (c ++ s))) ++ (((d ++ s) ++ (e ++ s)) ++ (f ++ n))
     ≡ joined (h ∷ a ∷ s ∷ b ∷ s ∷ c ∷ s ∷ d ∷ s ∷ e ∷ s ∷ f ∷ n ∷ [])

@@ -5,7 +5,7 @@ use Rattle.text.specs.Text.{decimalOf, bytesOf}
 use Rattle.listing.specs.declared.Part.{Part}
 use Rattle.listing.specs.declared.Part.the-variants.{Input, Chart, Log}
 
--- a number in decimal and one byte behind it
+-- a number in decimal and one byte after it
 abbrev pub fieldText : ℕ → ℕ → List ℕ
 fieldText n end = decimalOf n ++ (end ∷ [])
 

@@ -20,7 +20,7 @@ pub enum Report {
     Refused(Part, u8, usize),
 }
 
-// A number in decimal, and one byte behind it.
+// A number in decimal, and one byte after it.
 fn put_field(out: &mut [u8], at: usize, n: u64, end: u8) -> usize
     requires { ⌜ at + 21 ≤ length (now out) ⌝ }
     ensures text { λ r. ⌜ Wrote (now (out .entry)) at (fieldText n end) (now (out .exit)) r ⌝ }
@@ -40,7 +40,7 @@ fn put_three(out: &mut [u8], at: usize, x: u64, y: u64, z: u64, end: u8) -> usiz
     put_field(out, third, z, end)
 }
 
-// The header, and the verdict's fields in their order.
+// P8: the header, and the six numbers.
 fn put_verdict(out: &mut [u8], v: Verdict) -> usize
     requires { ⌜ room ≤ length (now out) ⌝ }
     ensures text { λ r. ⌜ Wrote (now (out .entry)) 0 (verdictLines v) (now (out .exit)) r ⌝ }
@@ -89,7 +89,7 @@ fn put_refusal(out: &mut [u8], part: Part, number: u8, offset: usize) -> usize
     put_field(out, third, offset as u64, b'\n')
 }
 
-// The report's text at the start of the buffer, and its length; the bytes behind it stay as they were.
+// The report's text at the start of the buffer, and its length; the bytes after it stay as they were.
 pub fn put_report(out: &mut [u8], report: Report) -> usize
     requires { ⌜ room ≤ length (now out) ⌝ }
     ensures length { λ r. ⌜ r ≡ length (listingOf report) ⌝ }

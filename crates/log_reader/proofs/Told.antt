@@ -1,4 +1,4 @@
--- What reading one record says tells its answer. Assumes nothing.
+-- From what reading one record says, its answer follows. Assumes nothing.
 use mathlib.Core.Path.{_≡_, refl, ap}
 use Prim.Native.Nat.{ℕ}
 use native.Mathlib.Omega.{arith}

@@ -1,12 +1,12 @@
--- A log reader: the log's bytes and a place in them.
+-- E1: a log reader, the log's bytes and a place in them.
 use mathlib.Core.Path.{_≡_}
 use denote.Ref.{now}
 use Rattle.log_reader.specs.declared.LogReader.{LogReader}
 use Rattle.log_reader.specs.declared.Next.{Next}
 use Rattle.log_reader.specs.Record.{nextAt, placeBehind}
 
--- The reader r hands out n and is q then: n is what stands at its place; the place of q is just behind the record that
--- is handed out, or where it was, if none is; and q holds the slice that r held, with the same bytes.
+-- E4: the reader r hands out n and is q then. n is what stands at its place; the place of q is just after a record that
+-- is handed out, or else where it was; and q holds the slice that r held, with the same bytes.
 pub record HandsOut (r : LogReader) (n : Next) (q : LogReader) : Type 0 where
   pub record-there : n ≡ nextAt (now (r .log)) (r .at)
   pub place : q .at ≡ placeBehind (now (r .log)) (r .at)

@@ -1,4 +1,4 @@
--- One record of a log's bytes, read at a place.
+-- One record of a log's bytes, read at a place (L1, L2, E1 to E5).
 use Prim.Native.Nat.{ℕ, _+_, _-_}
 use mathlib.Core.Bool.{cond}
 use mathlib.Core.List.{List}
@@ -12,7 +12,7 @@ use Rattle.log_reader.specs.declared.RecordRefusal.the-variants.{CutShor
 use Rattle.log_reader.specs.declared.Next.{Next}
 use Rattle.log_reader.specs.declared.Next.the-variants.{End, Refused, Taken}
 
--- 31 unknown record byte; 30 cut short
+-- N9: the refusals of a record
 abbrev pub recordRefusalNumber : RecordRefusal → ℕ
 recordRefusalNumber CutShort = 30
 recordRefusalNumber UnknownByte = 31
@@ -23,7 +23,7 @@ messageByte = 0x01
 abbrev pub timeByte : ℕ
 timeByte = 0x02
 
--- 01 source(1) destination(1) label(2) time(4): a message.
+-- L1: a message record
 abbrev pub messageSize : ℕ
 messageSize = 9
 
@@ -32,25 +32,27 @@ messageAt s at =
     Message (record { source = getD s (at + 1) 0; destination = getD s (at + 2) 0; label = word16 s (at + 3) })
     (record { 0 = word32 s (at + 5) })
 
--- 02 time(4): time passes.
+-- L2: a record of time
 abbrev pub timeSize : ℕ
 timeSize = 5
 
 abbrev pub timeAt : List ℕ → ℕ → Record
 timeAt s at = Time (record { 0 = word32 s (at + 1) })
 
--- the byte picks the record; 31 any other byte; 30 cut short
+-- E3: the byte picks the record
 abbrev pub recordBy : List ℕ → ℕ → ℕ → Next
 recordBy s at b =
-    cond (eqb b messageByte) (cond (ltb (length s - at) messageSize) (Refused CutShort) (Taken (messageAt s at) (at + messageSize)))
-    (cond (eqb b timeByte) (cond (ltb (length s - at) timeSize) (Refused CutShort) (Taken (timeAt s at) (at + timeSize)))
+    cond (eqb b messageByte)
+    (cond (ltb (length s - at) messageSize) (Refused CutShort) (Taken (messageAt s at) (at + messageSize)))
+    (cond (eqb b timeByte)
+    (cond (ltb (length s - at) timeSize) (Refused CutShort) (Taken (timeAt s at) (at + timeSize)))
     (Refused UnknownByte))
 
--- With the place at or past the end of the bytes it says "end"; otherwise 31 or 30, or the record with the place just behind it.
+-- E2 to E4: the end where no byte is left, else a refusal, or the record with the place just after it
 abbrev pub nextAt : List ℕ → ℕ → Next
 nextAt s at = cond (leb (length s) at) End (recordBy s at (getD s at 0))
 
--- the place moves only when a record is handed out
+-- E4: where the place is then
 abbrev pub placeOr : ℕ → Next → ℕ
 placeOr at End = at
 placeOr at (Refused k) = at
@@ -60,7 +62,7 @@ abbrev pub placeBehind : List ℕ → ℕ → ℕ
 placeBehind s at = placeOr at (nextAt s at)
 
 -- What reading one record says, in numbers: the end, with the place; a refusal, 30 or 31, with the place; or a record,
--- with the place just behind it.
+-- with the place just after it.
 pub data Said : Type 0 where
   end : ℕ → Said
   refused : ℕ → ℕ → Said

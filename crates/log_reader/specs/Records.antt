@@ -1,4 +1,4 @@
--- The records of a log's bytes.
+-- The records of a log's bytes (L3).
 use mathlib.Core.List.{List}
 use Prim.Native.Nat.{ℕ, zero, suc}
 use lib.ListN.{length}
@@ -13,11 +13,11 @@ onRecord k End es = es
 onRecord k (Refused f) es = es
 onRecord k (Taken e place) es = k e place
 
--- the records from a place on, behind those read before; at most n
+-- the records from a place on, after those read before; at most n
 unfoldable pub recordsFrom : ℕ → List ℕ → ℕ → Snoc Record → Snoc Record
 recordsFrom zero s at es = es
 recordsFrom (suc n) s at es = onRecord (λ e place. recordsFrom n s place (es ▸ e)) (nextAt s at) es
 
--- the log's records from the left, to the end or to the first place where none stands
+-- the log's records from the left, to the end or to the first place with a fault
 unfoldable pub recordsIn : List ℕ → Snoc Record
 recordsIn s = recordsFrom (length s) s 0 ε

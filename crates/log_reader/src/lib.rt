@@ -14,7 +14,7 @@ pub enum RecordRefusal {
     UnknownByte,
 }
 
-// What reading at a place finds: the end, a refusal, or a record and the place just behind it.
+// What reading at a place finds: the end, a refusal, or a record and the place just after it.
 pub enum Next {
     End,
     Refused(RecordRefusal),
@@ -84,7 +84,7 @@ pub fn read_record(bytes: &[u8], place: usize) -> Next
     }
 }
 
-// The place just behind a record that is handed out; with none handed out it stays.
+// The place just after a record that is handed out; without one it stays.
 fn place_after(place: usize, next: Next) -> usize
     ensures { λ r. ⌜ r ≡ placeOr place next ⌝ }
 {
@@ -107,7 +107,7 @@ pub fn reader_at<'a>(log: &'a [u8], at: usize) -> LogReader<'a>
     LogReader { log, at }
 }
 
-// Hands out the record at the reader's place, which moves just behind it; where none stands it stays.
+// Hands out the record at the reader's place, which moves just after it; without one it stays.
 pub fn take_record<'s, 'a>(r: &'s mut LogReader<'a>) -> Next
     ensures { λ n. ⌜ HandsOut (now (r .entry)) n (now (r .exit)) ⌝ }
 {

@@ -1,4 +1,4 @@
--- Document 01's order of regions, numbered from 0 here. `lines i` is the set of lines that region i touches.
+-- The order of regions (O1 to O3), which have numbers from 0 here. `lines i` is the set of lines that region i touches.
 use mathlib.Core.Path.{_≡_}
 use mathlib.Core.Bool.{true}
 use Prim.Native.Nat.{ℕ, _<_, _≤_}
@@ -6,25 +6,24 @@ use Rattle.bitset.specs.Set.{contains}
 use Rattle.model.specs.declared.Chart.{Chart}
 use Rattle.model.specs.Chart.{touchedAt}
 
--- they share a line
+-- two sets have a line in common
 pub record SharedLine (s t : ℕ) : Type 0 where
   pub line : ℕ
   pub one : contains s line ≡ true
   pub other : contains t line ≡ true
 
 module _ (lines : ℕ → ℕ) (prechart : ℕ) where
-  -- both are in the same half
+  -- regions of one half
   pub data SameHalf (a b : ℕ) : Type 0 where
     inPrechart : a < prechart → b < prechart → SameHalf a b
     inMain : prechart ≤ a → prechart ≤ b → SameHalf a b
 
-  -- Region a is directly above b if a has the lower number, both are in the same half, and they share a line.
-  -- Every prechart region is also above every main region.
+  -- O1, O2: a is over b
   pub data Over (a b : ℕ) : Type 0 where
     direct : a < b → SameHalf a b → SharedLine (lines a) (lines b) → Over a b
     halves : a < prechart → prechart ≤ b → Over a b
 
-  -- "Above" is the transitive closure.
+  -- O3: a chain of such steps
   pub data Above : ℕ → ℕ → Type 0 where
     first : {a b : ℕ} → Over a b → Above a b
     then : {a b c : ℕ} → Above a b → Over b c → Above a c

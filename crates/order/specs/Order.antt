@@ -12,7 +12,7 @@ use Rattle.model.specs.declared.Chart.{Chart}
 use Rattle.model.specs.Chart.{mostRegions, touchedAt}
 use Rattle.order.specs.Above.{AboveIn}
 
--- Region a is over b: directly above it, or in the prechart with b in the main chart.
+-- O1, O2 as a test: region a is over b
 unfoldable pub isOver : (ℕ → ℕ) → ℕ → ℕ → ℕ → Bool
 isOver lines prechart a b =
     ltb a prechart && leb prechart b
@@ -37,6 +37,6 @@ aboveSets lines prechart (suc b) =
 abbrev pub aboveOf : Chart → List ℕ
 aboveOf c = aboveSets (touchedAt c) (c .prechart) (min (c .count) mostRegions)
 
--- The sets decide the order: a is a member of b's set exactly if a is above b.
+-- The sets decide the order O3: a is a member of b's set exactly if a is above b.
 pub record Decides (c : Chart) (sets : List ℕ) : Type 0 where
   pub members : (a b : ℕ) → b < c .count → b < mostRegions → (contains (getD sets b 0) a ≡ true) ↔ AboveIn c a b

@@ -7,7 +7,7 @@ ghost use lib.ListN.{getD};
 ghost use Rattle.model.specs.Chart.{mostRegions, touchedAt};
 ghost use Rattle.order.specs.Order.{isOver, withOver, gathered, aboveSets, aboveOf, Decides};
 
-// Region a is over b: directly above it, or in the prechart with b in the main chart.
+// O1, O2: whether region a is over b.
 fn is_over(lines: &[u16; MOST_REGIONS], prechart: usize, a: usize, b: usize) -> bool
     requires { ⌜ (a < mostRegions) × (b < mostRegions) ⌝ }
     ensures { λ r. ⌜ r ≡ isOver (λ i. getD (now (lines .entry)) i 0) prechart a b ⌝ }

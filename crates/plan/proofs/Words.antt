@@ -1,4 +1,5 @@
--- A term's word holds exactly if the term does, and the four words of a region exactly if its condition does. Assumes nothing.
+-- A term's word holds exactly if the term does, and the four words of a region exactly if its condition does.
+-- Assumes nothing.
 use mathlib.Core.Path.{_≡_, refl, sym, ap, ap₂, _∙_}
 use mathlib.Core.Bool.{Bool, true, false, cond, not, _&&_}
 use mathlib.Core.Logic.{_⊎_, inl, inr}

@@ -26,7 +26,8 @@ ghost use Rattle.model.specs.Chart.{mostRegions, mostTerms};
 ghost use Rattle.chart_value.specs.WellFormed.{wellFormed};
 ghost use Rattle.chart_value.specs.View.{codeOf, keyOf, chartOf};
 ghost use Rattle.stepping.specs.View.{conditionBy, Words};
-ghost use Rattle.plan.specs.Words.{sidesOf, biased, raisedBy, loweredBy, boundBy, firstClock, secondClock, wordOf, wordAt};
+ghost use Rattle.plan.specs.Words.{sidesOf, biased, raisedBy, loweredBy, boundBy, firstClock, secondClock};
+ghost use Rattle.plan.specs.Words.{wordOf, wordAt};
 ghost use Rattle.plan.specs.Slots.{slotCount, slotOf, Slotted};
 ghost use Rattle.plan.specs.Plan.{recordCode, Compiles};
 
@@ -262,7 +263,7 @@ fn first_clock(l: Left) -> u64
     }
 }
 
-// The second clock of a term, or none.
+// The second clock of a term, or NO_CLOCK.
 fn second_clock(l: Left) -> u64
     ensures value { λ r. ⌜ r ≡ secondClock l ⌝ }
     ensures bound { λ r. ⌜ r < 256 ⌝ }
@@ -283,7 +284,7 @@ fn word_of(t: Term) -> u64
     bound + second_clock(l) * SECOND_PLACE + first_clock(l)
 }
 
-// The word of term j; 0 where there is none.
+// The word of term j; 0 where there is no such term.
 fn word_at(g: Region, j: usize) -> u64
     requires { ⌜ j < mostTerms ⌝ }
     ensures { λ r. ⌜ r ≡ wordAt g j ⌝ }

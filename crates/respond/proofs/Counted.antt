@@ -1,4 +1,5 @@
--- What a response counts lies in the buffer: the part to be printed can be taken, and is as long as the count. Assumes nothing.
+-- What a response counts lies in the buffer: the part to be printed can be taken, and is as long as the count.
+-- Assumes nothing.
 use mathlib.Core.Path.{_≡_, sym, subst}
 use mathlib.Core.List.{List}
 use Prim.Native.Nat.{ℕ, _≤_}

@@ -1,4 +1,4 @@
--- What is printed of an answer: no refusal has the number 0, so each is told as a refusal. Assumes nothing.
+-- What is printed of an answer: no refusal has the number 0, so each is printed as a refusal. Assumes nothing.
 use mathlib.Core.Path.{_≡_, refl, ap}
 use mathlib.Core.List.{List}
 use borrow.Author.Tests.{lt-ltb, le-ltb}

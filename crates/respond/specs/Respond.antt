@@ -1,4 +1,4 @@
--- From the printing program's input to what it prints: "chart length (2 bytes, most significant first), chart, log".
+-- From the printing program's input to what it prints (P1 to P5).
 use Prim.Native.Nat.{ℕ, _+_, _-_}
 use mathlib.Core.Bool.{cond}
 use mathlib.Core.List.{List}
@@ -16,13 +16,14 @@ use Rattle.listing.specs.declared.Report.the-variants.{Judged, Refused}
 use Rattle.respond.specs.declared.Response.{Response}
 use Rattle.respond.specs.declared.Response.the-variants.{Written, TooShort}
 
--- "refused log N at O", or the verdict
+-- J: the log's refusal, or the verdict
 abbrev pub logReport : judge.Said → Report
 logReport said = cond (eqb (said .number) 0) (Judged (said .verdict)) (Refused Log (said .number) (said .offset))
 
--- "refused chart N at O", or what judging says
+-- R: the chart's refusal, or what judging says
 abbrev pub chartReport : read.Said → List ℕ → Report
-chartReport said log = cond (eqb (said .number) 0) (logReport (judgeOf (said .chart) log)) (Refused Chart (said .number) (said .offset))
+chartReport said log =
+    cond (eqb (said .number) 0) (logReport (judgeOf (said .chart) log)) (Refused Chart (said .number) (said .offset))
 
 unfoldable pub partsReport : List ℕ → List ℕ → Report
 partsReport chart log = chartReport (readChart chart) log
@@ -33,8 +34,7 @@ mostInput = 65536
 abbrev pub lengthSize : ℕ
 lengthSize = 2
 
--- "refused input 40 at 0 (over 65,536 bytes), refused input 41 at 0 (under 2 bytes, or a length beyond the rest)", then the chart's and
--- the log's, "tried in this order"
+-- P2 to P4: 40, then 41, then what the chart and the log are refused for
 unfoldable pub reportOf : List ℕ → Report
 reportOf s =
     cond (ltb mostInput (length s)) (Refused Input 40 0)
@@ -46,7 +46,7 @@ reportOf s =
 abbrev pub textOf : List ℕ → List ℕ
 textOf s = listingOf (reportOf s)
 
--- A buffer in which some listing would find no room is refused and stays as it was.
+-- P12: a buffer in which some listing would find no room is refused and stays as it was
 abbrev pub responseOf : ℕ → List ℕ → Response
 responseOf size text = cond (ltb size room) TooShort (Written (length text))
 

@@ -8,7 +8,8 @@ ghost use mathlib.Core.Path.{_≡_};
 ghost use Prim.Native.Nat.{_<_, _≤_};
 ghost use lib.ListN.{length};
 ghost use Rattle.judge.specs.Judge.{said};
-ghost use Rattle.respond.specs.Respond.{logReport, partsReport, reportOf, textOf, responseOf, bufferAfter, countOf};
+ghost use Rattle.respond.specs.Respond.{logReport, partsReport, reportOf, textOf, responseOf, bufferAfter};
+ghost use Rattle.respond.specs.Respond.{countOf};
 
 // What the input may have at most, its two bytes of length included.
 const MOST_INPUT: usize = 65_536;
@@ -64,7 +65,7 @@ pub fn report_parts(chart: &[u8], log: &[u8]) -> Report
     }
 }
 
-// The frame: the chart's length in two bytes, the chart, the log.
+// P1 to P4: the input taken apart.
 fn report(input: &[u8]) -> Report
     ensures { λ r. ⌜ r ≡ reportOf (now (input .entry)) ⌝ }
 {
@@ -82,7 +83,8 @@ fn report(input: &[u8]) -> Report
     report_parts(&input[LENGTH_SIZE..end], &input[end..])
 }
 
-// Puts the text for an input at the start of the buffer; the bytes behind it stay as they were, and so do all of a buffer below ROOM.
+// Puts the text for an input at the start of the buffer. The bytes after it stay as they were; all stay in a buffer
+// below ROOM.
 pub fn respond(input: &[u8], out: &mut [u8]) -> Response
     ensures answer { λ r. ⌜ r ≡ responseOf (length (now (out .entry))) (textOf (now (input .entry))) ⌝ }
     ensures buffer { λ r. ⌜ now (out .exit) ≡ bufferAfter (now (out .entry)) (textOf (now (input .entry))) ⌝ }

@@ -1,4 +1,4 @@
--- Texts put one behind the other. Assumes nothing.
+-- Texts put one after the other. Assumes nothing.
 use mathlib.Core.Path.{_≡_, refl, sym, ap, _∙_, subst}
 use mathlib.Core.Bool.{Bool, true, false, cond}
 use mathlib.Core.List.{List, [], _∷_, _++_}
@@ -18,7 +18,7 @@ sets-append l i (a ∷ t) u =
     sets-append (set l i a) (suc i) t u
     ∙ ap (λ (k : ℕ). sets (sets (set l i a) (suc i) t) k u) (suc-add i (length t) ∙ sym (add-suc i (length t)))
 
--- one text behind another
+-- one text after another
 pub then : {l t m u k : List ℕ} {i j n : ℕ} → Wrote l i t m j → Wrote m j u k n → Wrote l i (t ++ u) k n
 then {l} {t} {m} {u} {k} {i} {j} {n} a b = record {
   place = omega (arith, a .place, b .place, length-append t u);

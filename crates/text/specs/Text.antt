@@ -19,7 +19,7 @@ bytesOf (string._∷_ c s) = code c ∷ bytesOf s
 abbrev pub digitZero : ℕ
 digitZero = 48
 
--- the decimal digits of n, the most significant first, without leading zeros; at most k of them
+-- P9: the decimal digits of n, the most significant first, without leading zeros; at most k of them
 unfoldable pub digitsOf : ℕ → ℕ → List ℕ
 digitsOf zero n = []
 digitsOf (suc k) n = cond (ltb n 10) ((digitZero + n) ∷ []) (digitsOf k (n / 10) ++ ((digitZero + n % 10) ∷ []))
@@ -28,13 +28,13 @@ digitsOf (suc k) n = cond (ltb n 10) ((digitZero + n) ∷ []) (digitsOf k (n / 1
 abbrev pub decimalOf : ℕ → List ℕ
 decimalOf n = digitsOf 20 n
 
--- the number that digits spell behind those of n
+-- the number that digits spell after those of n
 abbrev pub spelt : ℕ → List ℕ → ℕ
 spelt n [] = n
 spelt n (d ∷ ds) = spelt (n * 10 + (d - digitZero)) ds
 
--- t is n in decimal: every byte is a digit and there is at least one, no digit is lost, the first is no zero where n is
--- not, and 0 is the one digit 0
+-- P9: t is n in decimal: every byte is a digit and there is at least one, no digit is lost, the first is no zero where
+-- n is not, and 0 is the one digit 0
 pub record Spells (n : ℕ) (t : List ℕ) : Type 0 where
   pub some : 0 < length t
   pub digits : (i : ℕ) → i < length t → (digitZero ≤ getD t i 0) × (getD t i 0 ≤ digitZero + 9)
@@ -42,7 +42,7 @@ pub record Spells (n : ℕ) (t : List ℕ) : Type 0 where
   pub no-leading-zero : 0 < n → digitZero < getD t 0 0
   pub lone-zero : n ≡ 0 → t ≡ digitZero ∷ []
 
--- a buffer l has become m: the text t stands in it from i on, every other byte is as it was, and j is just behind t
+-- a buffer l has become m: the text t stands in it from i on, every other byte is as it was, and j is just after t
 pub record Wrote (l : List ℕ) (i : ℕ) (t m : List ℕ) (j : ℕ) : Type 0 where
   pub place : j ≡ i + length t
   pub bytes : m ≡ sets l i t

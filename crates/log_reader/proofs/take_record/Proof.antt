@@ -82,7 +82,7 @@ B κ′ = T.the-row (α κ′)
 abbrev behind : Slot 2
 behind = plain (λ κs. T.the-row (namedLft 2 1 tt κs))
 
--- the MIR types of its fields behind the borrow: a slice of 16 bytes, and a number behind it
+-- the MIR types of its fields behind the borrow: a slice of 16 bytes, and a number after it
 abbrev logTy : Ty
 logTy = sliceTy (tyRef erased imm (tyInt w8))
 
