@@ -5,7 +5,7 @@ use Prim.Native.Nat.{ℕ, zero, suc, _<_}
 use native.Mathlib.Omega.{arith}
 use native.Mathlib.Decide.{ℕ-discrete}
 use lib.Arith.{lt-of-le-ne}
-use Rattle.bitset.proofs.Bools.{both, and-both}
+use Rattle.base.proofs.Bools.{both, and-both}
 use Rattle.chart_value.specs.WellFormed.{allBelow}
 
 pub all-at : (n : ℕ) (p : ℕ → Bool) → allBelow n p ≡ true → (i : ℕ) → i < n → p i ≡ true

@@ -17,7 +17,7 @@ use Rattle.model.specs.declared.Left.{Left}
 use Rattle.model.specs.declared.Left.the-variants.{Clock, Difference}
 use Rattle.model.specs.declared.Relation.{Relation}
 use Rattle.model.specs.declared.Relation.the-variants.{Less, AtMost, Equal, AtLeast, More}
-use Rattle.bitset.proofs.Bools.{both, and-both}
+use Rattle.base.proofs.Bools.{both, and-both}
 use Rattle.bitset.proofs.Laws.{within-true, lt-within}
 use Rattle.model.specs.Chart.{zeroTerm, zeroRegion, regionAt, termAt, isBare}
 use Rattle.chart_value.specs.WellFormed.{wellFormed, regionPlaced, placedAt, placeFits, regionFits, eventFits, termsFit, termPlaced, leftFits, isZeroTerm, isZeroRegion, isZeroLeft, isLess, isZeroEvent, allBelow}

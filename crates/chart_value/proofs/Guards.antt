@@ -9,7 +9,7 @@ use native.Mathlib.Omega.{arith}
 use borrow.Author.Tests.{leb-false}
 use lib.Dec.{leb}
 use lib.ListN.{length}
-use Rattle.bitset.proofs.Bools.{neither}
+use Rattle.base.proofs.Bools.{neither}
 use Rattle.model.specs.declared.Chart.{Chart}
 use Rattle.model.specs.Chart.{mostLines, mostRegions, mostTerms}
 use Rattle.chart_command.specs.declared.Command.the-variants.{Message, ClockTerm, DifferenceTerm}

@@ -9,7 +9,7 @@ use lib.Bits.{bitAnd}
 use lib.Dec.{eqb, leb, ltb}
 use borrow.Author.Tests.{ltb-true, leb-true, eqb-false, eq-eqb, not-true}
 use Rattle.bitset.specs.Set.{contains, within}
-use Rattle.bitset.proofs.Bools.{both, either, or-right}
+use Rattle.base.proofs.Bools.{both, either, or-right}
 use Rattle.bitset.proofs.Laws.{contains-union, contains-empty, contains-and, some-member}
 use Rattle.model.specs.declared.Chart.{Chart}
 use Rattle.model.specs.declared.Message.{Message}

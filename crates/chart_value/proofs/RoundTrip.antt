@@ -34,7 +34,7 @@ use Rattle.chart_reader.specs.Read.{Said, acceptedAs, readChart, startReading}
 use Rattle.chart_value.specs.WellFormed.{wellFormed, eventFits, leftFits, touchedBefore}
 use Rattle.chart_value.specs.Writer.{chartBytes, regionsBytes, regionBytes, eventBytes, termsBytes, leftBytes, hotBytes, relationByte, four}
 use Rattle.bitset.specs.Set.{union, within}
-use Rattle.bitset.proofs.Bools.{both, and-both, or-neither}
+use Rattle.base.proofs.Bools.{both, and-both, or-neither}
 use Rattle.bitset.proofs.Laws.{lt-within}
 use Rattle.chart_value.proofs.Facts.{Shape, Terms, Fits, WellFormed, wf-of, fits-of, zero-region, same-region, same-chart, withRegions}
 use Rattle.chart_value.proofs.Bytes.{Gives, gives-chart, on-heading, on-message, on-plain, on-clock-term, on-difference-term, on-hot, on-resets, on-main, on-end}

@@ -9,7 +9,7 @@ use native.Mathlib.Decide.{decLt}
 use lib.Dec.{ltb, leb, eqb}
 use borrow.Author.Tests.{ltb-true, lt-ltb, le-ltb, lt-leb}
 use Rattle.bitset.specs.Set.{contains}
-use Rattle.bitset.proofs.Bools.{both, and-both}
+use Rattle.base.proofs.Bools.{both, and-both}
 use Rattle.bitset.proofs.Laws.{member-lt, contains-empty}
 use Rattle.model.specs.declared.Chart.{Chart}
 use Rattle.model.specs.declared.Region.{Region}

@@ -21,7 +21,7 @@ use Rattle.model.specs.Chart.{regionAt, termAt}
 use Rattle.chart_command.specs.Command.{headingByte, messageByte, plainByte, clockTermByte, differenceTermByte, hotByte, resetsByte, mainByte, endByte}
 use Rattle.chart_value.specs.WellFormed.{leftFits, eventFits}
 use Rattle.chart_value.specs.Writer.{chartBytes, regionsBytes, regionBytes, eventBytes, termsBytes, leftBytes, hotBytes, relationByte, two, four}
-use Rattle.bitset.proofs.Bools.{both}
+use Rattle.base.proofs.Bools.{both}
 use Rattle.chart_value.proofs.Facts.{Terms, WellFormed, fits-of}
 use Rattle.chart_value.proofs.Owned.{Ranges, labelFits}
 

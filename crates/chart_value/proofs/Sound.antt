@@ -42,7 +42,7 @@ use Rattle.chart_step.specs.Reading.{stepOf, faultOf, decided, applied, outcome
 use Rattle.chart_reader.specs.Read.{Said, acceptedAs, refusedFor, readChart, readFrom, continueBy, advanceOf, advanceBy, startReading}
 use Rattle.chart_value.specs.WellFormed.{wellFormed, placeFits, regionFits, eventFits, leftFits, touchedBefore, isZeroRegion}
 use Rattle.bitset.specs.Set.{union, within}
-use Rattle.bitset.proofs.Bools.{both, and-both, neither}
+use Rattle.base.proofs.Bools.{both, and-both, neither}
 use Rattle.bitset.proofs.Laws.{within-true}
 use Rattle.chart_value.proofs.Facts.{Shape, Terms, Fits, of-wf, of-fits, zero-is-zero, withRegions}
 

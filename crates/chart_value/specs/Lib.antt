@@ -3,3 +3,4 @@ pub mod Writer
 pub mod Given
 pub mod Guards
 pub mod View
+pub mod Records

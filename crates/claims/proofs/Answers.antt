@@ -2,7 +2,6 @@
 use mathlib.Core.Path.{_≡_, refl, sym, ap, _∙_}
 use mathlib.Core.Bool.{cond}
 use Prim.Native.Nat.{ℕ}
-use native.Mathlib.Omega.{arith}
 use lib.Dec.{eqb}
 use Rattle.rounds.specs.Feeds.{Answer as Told, refused, toldBroken, toldKept, toldDropped, entered, moved, quiet}
 use Rattle.chart_step.proofs.Numbers.{refusal-nonzero, refusal-injective}
@@ -18,12 +17,10 @@ use Rattle.stepping.specs.Answers.{feedRefusalNumber, answerOf}
 use Rattle.log_reader.specs.declared.RecordRefusal.{RecordRefusal}
 use Rattle.log_reader.specs.declared.RecordRefusal.the-variants.{CutShort, UnknownByte}
 use Rattle.log_reader.proofs.Told.{said-tells}
-use Rattle.judge.specs.declared.LogRefusal.{LogRefusal}
 use Rattle.judge.specs.declared.LogRefusal.the-variants as log
 use Rattle.judge.specs.declared.JudgeAnswer.{JudgeAnswer}
 use Rattle.judge.specs.declared.JudgeAnswer.the-variants as judged
 use Rattle.judge.specs.declared.Judgement.{Judgement}
-use Rattle.judge.specs.Check.{logRefusalNumber}
 use Rattle.judge.specs.Judge as judge
 use Rattle.claims.specs.Claims.{AnswersTell}
 

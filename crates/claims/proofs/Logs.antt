@@ -1,7 +1,7 @@
 -- One record at a place, and a whole log, read case by case. The records walked without a fault decide where the check of the log stands, so
 -- two walks end alike. Assumes nothing.
 use mathlib.Core.Path.{_≡_, refl, sym, ap, subst, _∙_}
-use mathlib.Core.Logic.{_≢_, inl, inr, _↔_}
+use mathlib.Core.Logic.{inl, inr, _↔_}
 use mathlib.Core.Bool.{Bool, true, false, cond}
 use mathlib.Core.List.{List}
 use Prim.Native.Nat.{ℕ, zero, suc, _+_, _-_, _≤_, _<_}
@@ -16,11 +16,11 @@ use Rattle.model.specs.declared.Record.{Record}
 use Rattle.chart_value.specs.Given.{Given}
 use Rattle.chart_value.specs.View.{chartOf}
 use Rattle.chart_value.specs.WellFormed.{wellFormed}
-use Rattle.rounds.specs.Base.{Snoc, ε, _▸_, size}
+use Rattle.base.specs.Lists.{Snoc, ε, _▸_, size}
 use Rattle.rounds.specs.Feeds.{mostRecords}
 use Rattle.rounds.specs.Machine.{after}
-use Rattle.rounds.proofs.Facts.{split, clash}
-use Rattle.monitor.specs.Runs.{logged}
+use Rattle.base.proofs.Bools.{split}
+use Rattle.chart_value.specs.Records.{logged}
 use Rattle.log_reader.specs.declared.RecordRefusal.{RecordRefusal}
 use Rattle.log_reader.specs.declared.RecordRefusal.the-variants.{CutShort, UnknownByte}
 use Rattle.log_reader.specs.declared.Next.{Next}
@@ -30,16 +30,14 @@ use Rattle.log_reader.specs.Record.{recordRefusalNumber, messageByte, timeByte,
 use Rattle.log_reader.specs.Records.{recordsFrom, recordsIn}
 use Rattle.log_reader.proofs.Places.{taken-past}
 use Rattle.log_reader.proofs.Records.{one-record}
-use Rattle.judge.specs.declared.LogRefusal.{LogRefusal}
 use Rattle.judge.specs.declared.LogRefusal.the-variants.{NoRecord, TimeFalls, TooManyRecords}
 use Rattle.judge.specs.declared.Checked.{Checked}
 use Rattle.judge.specs.declared.Checked.the-variants as checked
-use Rattle.judge.specs.declared.CheckStep.{CheckStep}
 use Rattle.judge.specs.declared.CheckStep.the-variants.{Over, Going}
 use Rattle.judge.specs.Check.{timeOf, stepBy, stepAt, continueBy as checkOn, checkFrom, checkLog}
 use Rattle.judge.specs.Judge as judge
 use Rattle.judge.specs.Judge.{byCheck, judgeOf, verdictOf}
-use Rattle.judge.proofs.Laws.{Left, left-first, left-step, left-going, left-ended}
+use Rattle.judge.proofs.Laws.{Left, left-first, left-step, left-going}
 use Rattle.claims.specs.Demand1.{Just, FindsAs, ends, unknown, message-cut, time-cut, message, time, Walk, start, step, JudgesAs, not-given, no-record, falls, overflows, judges}
 use Rattle.claims.proofs.Demand1.{given-not}
 

@@ -15,7 +15,7 @@ use Rattle.chart_value.proofs.Sound.{sound}
 use Rattle.log_reader.specs.declared.RecordRefusal.{RecordRefusal}
 use Rattle.log_reader.specs.declared.Next.the-variants.{End, Refused, Taken}
 use Rattle.log_reader.specs.Record.{nextAt}
-use Rattle.rounds.specs.Base.{Snoc, ε, _▸_}
+use Rattle.base.specs.Lists.{Snoc, ε, _▸_}
 use Rattle.rounds.specs.Feeds.{Answer as Told}
 use Rattle.rounds.specs.Machine.{after}
 use Rattle.rounds.specs.Demand3.{Meaning, Agrees}
@@ -28,7 +28,8 @@ use Rattle.claims.specs.Demand1.{FindsAs, Walk, judges}
 use Rattle.stepping.specs.declared.Step.{Step}
 use Rattle.stepping.specs.Monitors.{stepOf}
 use Rattle.monitor.specs.Feed.{feedOf}
-use Rattle.monitor.specs.Runs.{Run, none-yet, one-more, logged}
+use Rattle.monitor.specs.Runs.{Run, none-yet, one-more}
+use Rattle.chart_value.specs.Records.{logged}
 use Rattle.monitor.proofs.Runs.{feeding}
 use Rattle.claims.specs.declared.Watched.{Watched}
 use Rattle.claims.specs.Judged.{JudgedBy}

@@ -14,7 +14,7 @@ use Rattle.chart_faults.specs.Claims.{Faults}
 use Rattle.chart_value.specs.Given.{Given}
 use Rattle.chart_value.specs.View.{chartOf, Shown, CodesTell}
 use Rattle.chart_value.specs.Guards.{NeverFire}
-use Rattle.rounds.specs.Base.{Snoc}
+use Rattle.base.specs.Lists.{Snoc}
 use Rattle.rounds.specs.Demand3.{Demand3, Meaning}
 use Rattle.runs.specs.Demand2.{Demand2}
 use Rattle.stepping.specs.declared.Answer.{Answer}
@@ -23,7 +23,8 @@ use Rattle.stepping.specs.Monitors.{monitorAt}
 use Rattle.log_reader.specs.declared.Next.{Next}
 use Rattle.log_reader.specs.Record as found
 use Rattle.log_reader.specs.Records.{recordsIn}
-use Rattle.monitor.specs.Runs.{logged, Feeding, ViewTells}
+use Rattle.monitor.specs.Runs.{Feeding, ViewTells}
+use Rattle.chart_value.specs.Records.{logged}
 use Rattle.judge.specs.declared.Judgement.{Judgement}
 use Rattle.judge.specs.Judge as judge
 use Rattle.claims.specs.Demand1.{FindsAs, Walk}

@@ -4,10 +4,10 @@ use Prim.Native.Nat.{ℕ}
 use Rattle.model.specs.declared.Chart.{Chart}
 use Rattle.model.specs.declared.Record.{Record}
 use Rattle.chart_value.specs.View.{chartOf}
-use Rattle.rounds.specs.Base.{Snoc}
+use Rattle.base.specs.Lists.{Snoc}
 use Rattle.rounds.specs.Machine.{Monitor}
 use Rattle.rounds.specs.Demand3.{Meaning, Agrees}
-use Rattle.monitor.specs.Runs.{logged}
+use Rattle.chart_value.specs.Records.{logged}
 use Rattle.judge.specs.Judge.{verdictOf}
 use Rattle.claims.specs.Demand1.{JudgesAs}
 

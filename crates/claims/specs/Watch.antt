@@ -9,12 +9,13 @@ use Rattle.model.specs.declared.Record.{Record}
 use Rattle.model.specs.Monitor.{zeroMonitor}
 use Rattle.chart_reader.specs.Read.{readChart, acceptedAs, numberOf, offsetOf}
 use Rattle.log_reader.specs.Records.{recordsIn}
-use Rattle.rounds.specs.Base.{Snoc}
+use Rattle.base.specs.Lists.{Snoc}
 use Rattle.rounds.specs.Feeds.{Answer as Told}
 use Rattle.rounds.specs.Demand3.{Meaning, Agrees}
 use Rattle.chart_value.specs.View.{chartOf}
 use Rattle.stepping.specs.Monitors.{monitorAt}
-use Rattle.monitor.specs.Runs.{Run, logged}
+use Rattle.monitor.specs.Runs.{Run}
+use Rattle.chart_value.specs.Records.{logged}
 use Rattle.claims.specs.declared.Watched.{Watched}
 
 -- the monitor m after feeding these records to a fresh one, with the answers told

@@ -15,11 +15,12 @@ use Rattle.model.specs.declared.Monitor.{Monitor}
 use Rattle.model.specs.declared.Record.{Record}
 use Rattle.model.specs.declared.Record.the-variants.{Message, Time}
 use Rattle.model.specs.Monitor.{zeroMonitor}
-use Rattle.rounds.specs.Base.{Snoc, ε, _▸_, allBelow}
+use Rattle.base.specs.Lists.{Snoc, ε, _▸_, allBelow}
 use Rattle.rounds.specs.Chart.{Chart as Abstract, Accepted}
 use Rattle.rounds.specs.Rows.{LogRecord}
 use Rattle.rounds.specs.Machine.{Monitor as AbstractMonitor, Step as AbstractStep, Fit, feed, after, prechartDone}
-use Rattle.rounds.proofs.Facts.{split, clash, all-of, all-at}
+use Rattle.base.proofs.Bools.{split, clash}
+use Rattle.base.proofs.Facts.{all-of, all-at}
 use Rattle.rounds.proofs.Fitness.{after-fit}
 use Rattle.log_reader.specs.declared.RecordRefusal.{RecordRefusal}
 use Rattle.log_reader.specs.declared.RecordRefusal.the-variants.{CutShort, UnknownByte}
@@ -32,9 +33,8 @@ use Rattle.stepping.specs.declared.Step.{Step}
 use Rattle.stepping.specs.Monitors.{monitorAt, stepOf}
 use Rattle.stepping.specs.View.{recordOf}
 use Rattle.plan.specs.Plan.{recordCode}
-use Rattle.monitor.specs.Feed.{logRecord}
-use Rattle.monitor.specs.Runs.{logged}
-use Rattle.monitor.proofs.Runs.{zero-fresh}
+use Rattle.chart_value.specs.Records.{logRecord, logged}
+use Rattle.stepping.proofs.Zeros.{zero-fresh}
 use Rattle.judge.specs.Check.{timeOf}
 use Rattle.judge.specs.Judge.{standingOf, verdictOf}
 use Rattle.judge.specs.Parts.{codeAt, standingBy, verdictBy}

@@ -18,7 +18,7 @@ use Rattle.rounds.specs.Chart.{Chart as Abstract}
 use Rattle.rounds.specs.Rows.{LogRecord, chartMessage}
 use Rattle.rounds.specs.Feeds.{mostRecords, noReadyRegion, conditionFails, entered, moved, quiet}
 use Rattle.rounds.specs.Machine.{Monitor as AbstractMonitor, Step as AbstractStep, Move, stuck, fails, rests, place, full, prechartDone, goOn, keepRound, dropRound, breakRound, conclude, accept, feed, after}
-use Rattle.rounds.proofs.Facts.{clash}
+use Rattle.base.proofs.Bools.{clash}
 use Rattle.log_reader.specs.declared.Next.the-variants.{Taken}
 use Rattle.log_reader.specs.Record.{nextAt}
 use Rattle.log_reader.specs.Records.{recordsIn}
@@ -29,7 +29,7 @@ use Rattle.stepping.specs.View.{recordOf}
 use Rattle.stepping.specs.Parts.{Covers}
 use Rattle.plan.specs.Plan.{recordCode}
 use Rattle.plan.specs.Slots.{slotOf, Slotted}
-use Rattle.monitor.specs.Runs.{logged}
+use Rattle.chart_value.specs.Records.{logged}
 use Rattle.judge.specs.declared.LogRefusal.the-variants.{TimeFalls, TooManyRecords}
 use Rattle.judge.specs.declared.Checked.the-variants.{Refused}
 use Rattle.judge.specs.declared.CheckStep.the-variants.{Over}

@@ -16,7 +16,7 @@ use Rattle.rounds.specs.Machine.{Monitor as AbstractMonitor, Fit, after}
 use Rattle.rounds.proofs.Fitness.{after-fit}
 use Rattle.stepping.specs.Monitors.{monitorAt}
 use Rattle.log_reader.specs.Records.{recordsIn}
-use Rattle.monitor.specs.Runs.{logged}
+use Rattle.chart_value.specs.Records.{logged}
 use Rattle.judge.specs.declared.LogRefusal.{LogRefusal}
 use Rattle.judge.specs.declared.Checked.the-variants as checked
 use Rattle.judge.specs.declared.JudgeAnswer.the-variants.{Judged, NoChart, Refused}

@@ -6,12 +6,12 @@ use lib.Dec.{eqb}
 use Rattle.model.specs.declared.Chart.{Chart}
 use Rattle.chart_value.specs.WellFormed.{wellFormed}
 use Rattle.chart_value.specs.View.{chartOf}
-use Rattle.rounds.specs.Base.{allBelow}
+use Rattle.base.specs.Lists.{allBelow}
 use Rattle.rounds.specs.Chart.{Chart as Abstract}
 use Rattle.rounds.specs.Machine.{Monitor as AbstractMonitor, prechartDone, after}
 use Rattle.stepping.specs.declared.FeedRefusal.the-variants.{NotAChart}
 use Rattle.stepping.specs.Answers.{feedRefusalNumber}
-use Rattle.monitor.specs.Runs.{logged}
+use Rattle.chart_value.specs.Records.{logged}
 use Rattle.log_reader.specs.Records.{recordsIn}
 use Rattle.judge.specs.declared.Checked.{Checked}
 use Rattle.judge.specs.declared.Checked.the-variants as checked

@@ -9,7 +9,7 @@ use Rattle.wire.specs.Bytes.{word16}
 use Rattle.log_reader.specs.Record.{messageByte}
 use Rattle.bitset.specs.Set.{contains}
 use Rattle.model.specs.declared.Monitor.{Monitor}
-use Rattle.rounds.specs.Base.{allBelow}
+use Rattle.base.specs.Lists.{allBelow}
 use Rattle.judge.specs.declared.Checked.{Checked}
 use Rattle.judge.specs.declared.Checked.the-variants.{Fine, Refused}
 use Rattle.judge.specs.declared.Verdict.{Verdict}

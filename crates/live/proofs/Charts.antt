@@ -9,7 +9,7 @@ use borrow.Author.Tests.{le-leb, lt-leb, eqb-true, eqb-false}
 use lib.Dec.{eqb, leb}
 use lib.ListN.{length, take, drop}
 use lib.Seq.{getD-drop, drop-drop, take-at}
-use Rattle.bitset.proofs.Bools.{both, split}
+use Rattle.base.proofs.Bools.{both, split}
 use Rattle.model.specs.declared.Chart.{Chart}
 use Rattle.model.specs.Chart.{zeroChart}
 use Rattle.chart_step.proofs.Numbers.{refusal-nonzero}

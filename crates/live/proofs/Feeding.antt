@@ -9,7 +9,7 @@ use borrow.Author.Tests.{not-true, eqb-false, lt-ltb, le-ltb}
 use lib.Dec.{eqb, ltb, leb}
 use lib.ListN.{length, drop, length-append, length-drop}
 use lib.Seq.{drop-at}
-use Rattle.bitset.proofs.Bools.{either, split}
+use Rattle.base.proofs.Bools.{either, split}
 use Rattle.model.specs.declared.Chart.{Chart}
 use Rattle.model.specs.declared.Monitor.{Monitor}
 use Rattle.model.specs.declared.Record.{Record}
@@ -27,7 +27,8 @@ use Rattle.stepping.specs.declared.FeedRefusal.the-variants.{NotAChart}
 use Rattle.stepping.specs.declared.Step.{Step}
 use Rattle.stepping.specs.Answers.{feedRefusalNumber, answerNumber, answerOf, isRefused, HandsBack}
 use Rattle.stepping.specs.Monitors.{monitorAt, stepOf}
-use Rattle.monitor.specs.Feed.{madeNumber, MadeOf, logRecord, feedOf, refuse}
+use Rattle.monitor.specs.Feed.{madeNumber, MadeOf, feedOf, refuse}
+use Rattle.chart_value.specs.Records.{logRecord}
 use Rattle.monitor.specs.declared.Made.{Made}
 use Rattle.chart_value.specs.WellFormed.{wellFormed}
 use Rattle.chart_image.specs.ChartImage.{chartValue}

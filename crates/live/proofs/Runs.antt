@@ -5,7 +5,7 @@ use Rattle.model.specs.declared.Chart.{Chart}
 use Rattle.model.specs.declared.Monitor.{Monitor}
 use Rattle.model.specs.declared.Record.{Record}
 use Rattle.chart_reader.specs.Read.{readChart}
-use Rattle.rounds.specs.Base.{Snoc, ε, _▸_}
+use Rattle.base.specs.Lists.{Snoc, ε, _▸_}
 use Rattle.rounds.specs.Feeds.{Answer as Told}
 use Rattle.stepping.specs.Answers.{answerOf}
 use Rattle.monitor.specs.Feed.{feedOf}

@@ -5,7 +5,7 @@ use Prim.Native.Nat.{ℕ}
 use Rattle.model.specs.declared.Record.{Record}
 use Rattle.chart_reader.specs.Read.{readChart}
 use Rattle.chart_value.specs.WellFormed.{wellFormed}
-use Rattle.rounds.specs.Base.{Snoc, ε, _▸_}
+use Rattle.base.specs.Lists.{Snoc, ε, _▸_}
 use Rattle.rounds.specs.Feeds.{Answer as Told}
 use Rattle.stepping.specs.declared.Answer.{Answer}
 use Rattle.stepping.specs.Answers.{answerNumber, answerOf}

@@ -11,7 +11,7 @@ ghost use mathlib.Core.Path.{_≡_};
 ghost use Prim.Native.Nat.{_+_, _≤_};
 ghost use lib.ListN.{length};
 ghost use Rattle.text.specs.Text.{Wrote};
-ghost use Rattle.rounds.specs.Base.{ε};
+ghost use Rattle.base.specs.Lists.{ε};
 ghost use Rattle.stepping.specs.Answers.{feedRefusalNumber, isRefused};
 ghost use Rattle.judge.specs.Judge.{zeroVerdict};
 ghost use Rattle.monitor.specs.Feed.{madeNumber};

@@ -4,7 +4,7 @@ use mathlib.Core.List.{List}
 use Prim.Native.Nat.{ℕ, suc, _-_, _<_}
 use native.Mathlib.Omega.{arith}
 use Rattle.model.specs.declared.Record.{Record}
-use Rattle.rounds.specs.Base.{Snoc, _▸_}
+use Rattle.base.specs.Lists.{Snoc, _▸_}
 use Rattle.log_reader.specs.declared.Next.{Next}
 use Rattle.log_reader.specs.Record.{nextAt}
 use Rattle.log_reader.specs.Records.{onRecord, recordsFrom}

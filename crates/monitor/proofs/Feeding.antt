@@ -22,7 +22,8 @@ use Rattle.stepping.specs.View.{recordOf}
 use Rattle.stepping.specs.Parts.{Covers}
 use Rattle.plan.specs.Plan.{recordCode}
 use Rattle.monitor.specs.Fit.{fits}
-use Rattle.monitor.specs.Feed.{logRecord, refuse, feedOf}
+use Rattle.monitor.specs.Feed.{refuse, feedOf}
+use Rattle.chart_value.specs.Records.{logRecord}
 
 code-logged : (e : Record) → recordCode e ≡ logRecord e .code
 code-logged (Message m t) = λ i. logRecord (Message m t) .code

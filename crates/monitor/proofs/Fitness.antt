@@ -18,12 +18,13 @@ use Rattle.bitset.proofs.Laws.{within-true, lt-within, member-lt, members-subse
 use Rattle.model.specs.declared.Moment.{Moment}
 use Rattle.model.specs.declared.Monitor.{Monitor}
 use Rattle.model.specs.Chart.{mostClocks}
-use Rattle.rounds.specs.Base.{allBelow, first}
+use Rattle.base.specs.Lists.{allBelow, first}
 use Rattle.rounds.specs.Chart.{Chart as Abstract, Accepted}
 use Rattle.rounds.specs.Rows.{plain, Ready}
 use Rattle.rounds.specs.Feeds.{mostRecords, noReadyRegion, conditionFails}
 use Rattle.rounds.specs.Machine.{full, readyPlain, Fit}
-use Rattle.rounds.proofs.Facts.{split, clash, and-of, and-left, and-right, or-left, or-right, or-cases, all-of, all-at}
+use Rattle.base.proofs.Bools.{split, clash, and-both, and-left, and-right, or-left, or-right, either}
+use Rattle.base.proofs.Facts.{all-of, all-at}
 use Rattle.rounds.proofs.Machine.{full-true, full-false, plain-none, plain-is-none}
 use Rattle.stepping.specs.declared.Head.{Head}
 use Rattle.stepping.specs.declared.Found.{Found}
@@ -96,7 +97,7 @@ module _ (C : Abstract) (A : Accepted C) (m : Monitor) where
   of-moments : ((k : ℕ) → momentsOf (m .at .resets) k ≤ m .tally .now .0) → ((k : ℕ) → C .clocks ≤ k → momentsOf (m .at .resets) k ≡ 0) → So (momentsFit (C .clocks) (m .at .resets) (m .tally .now .0))
   unfolding momentsFit
   of-moments f g =
-      all-of mostClocks _ (λ k l. and-of (le-leb _ _ (f k)) (by k (decLt k (C .clocks))))
+      all-of mostClocks _ (λ k l. and-both (le-leb _ _ (f k)) (by k (decLt k (C .clocks))))
     where
       by : (k : ℕ) → Dec (k < C .clocks) → So (ltb k (C .clocks) || eqb (momentsOf (m .at .resets) k) 0)
       by k (yes h) = or-left _ (lt-ltb k (C .clocks) h)
@@ -108,14 +109,14 @@ module _ (C : Abstract) (A : Accepted C) (m : Monitor) where
 
   break-of : So (breakFits (m .tally .records) (m .tally .broken)) → Breaks
   unfolding breakFits Breaks
-  break-of e = elim (or-cases (eqb (m .tally .broken .at) 0 && eqb (m .tally .broken .reason) 0) _ e) [
+  break-of e = elim (either (eqb (m .tally .broken .at) 0 && eqb (m .tally .broken .reason) 0) _ e) [
     | inl p ↦ inl (eqb-true _ _ (and-left (eqb (m .tally .broken .at) 0) _ p), eqb-true _ _ (and-right (eqb (m .tally .broken .at) 0) _ p))
     | inr p ↦
         let q = and-right (leb 1 (m .tally .broken .at)) _ p in
         inr (
           leb-true _ _ (and-left (leb 1 (m .tally .broken .at)) _ p),
           leb-true _ _ (and-left (leb (m .tally .broken .at) (m .tally .records)) _ q),
-          elim (or-cases (eqb (m .tally .broken .reason) noReadyRegion) _ (and-right (leb (m .tally .broken .at) (m .tally .records)) _ q)) [
+          elim (either (eqb (m .tally .broken .reason) noReadyRegion) _ (and-right (leb (m .tally .broken .at) (m .tally .records)) _ q)) [
             | inl x ↦ inl (eqb-true _ _ x)
             | inr x ↦ inr (eqb-true _ _ x)
           ],
@@ -124,10 +125,10 @@ module _ (C : Abstract) (A : Accepted C) (m : Monitor) where
 
   of-break : Breaks → So (breakFits (m .tally .records) (m .tally .broken))
   unfolding breakFits Breaks
-  of-break (inl p) = or-left _ (and-of (eq-eqb _ _ (p .0)) (eq-eqb _ _ (p .1)))
+  of-break (inl p) = or-left _ (and-both (eq-eqb _ _ (p .0)) (eq-eqb _ _ (p .1)))
   of-break (inr p) =
       or-right (eqb (m .tally .broken .at) 0 && eqb (m .tally .broken .reason) 0)
-      (and-of (le-leb _ _ (p .0)) (and-of (le-leb _ _ (p .1)) (elim (p .2) [
+      (and-both (le-leb _ _ (p .0)) (and-both (le-leb _ _ (p .1)) (elim (p .2) [
         | inl x ↦ or-left _ (eq-eqb _ _ x)
         | inr x ↦ or-right (eqb (m .tally .broken .reason) noReadyRegion) (eq-eqb _ _ x)
       ])))
@@ -158,12 +159,12 @@ module _ (C : Abstract) (A : Accepted C) (m : Monitor) where
   pub of-fit : Fit C (monitorAt m) → So (fits C m)
   unfolding fits countsFit Breaks
   of-fit F =
-      and-of (of-closed (F .closed))
-      (and-of (members-within (C .regions) fired (F .within))
-      (and-of (not-full (full C (contains fired)) refl)
-      (and-of (of-rests (F .settled))
-      (and-of (of-moments (F .moments) (F .unused))
-      (and-of (and-of (le-leb _ _ (F .few)) (le-leb _ _ (F .counts))) (of-break (F .break-fits)))))))
+      and-both (of-closed (F .closed))
+      (and-both (members-within (C .regions) fired (F .within))
+      (and-both (not-full (full C (contains fired)) refl)
+      (and-both (of-rests (F .settled))
+      (and-both (of-moments (F .moments) (F .unused))
+      (and-both (and-both (le-leb _ _ (F .few)) (le-leb _ _ (F .counts))) (of-break (F .break-fits)))))))
     where
       not-full : (b : Bool) → full C (contains fired) ≡ b → So (not b)
       not-full true e = absurd (F .unfinished (full-true C (contains fired) e))

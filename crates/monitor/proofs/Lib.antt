@@ -1,4 +1,3 @@
-pub mod Loops
 pub mod Fitness
 pub mod Feeding
 pub mod Owned

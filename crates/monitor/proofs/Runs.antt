@@ -1,62 +1,43 @@
 -- A list of real feeds goes as the machine does. Assumes nothing.
-use mathlib.Core.Path.{_≡_, refl, sym, ap, subst, fun-ext, _∙_}
+use mathlib.Core.Path.{_≡_, refl, sym, ap, subst, _∙_}
 use mathlib.Core.Logic.{_≢_, inl, inr}
 use mathlib.Core.Bool.{true}
-use Prim.Native.Nat.{ℕ, _≤_, _<_}
+use Prim.Native.Nat.{ℕ}
 use native.Mathlib.Omega.{arith}
-use native.Mathlib.Decide.{decLt}
 use lib.Dec.{eqb, ltb, leb}
-use lib.ListN.{length, replicate, getD-replicate, length-replicate, List·getD-eq-default}
+use lib.ListN.{length}
 use lib.Seq.{ext-getD}
-use Rattle.bitset.proofs.Laws.{contains-empty, same-members}
+use Rattle.bitset.proofs.Laws.{same-members}
 use Rattle.model.specs.declared.Chart.{Chart}
 use Rattle.model.specs.declared.Moment.{Moment}
 use Rattle.model.specs.declared.Monitor.{Monitor}
 use Rattle.model.specs.declared.Record.{Record}
-use Rattle.model.specs.Chart.{mostRegions, mostClocks}
+use Rattle.model.specs.Chart.{mostRegions}
 use Rattle.model.specs.Monitor.{zeroMonitor}
 use Rattle.chart_value.specs.WellFormed.{wellFormed}
 use Rattle.chart_value.specs.View.{chartOf}
 use Rattle.chart_value.proofs.Facts.{wf-of}
-use Rattle.rounds.specs.Base.{Snoc, ε, _▸_}
+use Rattle.base.specs.Lists.{Snoc, ε, _▸_}
 use Rattle.rounds.specs.Chart.{Accepted}
 use Rattle.rounds.specs.Rows.{LogRecord}
-use Rattle.rounds.specs.Tally.{freshTally}
 use Rattle.rounds.specs.Feeds.{Answer as Told, refused, toldBroken, timeFalls, tooManyRecords, mostRecords}
-use Rattle.rounds.specs.Machine.{Monitor as AbstractMonitor, Step as AbstractStep, Fit, fresh, feed, after, answers}
+use Rattle.rounds.specs.Machine.{Monitor as AbstractMonitor, Step as AbstractStep, Fit, feed, after, answers}
 use Rattle.rounds.specs.Demand3.{Demand3}
-use Rattle.rounds.proofs.Facts.{split}
+use Rattle.base.proofs.Bools.{split}
 use Rattle.rounds.proofs.Demand3.{demand-3}
 use Rattle.stepping.specs.declared.Answer.the-variants.{Refused}
 use Rattle.stepping.specs.declared.FeedRefusal.{FeedRefusal}
 use Rattle.stepping.specs.declared.FeedRefusal.the-variants.{NotAChart, Unfit}
 use Rattle.stepping.specs.declared.Step.{Step}
 use Rattle.stepping.specs.Answers.{answerOf, feedRefusalNumber}
-use Rattle.stepping.specs.Monitors.{momentsOf, monitorAt, stepOf}
+use Rattle.stepping.specs.Monitors.{monitorAt, stepOf}
+use Rattle.stepping.proofs.Zeros.{zero-fresh}
 use Rattle.stepping.proofs.Back.{Taken, accept-taken}
-use Rattle.monitor.specs.Feed.{logRecord, feedOf}
-use Rattle.monitor.specs.Runs.{Run, none-yet, one-more, RunOver, logged, Feeding, ViewTells}
+use Rattle.monitor.specs.Feed.{feedOf}
+use Rattle.chart_value.specs.Records.{logRecord, logged}
+use Rattle.monitor.specs.Runs.{Run, none-yet, one-more, RunOver, Feeding, ViewTells}
 use Rattle.monitor.proofs.Fitness.{of-fit}
 use Rattle.monitor.proofs.Storing.{told-as, stored-as, storedTally}
-
--- the monitor of zeros is the machine's fresh one
-zero-moments : (k : ℕ) → momentsOf (zeroMonitor .at .resets) k ≡ 0
-zero-moments k = by (decLt k mostClocks)
-  where
-    zero : Moment
-    zero = record { 0 = 0 }
-
-    by : Dec (k < mostClocks) → momentsOf (zeroMonitor .at .resets) k ≡ 0
-    by (yes h) = ap (λ (x : Moment). x .0) (getD-replicate mostClocks k (record { 0 = 0 }) (record { 0 = 0 }) h)
-    by (no h) =
-        let l : length (replicate {A = Moment} mostClocks (record { 0 = 0 })) ≤ k = simp length-replicate (omega arith) in
-        ap (λ (x : Moment). x .0) (List·getD-eq-default (replicate mostClocks (record { 0 = 0 })) (record { 0 = 0 }) l)
-
-pub zero-fresh : monitorAt zeroMonitor ≡ fresh
-zero-fresh = λ i. record {
-  at = record { fired = fun-ext contains-empty i; clocks = fun-ext zero-moments i };
-  tally = freshTally;
-}
 
 module _ (c : Chart) (wf : wellFormed c ≡ true) (A : Accepted (chartOf c)) where
   -- a fit monitor is fed as the machine is

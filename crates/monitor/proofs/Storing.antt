@@ -24,7 +24,7 @@ use Rattle.rounds.specs.Rows.{LogRecord}
 use Rattle.rounds.specs.Tally.{Tally as AbstractTally}
 use Rattle.rounds.specs.Feeds.{Answer as Told, refused, toldBroken, toldKept, toldDropped, entered, moved, quiet, mostRecords}
 use Rattle.rounds.specs.Machine.{Monitor as AbstractMonitor, Fit, accept, feed}
-use Rattle.rounds.proofs.Facts.{split, or-right}
+use Rattle.base.proofs.Bools.{split, or-right}
 use Rattle.stepping.specs.declared.Answer.{Answer}
 use Rattle.stepping.specs.declared.Answer.the-variants.{Refused, Broken, Kept, Dropped, Entered, Moved, Quiet}
 use Rattle.stepping.specs.declared.FeedRefusal.the-variants.{TimeFalls, TooManyRecords}

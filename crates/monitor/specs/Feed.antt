@@ -6,12 +6,11 @@ use lib.ListN.{length}
 use Rattle.model.specs.declared.Chart.{Chart}
 use Rattle.model.specs.declared.Monitor.{Monitor}
 use Rattle.model.specs.declared.Record.{Record}
-use Rattle.model.specs.declared.Record.the-variants.{Message, Time}
 use Rattle.model.specs.Chart.{mostRegions, mostClocks}
 use Rattle.model.specs.Monitor.{zeroMonitor}
 use Rattle.chart_value.specs.WellFormed.{wellFormed}
-use Rattle.chart_value.specs.View.{codeOf, chartOf}
-use Rattle.rounds.specs.Rows.{LogRecord}
+use Rattle.chart_value.specs.Records.{logRecord}
+use Rattle.chart_value.specs.View.{chartOf}
 use Rattle.rounds.specs.Feeds.{refused}
 use Rattle.rounds.specs.Machine as machine
 use Rattle.stepping.specs.declared.FeedRefusal.{FeedRefusal}
@@ -38,11 +37,6 @@ pub record MadeOf (c : Chart) (r : Made) : Type 0 where
   pub number : madeNumber (r .answer) ≡ cond (wellFormed c) 0 (feedRefusalNumber NotAChart)
   pub monitor : r .monitor ≡ zeroMonitor
   pub stored : Stored (r .monitor)
-
--- a record as the theory takes it: its time, and 0 or the code of its message
-abbrev pub logRecord : Record → LogRecord
-logRecord (Message m t) = record { time = t .0; code = codeOf m }
-logRecord (Time t) = record { time = t .0; code = 0 }
 
 -- a refusal gives the monitor as it came
 abbrev pub refuse : FeedRefusal → Monitor → machine.Step

@@ -10,7 +10,7 @@ use Rattle.model.specs.declared.Break.{Break}
 use Rattle.model.specs.declared.Tally.{Tally}
 use Rattle.model.specs.declared.Monitor.{Monitor}
 use Rattle.model.specs.Chart.{mostClocks}
-use Rattle.rounds.specs.Base.{allBelow}
+use Rattle.base.specs.Lists.{allBelow}
 use Rattle.rounds.specs.Chart.{Chart as Abstract}
 use Rattle.rounds.specs.Feeds.{mostRecords, noReadyRegion, conditionFails}
 use Rattle.rounds.specs.Machine.{full, readyPlain}

@@ -6,8 +6,7 @@ use Rattle.model.specs.declared.Monitor.{Monitor}
 use Rattle.model.specs.declared.Record.{Record}
 use Rattle.model.specs.Monitor.{zeroMonitor}
 use Rattle.chart_value.specs.View.{chartOf}
-use Rattle.rounds.specs.Base.{Snoc, ε, _▸_, each}
-use Rattle.rounds.specs.Rows.{LogRecord}
+use Rattle.base.specs.Lists.{Snoc, ε, _▸_}
 use Rattle.rounds.specs.Feeds.{Answer as Told}
 use Rattle.rounds.specs.Machine.{Fit, feed, after, answers}
 use Rattle.stepping.specs.declared.Answer.the-variants.{Refused}
@@ -15,7 +14,8 @@ use Rattle.stepping.specs.declared.FeedRefusal.the-variants.{NotAChart, Unfit}
 use Rattle.stepping.specs.declared.Step.{Step}
 use Rattle.stepping.specs.Answers.{answerOf}
 use Rattle.stepping.specs.Monitors.{monitorAt, stepOf}
-use Rattle.monitor.specs.Feed.{Stored, logRecord, feedOf}
+use Rattle.monitor.specs.Feed.{Stored, feedOf}
+use Rattle.chart_value.specs.Records.{logRecord, logged}
 
 -- "All feeds carry one accepted chart; the first gets a fresh monitor, each later one the monitor the last handed back, whatever it
 -- answered". Each feed gives what its definition says: the records fed, the answers, and the monitor after them.
@@ -30,10 +30,6 @@ pub record RunOver (c : Chart) (es : Snoc Record) : Type 0 where
   pub monitor : Monitor
   pub run : Run c es told monitor
   pub stored : Stored monitor
-
--- the records as the theory takes them
-abbrev pub logged : Snoc Record → Snoc LogRecord
-logged es = each logRecord es
 
 -- Feeding goes as the machine over the chart that c shows.
 pub record Feeding (c : Chart) : Type 0 where

@@ -23,14 +23,15 @@ ghost use Prim.Native.Nat.{_≤_, _<_};
 ghost use lib.ListN.{length, getD};
 ghost use Rattle.bitset.specs.Set.{contains, isSubset};
 ghost use Rattle.model.specs.Chart.{mostRegions, mostClocks};
-ghost use Rattle.rounds.specs.Base.{allBelow};
+ghost use Rattle.base.specs.Lists.{allBelow};
 ghost use Rattle.rounds.specs.Machine.{Fit};
 ghost use Rattle.stepping.specs.Monitors.{monitorAt, stepOf};
 ghost use Rattle.stepping.specs.View.{planChart, Compiled};
 ghost use Rattle.stepping.specs.Parts.{foundOf};
 ghost use Rattle.stepping.specs.Answers.{HandsBack};
 ghost use Rattle.monitor.specs.Fit.{isNone, momentsFit, breakFits, countsFit, fits};
-ghost use Rattle.monitor.specs.Feed.{Stored, MadeOf, logRecord, refuse, feedOf};
+ghost use Rattle.monitor.specs.Feed.{Stored, MadeOf, refuse, feedOf};
+ghost use Rattle.chart_value.specs.Records.{logRecord};
 
 pub enum MadeAnswer {
     Fresh,

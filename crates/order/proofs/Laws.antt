@@ -13,7 +13,7 @@ use lib.Bits.{bitAnd}
 use lib.ListN.{length, getD, set, length-set}
 use lib.Seq.{getD-set-same, getD-set-other}
 use Rattle.bitset.specs.Set.{contains, inserted, union}
-use Rattle.bitset.proofs.Bools.{both, and-both, either, or-left, or-right}
+use Rattle.base.proofs.Bools.{both, and-both, either, or-left, or-right}
 use Rattle.bitset.proofs.Laws.{contains-union, contains-inserted, contains-empty, contains-and, some-member}
 use Rattle.model.specs.declared.Chart.{Chart}
 use Rattle.model.specs.Chart.{mostRegions, touchedAt}

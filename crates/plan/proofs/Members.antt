@@ -7,9 +7,8 @@ use native.Mathlib.Decide.{decLt, ℕ-discrete}
 use borrow.Author.Tests.{lt-ltb, le-ltb, eq-eqb, ne-eqb}
 use lib.Dec.{eqb, ltb}
 use Rattle.bitset.specs.Set.{contains, inserted}
-use Rattle.bitset.proofs.Bools.{or-right}
 use Rattle.bitset.proofs.Laws.{contains-empty, contains-inserted}
-use Rattle.rounds.proofs.Facts.{clash}
+use Rattle.base.proofs.Bools.{or-right, clash}
 
 -- the test's answer below k, and nothing from there on
 pub record Gathered (t : ℕ → Bool) (k set : ℕ) : Type 0 where

@@ -12,9 +12,8 @@ use lib.Dec.{eqb}
 use lib.ListN.{length, getD, set, replicate, getD-replicate, length-replicate, List·getD-eq-default}
 use lib.Seq.{getD-set-same, getD-set-other}
 use Rattle.bitset.specs.Set.{contains, inserted}
-use Rattle.bitset.proofs.Bools.{or-left, or-right}
 use Rattle.bitset.proofs.Laws.{contains-empty, contains-inserted}
-use Rattle.rounds.proofs.Facts.{clash, or-cases}
+use Rattle.base.proofs.Bools.{or-left, or-right, clash, either}
 use Rattle.plan.specs.Slots.{slotOf, Slotted}
 
 pub all-zero : (n k : ℕ) → _≡_ {A = ℕ} (getD (replicate n 0) k 0) 0
@@ -49,7 +48,7 @@ module _ {i : ℕ} {keys slots : List ℕ} (S : Slotted i keys slots) (k : ℕ) 
   own j n m = elim (ℕ-discrete n k) [
     | yes q ↦
         let s : So (contains (inserted (getD slots k 0) i) j) = rw q (ap (λ (x : ℕ). contains x j) (sym (getD-set-same slots k (inserted (getD slots k 0) i) 0 room))) ∙ m in
-        elim (or-cases (contains (getD slots k 0) j) (eqb j i) (sym (contains-inserted (getD slots k 0) i j) ∙ s)) [
+        elim (either (contains (getD slots k 0) j) (eqb j i) (sym (contains-inserted (getD slots k 0) i j) ∙ s)) [
           | inl f ↦ omega (arith, S .own j k f)
           | inr e ↦ let z : j ≡ i = eqb-true j i e in omega arith
         ]

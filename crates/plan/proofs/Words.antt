@@ -9,7 +9,7 @@ use native.Mathlib.Decide.{decLt, ℕ-discrete}
 use borrow.Author.Tests.{ltb-true, ltb-false, lt-ltb, le-ltb, lt-leb, le-leb, eq-eqb, ne-eqb}
 use lib.Dec.{eqb, ltb, leb}
 use lib.IntN.{ℤ, pos, _-ℤ_}
-use Rattle.bitset.proofs.Bools.{both}
+use Rattle.base.proofs.Bools.{both}
 use Rattle.model.specs.declared.Term.{Term}
 use Rattle.model.specs.declared.Region.{Region}
 use Rattle.model.specs.declared.Left.{Left}
@@ -20,7 +20,7 @@ use Rattle.model.specs.Chart.{mostClocks, mostTerms, termAt}
 use Rattle.condition.specs.Condition.{signed, related, leftOf, termHolds, termsHold, conditionHolds}
 use Rattle.condition.specs.Parts.{inRelation, positivePart, negativePart}
 use Rattle.condition.proofs.Signed.{compares-exactly, one-clock}
-use Rattle.rounds.specs.Base.{allBelow}
+use Rattle.base.specs.Lists.{allBelow}
 use Rattle.chart_value.specs.WellFormed.{leftFits}
 use Rattle.stepping.specs.View.{secondPlace, upperPlace, lowerPlace, boundPlace, bias, clockCodes, firstOf, secondOf, holdsBy, InChart}
 use Rattle.plan.specs.Words.{sidesOf, biased, raisedBy, loweredBy, boundBy, firstClock, secondClock, wordOf, wordAt}

@@ -3,13 +3,13 @@ use mathlib.Core.Path.{_≡_, refl, sym, ap, _∙_}
 use mathlib.Core.Logic.{inl, inr}
 use mathlib.Core.Option.{none}
 use Prim.Native.Nat.{ℕ}
-use Rattle.rounds.specs.Base.{Snoc, ε, _▸_}
+use Rattle.base.specs.Lists.{Snoc, ε, _▸_}
 use Rattle.rounds.specs.Chart.{Chart, Accepted}
 use Rattle.rounds.specs.Rows.{LogRecord, Row, Lawful}
 use Rattle.rounds.specs.Feeds.{refusal, kept, dropped, broken, Stretch, Last, unended, behindBreak, behind, Answer, FedOne, refuses, runs-on, ends, again, Fed, none-yet, one-more}
 use Rattle.rounds.specs.Machine.{Monitor, Step, after}
 use Rattle.rounds.specs.Demand3.{Unbroken, AtLast, Agrees, Meaning, Same}
-use Rattle.rounds.proofs.Facts.{found, none-some}
+use Rattle.base.proofs.Facts.{found, none-some}
 use Rattle.rounds.proofs.Endings.{one-outcome, ended, Comes, on, keeps, drops, breaks}
 use Rattle.rounds.proofs.Feeds.{comes-unbroken, agrees}
 

@@ -5,12 +5,13 @@ use mathlib.Core.Bool.{cond}
 use mathlib.Core.Option.{some}
 use Prim.Native.Nat.{ℕ}
 use native.Mathlib.Omega.{arith}
-use Rattle.rounds.specs.Base.{Snoc, _▸_, size}
+use Rattle.base.specs.Lists.{Snoc, _▸_, size}
 use Rattle.rounds.specs.Chart.{Chart, Accepted}
 use Rattle.rounds.specs.Rows.{LogRecord, Row, stands, chartMessage, chartMessages, resetMoment, Lawful, NoRow, Full, LawfulButLast, firstFailing}
 use Rattle.rounds.specs.Feeds.{noReadyRegion, conditionFails, Outcome, kept, dropped, broken, Ends, complete, unplaced-main, unplaced-prechart, fails-hot, fails-cold, Answer, entered, moved, quiet, Onward, completes-prechart, fires, stays}
 use Rattle.rounds.specs.Machine.{Place, Move, place, Monitor, Step, prechartDone, full, goOn, keepRound, dropRound, breakRound, conclude, accept}
-use Rattle.rounds.proofs.Facts.{split, some-same}
+use Rattle.base.proofs.Bools.{split}
+use Rattle.base.proofs.Facts.{some-same}
 use Rattle.rounds.proofs.Machine.{full-true, full-false, done-true, done-false, done-is, done-is-not}
 use Rattle.rounds.proofs.Moments.{chartMessages-skip}
 use Rattle.rounds.proofs.Rows.{lawful-after, one-row, one-row-waived}

@@ -4,13 +4,13 @@ use mathlib.Core.Logic.{_≢_}
 use mathlib.Core.Bool.{false, So, true≢false, false≢true}
 use mathlib.Core.Option.{none}
 use Prim.Native.Nat.{ℕ}
-use Rattle.rounds.specs.Base.{Snoc, _▸_}
+use Rattle.base.specs.Lists.{Snoc, _▸_}
 use Rattle.rounds.specs.Chart.{Chart, Accepted}
 use Rattle.rounds.specs.Rows.{LogRecord, Row, stands, Lawful, NoRow, Full}
 use Rattle.rounds.specs.Feeds.{refusal, kept, dropped, broken, unended, Ends, complete, unplaced-main, unplaced-prechart, fails-hot, fails-cold, Answer, toldKept, Onward, completes-prechart, fires, stays, saysRunsOn, saysDroppedOrBroken, Exactly}
 use Rattle.rounds.specs.Machine.{Monitor, Step, goOn, keepRound, dropRound, breakRound, feed, after}
 use Rattle.rounds.specs.Demand3.{Unbroken, AtLast, Agrees, Meaning}
-use Rattle.rounds.proofs.Facts.{clash}
+use Rattle.base.proofs.Bools.{clash}
 use Rattle.rounds.proofs.Rows.{one-row}
 use Rattle.rounds.proofs.Endings.{Comes, on, keeps, drops, breaks}
 use Rattle.rounds.proofs.Feeds.{feed-unbroken, comes-unbroken, agrees}

@@ -6,13 +6,13 @@ use Prim.Native.Nat.{ℕ, suc}
 use native.Mathlib.Omega.{arith}
 use lib.Dec.{eqb, ltb, leb}
 use borrow.Author.Tests.{eq-eqb, ne-eqb}
-use Rattle.rounds.specs.Base.{Snoc, ε, _▸_, size, onFound}
+use Rattle.base.specs.Lists.{Snoc, ε, _▸_, size, onFound}
 use Rattle.rounds.specs.Chart.{Chart, Accepted}
 use Rattle.rounds.specs.Rows.{LogRecord, Row, stands, chartMessages, messageRegions, opened, resetMoment, Lawful, Full}
 use Rattle.rounds.specs.Feeds.{mostRecords, lastMoment, refusal, Outcome, Stretch, Last, unended, behind, Ends, Answer, refused, toldBroken, ending, Onward, FedOne, refuses, runs-on, ends, again, Fed, none-yet, one-more}
 use Rattle.rounds.specs.Machine.{Monitor, Step, opening, goOn, keepRound, dropRound, breakRound, accept, feed, after, answers}
 use Rattle.rounds.specs.Demand3.{Unbroken, Broken, AtLast, Agrees, Meaning}
-use Rattle.rounds.proofs.Facts.{split}
+use Rattle.base.proofs.Bools.{split}
 use Rattle.rounds.proofs.Machine.{opening-lacks, opening-settled}
 use Rattle.rounds.proofs.Rows.{one-row}
 use Rattle.rounds.proofs.Rounds.{placeOf}

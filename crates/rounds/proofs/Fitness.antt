@@ -6,13 +6,14 @@ use Prim.Native.Nat.{ℕ, zero, suc, _+_, _≤_, _<_}
 use native.Mathlib.Omega.{arith}
 use lib.Dec.{eqb, ltb, leb}
 use borrow.Author.Tests.{eqb-true, ltb-false, ltb-true, leb-false, not-false}
-use Rattle.rounds.specs.Base.{Snoc, ε, _▸_}
+use Rattle.base.specs.Lists.{Snoc, ε, _▸_}
 use Rattle.rounds.specs.Chart.{Chart, Accepted}
 use Rattle.rounds.specs.Rows.{LogRecord, chartMessage, plain, Ready, values, opened, Full}
 use Rattle.rounds.specs.Tally.{noBreak, countedAs}
 use Rattle.rounds.specs.Feeds.{mostRecords, noReadyRegion, conditionFails}
 use Rattle.rounds.specs.Machine.{Place, Monitor, fresh, Move, stuck, fails, rests, readyPlain, readyFor, fire, unfired, settle, place, opening, full, prechartDone, goOn, keepRound, dropRound, breakRound, conclude, accept, feed, after, Fit}
-use Rattle.rounds.proofs.Facts.{split, or-right, or-cases, found}
+use Rattle.base.proofs.Bools.{split, or-right, either}
+use Rattle.base.proofs.Facts.{found}
 use Rattle.rounds.proofs.Machine.{full-false, ready-lacks, unfired-falls, opening-lacks, opening-settled, plain-some, plain-none, for-some, place-stuck, place-fails, place-fires}
 
 module _ (C : Chart) (A : Accepted C) where
@@ -28,11 +29,11 @@ module _ (C : Chart) (A : Accepted C) where
   fire-fits : (t : ℕ) (p : Place) (i : ℕ) → FitPlace t p → Ready C (p .fired) i → FitPlace t (fire C t p i)
   unfolding fire
   fire-fits t p i F R = record {
-    closed = λ j a h b. elim (or-cases (eqb j i) (p .fired j) h) [
+    closed = λ j a h b. elim (either (eqb j i) (p .fired j) h) [
       | inl q ↦ or-right (eqb a i) (R .under a (rw (eqb-true j i q) at b))
       | inr q ↦ or-right (eqb a i) (F .closed j a q b)
     ];
-    within = λ j h. elim (or-cases (eqb j i) (p .fired j) h) [ inl q ↦ rw (eqb-true j i q) (R .region) | inr q ↦ F .within j q ];
+    within = λ j h. elim (either (eqb j i) (p .fired j) h) [ inl q ↦ rw (eqb-true j i q) (R .region) | inr q ↦ F .within j q ];
     moments = λ c. elim (split (C .resets i c)) [ inl q ↦ rw q (omega arith) | inr q ↦ rw q (F .moments c) ];
     unused = λ c h. elim (split (C .resets i c)) [ inl q ↦ absurd (omega (arith, A .own-clocks i c q)) | inr q ↦ rw q (F .unused c h) ];
   }

@@ -1,5 +1,3 @@
-pub mod Facts
-pub mod Table
 pub mod Machine
 pub mod Moments
 pub mod Settling

@@ -8,11 +8,12 @@ use Prim.Native.Nat.{ℕ, zero, suc, _≤_, _<_}
 use native.Mathlib.Omega.{arith}
 use lib.Dec.{ltb}
 use borrow.Author.Tests.{lt-ltb}
-use Rattle.rounds.specs.Base.{Snoc, ε, _▸_, size, each, EachIn}
+use Rattle.base.specs.Lists.{Snoc, ε, _▸_, size, each, EachIn}
 use Rattle.rounds.specs.Chart.{Chart, Accepted}
 use Rattle.rounds.specs.Rows.{LogRecord, Row, stands, chartMessage, chartMessages, messageRegions, Ready, values, momentOf, resetMoment, holds, Placed, Lawful, NoRow, waived, LawfulButLast, firstFailing}
 use Rattle.rounds.specs.Machine.{Place, Move, stuck, fails, rests, readyPlain, readyFor, unfired, fire, settle, place}
-use Rattle.rounds.proofs.Facts.{split, clash, or-left, or-right, found, none-some, some-same}
+use Rattle.base.proofs.Bools.{split, clash, or-left, or-right}
+use Rattle.base.proofs.Facts.{found, none-some, some-same}
 use Rattle.rounds.proofs.Machine.{plain-some, plain-none, for-some, has-message, place-stuck, place-fails, place-fires}
 use Rattle.rounds.proofs.Moments.{chartMessages-take, messageRegions-take, messageRegions-skip, momentOf-last, resetMoment-earlier, holds-earlier, retest}
 use Rattle.rounds.proofs.Settling.{RowMove, failsAt, restsAt, settleRow, Plains, stop, more, Result, resting, failing, free, placed-plain, reaches, settling, plains-placed, plains-messages}
@@ -126,7 +127,7 @@ module _ (C : Chart) (A : Accepted C) (o : ℕ) (s : Snoc LogRecord) (e : LogRec
 
   waived-last : (p : Row) (i : ℕ) → OfLast (p ▸ i) → So (loose p i)
   unfolding waived OfLast
-  waived-last p i h = or-left {a = ltb (size (chartMessages C s)) (size (messageRegions C (p ▸ i)))} (strict p i)
+  waived-last p i h = or-left {x = ltb (size (chartMessages C s)) (size (messageRegions C (p ▸ i)))} (strict p i)
       (lt-ltb (size (chartMessages C s)) (size (messageRegions C (p ▸ i))) (omega arith))
 
   strict-loose : (p : Row) → EachIn (Placed C strict) p → EachIn (Placed C loose) p

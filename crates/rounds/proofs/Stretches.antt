@@ -1,7 +1,7 @@
 -- Each stretch of a list's meaning, by the feeds that made it: the round ran on up to each record before its end. Assumes nothing.
 use mathlib.Core.Path.{_≡_, refl, subst}
 use Prim.Native.Nat.{ℕ}
-use Rattle.rounds.specs.Base.{Snoc, ε, _▸_, EachIn, Beginning, all-of-it, shorter}
+use Rattle.base.specs.Lists.{Snoc, ε, _▸_, EachIn, all-of-it, shorter}
 use Rattle.rounds.specs.Chart.{Chart, Accepted}
 use Rattle.rounds.specs.Rows.{LogRecord, Row, stands, Lawful, Full}
 use Rattle.rounds.specs.Feeds.{Outcome, kept, dropped, broken, Stretch, Last, unended, behindBreak, behind, Answer, FedOne, refuses, runs-on, ends, again, Fed, none-yet, one-more}

@@ -8,11 +8,12 @@ use Prim.Native.Nat.{ℕ, _≤_}
 use native.Mathlib.Omega.{arith}
 use lib.Dec.{ltb, leb}
 use borrow.Author.Tests.{ltb-true, leb-true}
-use Rattle.rounds.specs.Base.{Snoc, ε, _▸_, each, EachIn, onFound}
+use Rattle.base.specs.Lists.{Snoc, ε, _▸_, each, EachIn, onFound}
 use Rattle.rounds.specs.Chart.{Chart, Accepted}
 use Rattle.rounds.specs.Rows.{LogRecord, Row, stands, chartMessage, chartMessages, plain, messageRegions, Ready, holds, Placed, LawfulIf, Lawful, NoRow, waived, LawfulButLast}
 use Rattle.rounds.specs.Machine.{Place, Move, stuck, fails, ready, readyPlain, place}
-use Rattle.rounds.proofs.Facts.{and-left, and-right, found}
+use Rattle.base.proofs.Bools.{and-left, and-right}
+use Rattle.base.proofs.Facts.{found}
 use Rattle.rounds.proofs.Machine.{ready-true, plain-some, plain-none}
 use Rattle.rounds.proofs.Rows.{codes}
 use Rattle.rounds.proofs.Rounds.{placeOf, Means, unplaced, failed, move-means}

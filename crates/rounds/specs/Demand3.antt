@@ -3,7 +3,7 @@ use mathlib.Core.Path.{_≡_}
 use mathlib.Core.Logic.{_≢_}
 use mathlib.Core.Option.{none}
 use Prim.Native.Nat.{ℕ}
-use Rattle.rounds.specs.Base.{Snoc, _▸_, size, EachIn, Beginning}
+use Rattle.base.specs.Lists.{Snoc, _▸_, size, EachIn, Beginning}
 use Rattle.rounds.specs.Chart.{Chart}
 use Rattle.rounds.specs.Rows.{LogRecord, Row, stands, chartMessages, resetMoment, Lawful, NoRow, Full, LawfulButLast}
 use Rattle.rounds.specs.Feeds.{lastMoment, refusal, Stretch, Last, unended, behindBreak, Ends, Answer, Fed, keptAmong, droppedAmong, Exactly}

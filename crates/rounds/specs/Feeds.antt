@@ -5,7 +5,7 @@ use mathlib.Core.Bool.{Bool, true, false, cond, So}
 use mathlib.Core.Option.{Option, none, some}
 use Prim.Native.Nat.{ℕ, suc, _<_}
 use lib.Dec.{ltb, leb}
-use Rattle.rounds.specs.Base.{Snoc, ε, _▸_, size, keep}
+use Rattle.base.specs.Lists.{Snoc, ε, _▸_, size, keep}
 use Rattle.rounds.specs.Chart.{Chart}
 use Rattle.rounds.specs.Rows.{LogRecord, Row, stands, chartMessages, Lawful, NoRow, Full, PrechartDone, LawfulButLast, firstFailing}
 

@@ -5,7 +5,7 @@ use mathlib.Core.Bool.{Bool, false, not, cond, So, _&&_, _||_}
 use mathlib.Core.Option.{Option}
 use Prim.Native.Nat.{ℕ, zero, suc, _+_, _≤_, _<_}
 use lib.Dec.{eqb, ltb, leb}
-use Rattle.rounds.specs.Base.{Snoc, ε, _▸_, allBelow, countBelow, first, onFound}
+use Rattle.base.specs.Lists.{Snoc, ε, _▸_, allBelow, countBelow, first, onFound}
 use Rattle.rounds.specs.Chart.{Chart}
 use Rattle.rounds.specs.Rows.{LogRecord, chartMessage, plain, Ready, Full, values, opened}
 use Rattle.rounds.specs.Tally.{Tally, freshTally, counted, countedKept, countedDropped, countedBroken}

@@ -2,17 +2,18 @@
 -- and in a prompt run just one: whatever run a beginning of the word has to a maximal cut, the prompt run has as many regions by then, and as
 -- the prechart is above all else they are the prechart's. Assumes nothing.
 use mathlib.Core.Path.{_≡_, refl, sym, ap, _∙_, subst}
-use mathlib.Core.Logic.{_≢_, inl, inr, _↔_}
-use mathlib.Core.Bool.{Bool, true, false, So, not, cond}
+use mathlib.Core.Logic.{inl, inr}
+use mathlib.Core.Bool.{Bool, true, false, So, not}
 use Prim.Native.Nat.{ℕ, zero, suc, _+_, _≤_, _<_}
 use native.Mathlib.Omega.{arith}
 use native.Mathlib.Nat.{not-suc-le-zero}
-use native.Mathlib.Decide.{decLe, ℕ-discrete}
-use Rattle.rounds.specs.Base.{Snoc, ε, _▸_, countBelow}
+use native.Mathlib.Decide.{ℕ-discrete}
+use Rattle.base.specs.Lists.{Snoc, ε, _▸_, countBelow}
 use Rattle.rounds.specs.Chart.{Chart, Accepted}
 use Rattle.rounds.specs.Rows.{Ready, Full, PrechartDone}
-use Rattle.rounds.proofs.Facts.{split, clash, count-falls}
-use Rattle.runs.specs.Paper.{Config, Letter, message, silent, delay, initial, _·_, add, Advance, synchronization, silent-advancement, premature-termination, time-delay, Run, here, step, Maximal, Satisfies, Prompt, begins, settles, goes}
+use Rattle.base.proofs.Bools.{split, clash}
+use Rattle.base.proofs.Facts.{count-falls}
+use Rattle.runs.specs.Paper.{Config, Letter, message, silent, delay, initial, _·_, add, synchronization, silent-advancement, premature-termination, time-delay, Run, here, step, Maximal, Satisfies, Prompt, begins, settles, goes}
 use Rattle.runs.specs.Demand2.{SatisfiesExactly}
 use Rattle.runs.proofs.Prompts.{prompt-run}
 use Rattle.runs.proofs.Words.{run-is-cut, full-completes, done-satisfies}

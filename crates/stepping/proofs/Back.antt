@@ -6,7 +6,7 @@ use Rattle.rounds.specs.Chart.{Chart}
 use Rattle.rounds.specs.Rows.{LogRecord, chartMessage}
 use Rattle.rounds.specs.Feeds.{Answer as AbstractAnswer, refused, toldBroken, toldKept, toldDropped, entered, moved, quiet}
 use Rattle.rounds.specs.Machine.{Monitor as AbstractMonitor, Step as AbstractStep, Move, stuck, fails, rests, place, full, prechartDone, goOn, keepRound, dropRound, breakRound, conclude, accept}
-use Rattle.rounds.proofs.Facts.{clash}
+use Rattle.base.proofs.Bools.{clash}
 use Rattle.stepping.specs.declared.Answer.{Answer}
 use Rattle.stepping.specs.declared.Answer.the-variants.{Refused, Broken, Kept, Dropped, Entered, Moved, Quiet}
 use Rattle.stepping.specs.declared.Step.{Step}

@@ -18,7 +18,7 @@ use Rattle.model.specs.Chart.{mostClocks}
 use Rattle.rounds.specs.Chart.{Chart}
 use Rattle.rounds.specs.Rows.{opened}
 use Rattle.rounds.specs.Machine.{Place as AbstractPlace, opening}
-use Rattle.rounds.proofs.Facts.{split}
+use Rattle.base.proofs.Bools.{split}
 use Rattle.stepping.specs.Monitors.{placeAt, momentsOf}
 use Rattle.stepping.specs.Parts.{fireBy}
 

@@ -1,4 +1,3 @@
-pub mod Loops
 pub mod Terms
 pub mod Skips
 pub mod Ready
@@ -6,3 +5,4 @@ pub mod Scan
 pub mod Fires
 pub mod Walk
 pub mod Back
+pub mod Zeros

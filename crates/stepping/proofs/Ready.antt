@@ -11,10 +11,11 @@ use lib.Pow.{ones-lt}
 use borrow.Author.Tests.{lt-ltb}
 use Rattle.bitset.specs.Set.{contains, isSubset}
 use Rattle.bitset.proofs.Laws.{subset-members, members-subset, contains-below}
-use Rattle.rounds.specs.Base.{first, allBelow}
+use Rattle.base.specs.Lists.{first, allBelow}
 use Rattle.rounds.specs.Rows.{plain}
 use Rattle.rounds.specs.Machine.{ready, readyPlain}
-use Rattle.rounds.proofs.Facts.{split, all-of, all-at}
+use Rattle.base.proofs.Bools.{split}
+use Rattle.base.proofs.Facts.{all-of, all-at}
 use Rattle.stepping.specs.declared.Head.{Head}
 use Rattle.stepping.specs.declared.Found.{Found}
 use Rattle.stepping.specs.View.{planChart, Compiled}

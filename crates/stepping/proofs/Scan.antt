@@ -10,12 +10,13 @@ use lib.Dec.{eqb}
 use lib.ListN.{getD}
 use Rattle.bitset.specs.Set.{contains}
 use Rattle.model.specs.declared.Monitor.{Monitor}
-use Rattle.rounds.specs.Base.{first, someBelow}
+use Rattle.base.specs.Lists.{first, someBelow}
 use Rattle.rounds.specs.Chart.{Chart}
 use Rattle.rounds.specs.Rows.{LogRecord, chartMessage, Ready}
 use Rattle.rounds.specs.Feeds.{quiet}
 use Rattle.rounds.specs.Machine.{Monitor as AbstractMonitor, Step, stuck, readyFor, place, goOn, conclude, accept}
-use Rattle.rounds.proofs.Facts.{split, and-left, found, first-some}
+use Rattle.base.proofs.Bools.{split, and-left}
+use Rattle.base.proofs.Facts.{found, first-some}
 use Rattle.rounds.proofs.Machine.{for-some}
 use Rattle.stepping.specs.declared.Head.{Head}
 use Rattle.stepping.specs.declared.Sought.{Sought}
@@ -23,7 +24,7 @@ use Rattle.stepping.specs.declared.Sought.the-variants.{Ready as ReadyAt
 use Rattle.stepping.specs.Monitors.{monitorAt}
 use Rattle.stepping.specs.View.{planChart, Compiled, recordOf}
 use Rattle.stepping.specs.Parts.{readyBy, soughtBy, takenAt}
-use Rattle.stepping.proofs.Loops.{one-passes}
+use Rattle.base.proofs.Loops.{one-passes}
 use Rattle.stepping.proofs.Ready.{first-same, ready-same}
 
 -- the ready region that has the message, and whether some region has it

@@ -10,11 +10,10 @@ use borrow.Author.Tests.{eq-eqb, ne-eqb, not-true, not-false}
 use lib.Dec.{eqb}
 use lib.ListN.{getD}
 use Rattle.bitset.specs.Set.{contains, inserted, union, isSubset}
-use Rattle.bitset.proofs.Bools.{neither}
 use Rattle.bitset.proofs.Laws.{contains-union, contains-inserted}
-use Rattle.rounds.proofs.Facts.{split, clash, or-cases}
+use Rattle.base.proofs.Bools.{neither, split, clash, either}
 use Rattle.stepping.specs.Parts.{readyBy, Covers}
-use Rattle.stepping.proofs.Loops.{SoFar}
+use Rattle.base.proofs.Loops.{SoFar}
 
 -- what is known of the first number that is no member
 pub record Run (s r : ℕ) : Type 0 where
@@ -51,7 +50,7 @@ module _ {n : ℕ} {t : ℕ → Bool} {first s i : ℕ} (S : Skips n t first s i
   module _ {u r : ℕ} (e : u ≡ inserted s i) where
     pub skips-more : t i ≡ false → Run u r → Skips n t first u r
     skips-more f R = record {
-      fails = λ j l m. elim (or-cases (contains s j) (eqb j i) (sym (contains-inserted s i j) ∙ rw (← e) m)) [
+      fails = λ j l m. elim (either (contains s j) (eqb j i) (sym (contains-inserted s i j) ∙ rw (← e) m)) [
         | inl k ↦ S .fails j l k
         | inr q ↦ elim (ℕ-discrete j i) [ yes z ↦ rw z f | no z ↦ clash q (ne-eqb j i z) ]
       ];
@@ -75,7 +74,7 @@ pub record Apart (fired p s : ℕ) : Type 0 where
 
 pub apart : (fired p o s : ℕ) → ((i : ℕ) → i < 32 → contains o i ≡ not (contains p i)) → s ≡ union fired o → Apart fired p s
 apart fired p o s h e = record {
-  inside = λ j l m. elim (or-cases (contains fired j) (contains o j) (sym (contains-union fired o j) ∙ rw (← e) m)) [
+  inside = λ j l m. elim (either (contains fired j) (contains o j) (sym (contains-union fired o j) ∙ rw (← e) m)) [
     | inl f ↦ inl f
     | inr q ↦ inr (not-true (contains p j) (sym (h j l) ∙ q))
   ];

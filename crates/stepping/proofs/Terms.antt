@@ -11,7 +11,7 @@ use lib.Dec.{eqb, ltb}
 use lib.ListN.{getD}
 use Rattle.model.specs.declared.Moment.{Moment}
 use Rattle.model.specs.Chart.{mostClocks, mostTerms}
-use Rattle.rounds.specs.Base.{allBelow}
+use Rattle.base.specs.Lists.{allBelow}
 use Rattle.stepping.specs.declared.Head.{Head}
 use Rattle.stepping.specs.Monitors.{momentsOf}
 use Rattle.stepping.specs.View.{bias, lowerPlace, upperPlace, boundOf, firstOf, secondOf, bounded, holdsBy, conditionBy, InChart, Compiled}

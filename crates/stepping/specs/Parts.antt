@@ -10,7 +10,7 @@ use Rattle.bitset.specs.Set.{contains, isSubset}
 use Rattle.model.specs.declared.Moment.{Moment}
 use Rattle.model.specs.declared.Place.{Place}
 use Rattle.model.specs.Chart.{mostClocks}
-use Rattle.rounds.specs.Base.{someBelow, first, onFound}
+use Rattle.base.specs.Lists.{someBelow, first, onFound}
 use Rattle.rounds.specs.Chart.{Chart}
 use Rattle.rounds.specs.Rows.{values}
 use Rattle.rounds.specs.Machine.{Place as AbstractPlace, Move, fails, rests, fire, settle, unfired}

@@ -8,7 +8,7 @@ use lib.Dec.{eqb, ltb}
 use lib.ListN.{getD}
 use Rattle.bitset.specs.Set.{contains}
 use Rattle.model.specs.Chart.{mostClocks, mostRegions, mostTerms}
-use Rattle.rounds.specs.Base.{allBelow}
+use Rattle.base.specs.Lists.{allBelow}
 use Rattle.rounds.specs.Chart.{Chart, Accepted}
 use Rattle.rounds.specs.Rows.{LogRecord}
 use Rattle.stepping.specs.declared.Head.{Head}

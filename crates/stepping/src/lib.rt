@@ -17,7 +17,7 @@ ghost use lib.Dec.{eqb, ltb};
 ghost use lib.ListN.{getD};
 ghost use Rattle.bitset.specs.Set.{contains};
 ghost use Rattle.model.specs.Chart.{mostRegions, mostClocks};
-ghost use Rattle.rounds.specs.Base.{first, allBelow, someBelow};
+ghost use Rattle.base.specs.Lists.{first, allBelow, someBelow};
 ghost use Rattle.rounds.specs.Chart.{Chart};
 ghost use Rattle.rounds.specs.Rows.{Ready};
 ghost use Rattle.rounds.specs.Feeds.{mostRecords, entered, moved};

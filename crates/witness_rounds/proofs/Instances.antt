@@ -1,6 +1,6 @@
 -- Every case has its instance: charts and monitors by computing their tests, logs by walking their records. Assumes nothing.
 use mathlib.Core.Path.{_≡_, refl, sym, ap, subst, _∙_}
-use mathlib.Core.Bool.{Bool, true, false, _&&_}
+use mathlib.Core.Bool.{Bool, true, _&&_}
 use mathlib.Core.List.{List, [], _∷_}
 use Prim.Native.Nat.{ℕ, zero, suc, _+_, _*_, _≤_, _<_}
 use native.Mathlib.Omega.{arith}
@@ -8,28 +8,27 @@ use native.Mathlib.Nat.{not-suc-le-zero}
 use lib.Dec.{ltb}
 use lib.ListN.{length, getD}
 use borrow.Author.Tests.{ltb-true}
-use Rattle.wire.specs.Bytes.{word16, word32}
 use Rattle.model.specs.declared.Monitor.{Monitor}
 use Rattle.model.specs.declared.Record.{Record}
 use Rattle.model.specs.Chart.{zeroChart}
 use Rattle.model.specs.Monitor.{zeroMonitor}
-use Rattle.chart_reader.specs.Read.{readChart, acceptedAs}
+use Rattle.chart_reader.specs.Read.{acceptedAs}
 use Rattle.chart_value.specs.Given.{Given}
-use Rattle.chart_value.specs.WellFormed.{wellFormed}
 use Rattle.chart_value.proofs.Sound.{sound}
-use Rattle.rounds.specs.Base.{Snoc, ε, _▸_, size}
+use Rattle.base.specs.Lists.{Snoc, ε, _▸_, size}
 use Rattle.rounds.specs.Feeds.{refused, toldBroken, entered}
 use Rattle.rounds.specs.Machine.{Monitor as AbstractMonitor, Fit, feed, after}
-use Rattle.rounds.proofs.Facts.{clash, and-left, and-right}
+use Rattle.base.proofs.Bools.{clash, and-left, and-right}
 use Rattle.rounds.proofs.Fitness.{after-fit}
 use Rattle.runs.specs.Taken.{Taken, statusOf, Acceptable}
 use Rattle.runs.proofs.Demand2.{demand-2}
 use Rattle.stepping.specs.Monitors.{monitorAt}
-use Rattle.monitor.specs.Feed.{logRecord}
+use Rattle.chart_value.specs.Records.{logRecord}
 use Rattle.monitor.specs.Fit.{closedUpward, restsUnlessBroken, momentsFit, countsFit, breakFits, fits}
-use Rattle.monitor.specs.Runs.{logged, RunOver}
+use Rattle.monitor.specs.Runs.{RunOver}
 use Rattle.monitor.proofs.Fitness.{of-fit, fit-exactly}
-use Rattle.monitor.proofs.Runs.{zero-fresh, feeding}
+use Rattle.monitor.proofs.Runs.{feeding}
+use Rattle.stepping.proofs.Zeros.{zero-fresh}
 use Rattle.log_reader.specs.Record as found
 use Rattle.claims.specs.Examples.{chartU}
 use Rattle.claims.specs.Demand1 as cases

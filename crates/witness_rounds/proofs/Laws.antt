@@ -11,15 +11,15 @@ use native.Mathlib.Omega.{arith}
 use lib.Dec.{eqb, ltb, leb}
 use lib.ListN.{getD, length, List·getD-eq-default}
 use borrow.Author.Tests.{eqb-true, ltb-true, ltb-false, leb-true, le-ltb}
-use Rattle.rounds.specs.Base.{Snoc, _▸_}
+use Rattle.base.specs.Lists.{Snoc, _▸_}
 use Rattle.rounds.specs.Chart.{Chart, Accepted}
 use Rattle.rounds.specs.Rows.{LogRecord, Row, stands, chartMessage, values, Ready}
 use Rattle.rounds.specs.Feeds.{mostRecords, Answer, refused, toldBroken, toldKept, toldDropped, entered, moved, quiet}
 use Rattle.rounds.specs.Machine.{Place, Move, stuck, fails, rests, ready, readyPlain, place, opening, Monitor, Step, feed, after}
-use Rattle.rounds.specs.Table.{table}
-use Rattle.rounds.proofs.Facts.{split, and-left, and-right}
+use Rattle.base.specs.Table.{table}
+use Rattle.base.proofs.Bools.{split, and-left, and-right}
 use Rattle.rounds.proofs.Machine.{LowestPlain, ready-true, plain-some, plain-none}
-use Rattle.rounds.proofs.Table.{getD-table}
+use Rattle.base.proofs.Table.{getD-table}
 use Rattle.rounds.proofs.Fitness.{after-fit}
 use Rattle.runs.specs.Paper.{Config, initial, reset, shift, add, wait, successor, Next, AtRest, configAt}
 use Rattle.runs.specs.Taken.{Status, Unmatched, Turn, Taken, passes, moves, enters, keeps, fails-cold, fails-hot, unmatched-prechart, unmatched-main, caseOf, statusOf, Acceptable}

@@ -3,14 +3,13 @@ use mathlib.Core.Path.{_≡_, refl}
 use mathlib.Core.List.{[], _∷_}
 use Rattle.chart_reader.specs.Read.{readChart, acceptedAs}
 use Rattle.chart_value.proofs.Shown.{shown-of}
-use Rattle.rounds.specs.Base.{Snoc, ε, _▸_}
+use Rattle.base.specs.Lists.{Snoc, ε, _▸_}
 use Rattle.rounds.specs.Chart.{Accepted}
 use Rattle.rounds.specs.Rows.{LogRecord, stands, Lawful, NoRow, Full, LawfulButLast}
 use Rattle.rounds.specs.Feeds.{conditionFails, complete, fails-cold, fails-hot, toldKept, toldDropped, toldBroken}
 use Rattle.rounds.proofs.Tested.{lawful-tested, waived-tested, no-row}
 use Rattle.rounds.proofs.Machine.{full-true}
-use Rattle.monitor.specs.Feed.{logRecord}
-use Rattle.monitor.specs.Runs.{logged}
+use Rattle.chart_value.specs.Records.{logRecord, logged}
 use Rattle.claims.specs.Examples.{chartU}
 use Rattle.witness_rounds.specs.Charts.{chartA, chartB}
 use Rattle.witness_rounds.specs.Rounds.{valueOf, U, A, B, RoundShown, roundU, keptA, droppedA, brokenA, keptB, droppedB, brokenB}

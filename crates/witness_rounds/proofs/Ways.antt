@@ -5,7 +5,7 @@ use mathlib.Core.Bool.{true, false}
 use mathlib.Core.List.{[], _∷_}
 use Prim.Native.Nat.{ℕ}
 use native.Mathlib.Omega.{arith}
-use Rattle.rounds.specs.Base.{Snoc, ε, _▸_}
+use Rattle.base.specs.Lists.{Snoc, ε, _▸_}
 use Rattle.rounds.specs.Rows.{LogRecord, Row, stands, plain, Lawful, NoRow, LawfulButLast, PrechartDone}
 use Rattle.rounds.specs.Feeds.{timeFalls, noReadyRegion, dropped, broken, behindBreak, Ends, unplaced-main, unplaced-prechart, refused, toldDropped, toldBroken, entered, moved, quiet, Onward, completes-prechart, fires, stays, refuses, runs-on, ends, again, Fed, none-yet, one-more}
 use Rattle.rounds.specs.Machine.{after}
@@ -13,8 +13,7 @@ use Rattle.rounds.proofs.Tested.{lawful-tested, no-region}
 use Rattle.rounds.proofs.Machine.{full-false, done-true, done-false}
 use Rattle.runs.specs.Paper.{Config, Letter, message, silent, delay, initial, Advance, wait, successor, Prompt, begins, settles, Over, spelled}
 use Rattle.runs.proofs.Prompts.{synchronizes, advances, terminates, delays, goes-on}
-use Rattle.monitor.specs.Feed.{logRecord}
-use Rattle.monitor.specs.Runs.{logged}
+use Rattle.chart_value.specs.Records.{logRecord, logged}
 use Rattle.witness_rounds.specs.Charts.{passed, undo, headings, references, ask, pass, answer}
 use Rattle.witness_rounds.specs.Rounds.{U, A, configOf, statusAs, TakenBy}
 use Rattle.witness_rounds.specs.Witnesses.{Unplaced, StepBy, TurnOf}

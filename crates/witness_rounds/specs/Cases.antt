@@ -4,10 +4,9 @@ use Prim.Native.Nat.{ℕ, zero, suc}
 use lib.ListN.{replicate}
 use Rattle.model.specs.declared.Chart.{Chart}
 use Rattle.model.specs.declared.Monitor.{Monitor}
-use Rattle.model.specs.declared.Record.{Record}
 use Rattle.model.specs.Chart.{zeroChart}
 use Rattle.model.specs.Monitor.{zeroMonitor}
-use Rattle.rounds.specs.Base.{Snoc, ε, _▸_}
+use Rattle.base.specs.Lists.{ε, _▸_}
 use Rattle.rounds.specs.Feeds.{refused, toldBroken, entered}
 use Rattle.chart_reader.specs.Read.{acceptedAs}
 use Rattle.log_reader.specs.Record as found

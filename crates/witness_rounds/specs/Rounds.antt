@@ -9,15 +9,14 @@ use Rattle.model.specs.declared.Record.{Record}
 use Rattle.chart_reader.specs.Read.{readChart, acceptedAs}
 use Rattle.chart_value.specs.View.{chartOf}
 use Rattle.log_reader.specs.Records.{recordsIn}
-use Rattle.rounds.specs.Base.{Snoc, ε, _▸_}
+use Rattle.base.specs.Lists.{Snoc, ε, _▸_}
 use Rattle.rounds.specs.Chart.{Chart as Abstract}
 use Rattle.rounds.specs.Rows.{LogRecord, Row, stands, chartMessages, Lawful, NoRow, Full, LawfulButLast, firstFailing}
 use Rattle.rounds.specs.Feeds.{conditionFails, Outcome, kept, dropped, broken, Ends, Answer, toldKept, toldDropped, toldBroken}
 use Rattle.rounds.specs.Machine.{after}
 use Rattle.runs.specs.Paper.{Config, initial}
 use Rattle.runs.specs.Taken.{Status, Taken, caseOf, statusOf}
-use Rattle.monitor.specs.Feed.{logRecord}
-use Rattle.monitor.specs.Runs.{logged}
+use Rattle.chart_value.specs.Records.{logRecord, logged}
 use Rattle.judge.specs.declared.Verdict.{Verdict}
 use Rattle.judge.specs.Judge.{judgeOf}
 use Rattle.claims.specs.Examples.{chartU}

@@ -5,15 +5,14 @@ use mathlib.Core.List.{[], _∷_}
 use mathlib.Core.Option.{some}
 use Prim.Native.Nat.{ℕ}
 use Rattle.model.specs.declared.Record.{Record}
-use Rattle.rounds.specs.Base.{Snoc, ε, _▸_}
+use Rattle.base.specs.Lists.{Snoc, ε, _▸_}
 use Rattle.rounds.specs.Chart.{Chart}
 use Rattle.rounds.specs.Rows.{Row, plain, NoRow, LawfulButLast}
 use Rattle.rounds.specs.Feeds.{timeFalls, noReadyRegion, Outcome, dropped, broken, behindBreak, Ends, refused, toldDropped, toldBroken, entered, moved, quiet, Onward, Fed}
 use Rattle.rounds.specs.Machine.{after}
 use Rattle.runs.specs.Paper.{Config, Letter, message, silent, delay, initial, Advance, by, Prompt, Over, spelled}
 use Rattle.runs.specs.Taken.{Turn, statusOf}
-use Rattle.monitor.specs.Feed.{logRecord}
-use Rattle.monitor.specs.Runs.{logged}
+use Rattle.chart_value.specs.Records.{logRecord, logged}
 use Rattle.witness_rounds.specs.Charts.{passed, undo, headings, references, ask, pass, answer}
 use Rattle.witness_rounds.specs.Rounds.{U, A, configOf, statusAs, TakenBy, RoundShown, roundU, keptA, droppedA, brokenA, keptB, droppedB, brokenB}
 

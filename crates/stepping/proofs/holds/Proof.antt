@@ -7,7 +7,7 @@ use lib.ListN.{getD}
 use borrow.Author.Tests.{not-true, not-false}
 use borrow.Author.Needs.{needs}
 use Rattle.model.specs.Chart.{mostTerms}
-use Rattle.stepping.proofs.Loops.{SoFar, at-start, one-more, all-pass, rest-pass, one-fails}
+use Rattle.base.proofs.Loops.{SoFar, at-start, one-more, all-pass, rest-pass, one-fails}
 use Rattle.stepping.proofs.Terms.{heldAt, terms-end, term-held, condition-tested}
 use Rattle.stepping.proofs.holds.Statement.{statement}
 use Rattle.stepping.proofs.holds.Tie as tie

@@ -8,7 +8,7 @@ use borrow.Author.Needs.{needs}
 use borrow.Author.Tests.{eq-eqb, ne-eqb}
 use Rattle.model.specs.Chart.{mostRegions}
 use Rattle.stepping.specs.Parts.{Covers}
-use Rattle.stepping.proofs.Loops.{one-passes, none-some}
+use Rattle.base.proofs.Loops.{one-passes, none-some}
 use Rattle.stepping.proofs.Skips.{Run, run-of, run-grows, Skips, skips-start, not-first, skips-more, all-skipped, known-start, known-left}
 use Rattle.stepping.proofs.is_known.Statement.{statement}
 use Rattle.stepping.proofs.is_known.Tie as tie

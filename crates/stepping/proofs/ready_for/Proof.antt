@@ -8,10 +8,10 @@ use lib.Dec.{eqb}
 use lib.ListN.{getD}
 use borrow.Author.Needs.{needs}
 use borrow.Author.Tests.{eq-eqb, ne-eqb}
-use Rattle.rounds.proofs.Facts.{and-of}
+use Rattle.base.proofs.Bools.{and-both}
 use Rattle.model.specs.Chart.{mostRegions}
 use Rattle.stepping.specs.Parts.{readyBy, Covers}
-use Rattle.stepping.proofs.Loops.{none-passes, first-passes}
+use Rattle.base.proofs.Loops.{none-passes, first-passes}
 use Rattle.stepping.proofs.Skips.{Run, run-of, run-grows, Skips, skips-start, not-first, skips-more, skipped, all-skipped, apart, ready-is, unready, message-start}
 use Rattle.stepping.proofs.ready_for.Statement.{statement}
 use Rattle.stepping.proofs.ready_for.Tie as tie
@@ -62,7 +62,7 @@ returns c = λ n W.
     let S = L .inv .1 n W in
     let q = apart _ _ _ _ (c .before .before .before .before .before .before .before .before .before .others .ensures) (c .before .before .before .before .before .before .before .before .join .ensures) .outside (L .i) (omega (arith, c .before .before .before .before .before .loop-test .taken)) (not-first S) in
     let l = W .within .own (L .i) (q .1) in
-    let e = and-of (eq-eqb _ _ (c .before .before .before .if1 .taken)) (ready-is (a .above .now) (a .fired) (L .i) (q .0) ∙ sym (c .before .subset .ensures) ∙ c .if2 .taken) in
+    let e = and-both (eq-eqb _ _ (c .before .before .before .if1 .taken)) (ready-is (a .above .now) (a .fired) (L .i) (q .0) ∙ sym (c .before .subset .ensures) ∙ c .if2 .taken) in
     sym (first-passes n (skipped S (omega (arith, l))) e l)
 
 cast-insert : tie.Need-cast-insert Inv-loop μ-loop

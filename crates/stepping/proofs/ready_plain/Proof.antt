@@ -5,11 +5,11 @@ use Prim.Native.Nat.{ℕ, _-_}
 use native.Mathlib.Omega.{arith}
 use borrow.Author.Needs.{needs}
 use Rattle.bitset.specs.Set.{contains}
-use Rattle.rounds.proofs.Facts.{and-of}
+use Rattle.base.proofs.Bools.{and-both}
 use Rattle.model.specs.Chart.{mostRegions}
 use Rattle.stepping.specs.View.{Within}
 use Rattle.stepping.specs.Parts.{readyBy}
-use Rattle.stepping.proofs.Loops.{none-passes, first-passes}
+use Rattle.base.proofs.Loops.{none-passes, first-passes}
 use Rattle.stepping.proofs.Skips.{Run, run-of, run-grows, Skips, skips-start, not-first, skips-more, skipped, all-skipped, apart, ready-is, unready, plain-start}
 use Rattle.stepping.proofs.ready_plain.Statement.{statement}
 use Rattle.stepping.proofs.ready_plain.Tie as tie
@@ -54,7 +54,7 @@ returns c = λ n W.
     let S = L .inv .1 n W in
     let q = apart _ _ _ _ (c .before .before .before .before .before .before .before .others .ensures) (c .before .before .before .before .before .before .join .ensures) .outside (L .i) (omega (arith, c .before .before .before .loop-test .taken)) (not-first S) in
     let l = W .own (L .i) (q .1) in
-    let e = and-of (q .1) (ready-is (a .above .now) (a .fired) (L .i) (q .0) ∙ sym (c .before .subset .ensures) ∙ c .if1 .taken) in
+    let e = and-both (q .1) (ready-is (a .above .now) (a .fired) (L .i) (q .0) ∙ sym (c .before .subset .ensures) ∙ c .if1 .taken) in
     sym (first-passes n (skipped S (omega (arith, l))) e l)
 
 cast-insert : tie.Need-cast-insert Inv-loop μ-loop

@@ -7,8 +7,9 @@ use Prim.Native.Nat.{ℕ, zero, suc, _+_, _≤_, _<_}
 use native.Mathlib.Decide.{decLt, ℕ-discrete}
 use native.Mathlib.Nat.{not-suc-le-zero}
 use native.Mathlib.Omega.{arith}
-use Rattle.rounds.specs.Base.{allBelow, someBelow, first}
-use Rattle.rounds.proofs.Facts.{split, clash, first-is, first-is-none, all-of, all-at}
+use Rattle.base.specs.Lists.{allBelow, someBelow, first}
+use Rattle.base.proofs.Bools.{split, clash}
+use Rattle.base.proofs.Facts.{first-is, first-is-none, all-of, all-at}
 
 -- the test gave b for every number below k
 pub record SoFar (t : ℕ → Bool) (b : Bool) (k : ℕ) : Type 0 where

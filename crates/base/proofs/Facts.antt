@@ -1,7 +1,7 @@
--- Facts on tests, on the lowest number that passes a test, and on lists that grow at their end. Assumes nothing.
-use mathlib.Core.Path.{_≡_, refl, sym, ap, _∙_}
+-- Facts on searches, on the lowest number that passes a test, and on lists that grow at their end. Assumes nothing.
+use mathlib.Core.Path.{_≡_, refl, ap}
 use mathlib.Core.Logic.{_⊎_, inl, inr}
-use mathlib.Core.Bool.{Bool, true, false, not, So, _&&_, _||_, true≢false, false≢true}
+use mathlib.Core.Bool.{Bool, false, not, So, _||_}
 use mathlib.Core.Option.{Option, none, some}
 use Prim.Native.Nat.{ℕ, zero, suc, _≤_, _<_}
 use native.Mathlib.Nat.{not-suc-le-zero}
@@ -9,37 +9,8 @@ use native.Mathlib.Omega.{arith}
 use native.Mathlib.Decide.{ℕ-discrete}
 use lib.Dec.{eqb}
 use borrow.Author.Tests.{eq-eqb, ne-eqb}
-use Rattle.rounds.specs.Base.{Snoc, ε, _▸_, size, each, allBelow, countBelow, first}
-
--- a test's value, with the equation
-pub split : (b : Bool) → (b ≡ true) ⊎ (b ≡ false)
-split true = inl refl
-split false = inr refl
-
-pub clash : {X : Type 0} {b : Bool} → b ≡ true → b ≡ false → X
-clash p q = absurd (true≢false (sym p ∙ q))
-
-pub and-of : {a b : Bool} → So a → So b → So (a && b)
-and-of p q = rw p q
-
-pub and-left : (a b : Bool) → So (a && b) → So a
-and-left true b h = refl
-and-left false b h = h
-
-pub and-right : (a b : Bool) → So (a && b) → So b
-and-right true b h = h
-and-right false b h = absurd (false≢true h)
-
-pub or-left : {a : Bool} (b : Bool) → So a → So (a || b)
-or-left b p = rw p
-
-pub or-right : (a : Bool) {b : Bool} → So b → So (a || b)
-or-right true p = refl
-or-right false p = p
-
-pub or-cases : (a b : Bool) → So (a || b) → So a ⊎ So b
-or-cases true b h = inl refl
-or-cases false b h = inr h
+use Rattle.base.proofs.Bools.{split, clash, and-both, and-left, and-right}
+use Rattle.base.specs.Lists.{Snoc, ε, _▸_, size, each, allBelow, countBelow, first}
 
 -- a search's value, with the equation
 pub found : {A : Type 0} (o : Option A) → (o ≡ none) ⊎ ((a : A) × (o ≡ some a))
@@ -108,7 +79,7 @@ first-is-none k t h = elim (found (first k t)) [
 
 pub all-of : (k : ℕ) (t : ℕ → Bool) → ((j : ℕ) → j < k → So (t j)) → So (allBelow k t)
 all-of zero t h = refl
-all-of (suc k) t h = and-of (all-of k t (λ j l. h j (omega arith))) (h k (omega arith))
+all-of (suc k) t h = and-both (all-of k t (λ j l. h j (omega arith))) (h k (omega arith))
 
 pub all-at : (k : ℕ) (t : ℕ → Bool) → So (allBelow k t) → (j : ℕ) → j < k → So (t j)
 all-at zero t h j l = absurd (not-suc-le-zero l)

@@ -1,11 +1,17 @@
 -- Tests taken apart and put together. Assumes nothing.
-use mathlib.Core.Path.{_≡_, refl, ap}
+use mathlib.Core.Path.{_≡_, refl, sym, ap, _∙_}
 use mathlib.Core.Logic.{_⊎_, inl, inr}
 use mathlib.Core.Bool.{Bool, true, false, true≢false, false≢true, _&&_, _||_}
 
 pub both : (x y : Bool) → (x && y) ≡ true → (x ≡ true) × (y ≡ true)
 both true y e = (refl, e)
 both false y e = absurd (false≢true e)
+
+pub and-left : (x y : Bool) → (x && y) ≡ true → x ≡ true
+and-left x y e = both x y e .0
+
+pub and-right : (x y : Bool) → (x && y) ≡ true → y ≡ true
+and-right x y e = both x y e .1
 
 pub and-both : {x y : Bool} → x ≡ true → y ≡ true → (x && y) ≡ true
 and-both e f = cc
@@ -31,3 +37,7 @@ or-neither e f = cc
 pub split : (b : Bool) → (b ≡ true) ⊎ (b ≡ false)
 split true = inl refl
 split false = inr refl
+
+-- both values at once
+pub clash : {X : Type 0} {b : Bool} → b ≡ true → b ≡ false → X
+clash p q = absurd (true≢false (sym p ∙ q))
