@@ -3,9 +3,9 @@ use mathlib.Core.Path.{_≡_, refl, sym, ap, subst, _∙_}
 use mathlib.Core.Bool.{Bool, true, false, cond, _||_}
 use mathlib.Core.Logic.{_↔_, inl, inr}
 use mathlib.Core.List.{List, _++_}
-use Prim.Native.Nat.{ℕ, _≤_, _<_}
+use Prim.Native.Nat.{ℕ, _≤_}
 use native.Mathlib.Omega.{arith}
-use borrow.Author.Tests.{not-true, eqb-false, lt-ltb, le-ltb}
+use borrow.Author.Tests.{not-true, eqb-false}
 use lib.Dec.{eqb, ltb, leb}
 use lib.ListN.{length, drop, length-append, length-drop}
 use lib.Seq.{drop-at}
@@ -27,16 +27,13 @@ use Rattle.stepping.specs.declared.FeedRefusal.the-variants.{NotAChart}
 use Rattle.stepping.specs.declared.Step.{Step}
 use Rattle.stepping.specs.Answers.{feedRefusalNumber, answerNumber, answerOf, isRefused, HandsBack}
 use Rattle.stepping.specs.Monitors.{monitorAt, stepOf}
-use Rattle.monitor.specs.Feed.{madeNumber, MadeOf, feedOf, refuse}
+use Rattle.monitor.specs.Feed.{feedOf, refuse}
 use Rattle.chart_value.specs.Records.{logRecord}
-use Rattle.monitor.specs.declared.Made.{Made}
 use Rattle.chart_value.specs.WellFormed.{wellFormed}
-use Rattle.chart_image.specs.ChartImage.{chartValue}
 use Rattle.text.specs.Text.{Wrote}
 use Rattle.image.specs.Image.{monitorSize, monitorBytes, monitorIn}
 use Rattle.image.proofs.Laws.{at-start, monitor-length}
-use Rattle.live.specs.Live.{chartIn, isBroken, bytesFed, tooShort, FedBy, Fed}
-use Rattle.live.specs.Images.{newNumber, newBytes, FedImage}
+use Rattle.live.specs.Live.{chartIn, isBroken, bytesFed, FedBy, Fed}
 use Rattle.live.proofs.Charts.{same-chart, live-exact, zero-refused}
 
 -- an answer that is told as 20
@@ -103,7 +100,7 @@ exactly-20 c m e s f = (
 )
 
 -- a monitor's image written at the start
-monitor-at-start : {l n : List ℕ} {j : ℕ} (m : Monitor) → Wrote l 0 (monitorBytes m) n j → monitorSize ≤ length l → n ≡ monitorBytes m ++ drop monitorSize l
+pub monitor-at-start : {l n : List ℕ} {j : ℕ} (m : Monitor) → Wrote l 0 (monitorBytes m) n j → monitorSize ≤ length l → n ≡ monitorBytes m ++ drop monitorSize l
 monitor-at-start {l} {n} m w h =
     let size = monitor-length m in
     at-start w (omega (arith, size)) ∙ ap (λ (x : ℕ). monitorBytes m ++ drop x l) size
@@ -176,29 +173,3 @@ fed-live {l} {n} {e} {r} c p h F = record {
   where
     exact : (wellFormed c ≡ false) ↔ (answerNumber (F .taken .answer) ≡ feedRefusalNumber NotAChart)
     exact = exactly-20 c (monitorIn l) e (F .taken) (F .fed)
-
--- the same by images
-pub image-short : (image : List ℕ) {l : List ℕ} (e : Record) → length l < monitorSize → FedImage image l e tooShort l
-image-short image e h = record { short = λ g. (refl, refl); by-chart = λ g. absurd (omega arith); none = λ g x. absurd (omega arith) }
-
-pub image-fed : {image l n : List ℕ} {e : Record} {r : ℕ} (c : Chart) → c ≡ chartValue image → monitorSize ≤ length l → FedBy c l e r n
-    → FedImage image l e r n
-unfolding chartValue
-image-fed {image} {l} {n} {e} {r} c p h F = record {
-  short = λ g. absurd (omega arith);
-  by-chart = λ g. subst (λ (c : Chart). FedBy c l e r n) p F;
-  none = λ g x. F .told ∙ exactly-20 c (monitorIn l) e (F .taken) (F .fed) .0 (ap wellFormed (p ∙ rw x) ∙ zero-refused);
-}
-
-pub new-short : (image l : List ℕ) → length l < monitorSize → (tooShort ≡ newNumber image l) × (l ≡ newBytes l)
-unfolding newNumber newBytes
-new-short image l h = let e = lt-ltb (length l) monitorSize h in (rw e, rw e)
-
-pub new-made : (image l : List ℕ) {n : List ℕ} {j : ℕ} (c : Chart) (made : Made) (r : ℕ) → monitorSize ≤ length l → c ≡ chartValue image → MadeOf c made
-    → r ≡ madeNumber (made .answer) → Wrote l 0 (monitorBytes (made .monitor)) n j → (r ≡ newNumber image l) × (n ≡ newBytes l)
-unfolding newNumber newBytes
-new-made image l {n} c made r h p M t w =
-    let e = le-ltb (length l) monitorSize h in (
-      rw e (t ∙ M .number ∙ ap (λ (c : Chart). cond (wellFormed c) 0 (feedRefusalNumber NotAChart)) p),
-      rw e (monitor-at-start (made .monitor) w h ∙ ap (λ (m : Monitor). monitorBytes m ++ drop monitorSize l) (M .monitor)),
-    )

@@ -4,7 +4,6 @@ use judge::Verdict;
 use model::Chart;
 use model::Monitor;
 use model::Record;
-use monitor::MadeAnswer;
 use stepping::Answer;
 use stepping::FeedRefusal;
 ghost use mathlib.Core.Path.{_≡_};
@@ -14,10 +13,8 @@ ghost use Rattle.text.specs.Text.{Wrote};
 ghost use Rattle.base.specs.Lists.{ε};
 ghost use Rattle.stepping.specs.Answers.{feedRefusalNumber, isRefused};
 ghost use Rattle.judge.specs.Judge.{zeroVerdict};
-ghost use Rattle.monitor.specs.Feed.{madeNumber};
 ghost use Rattle.image.specs.Image.{monitorSize};
 ghost use Rattle.live.specs.Live.{headSize, chartIn, liveSize, freshBytes, openedOf, bytesOpened, Holds, FedBy, Fed, standingBy, standingIn};
-ghost use Rattle.live.specs.Images.{FedImage, newNumber, newBytes};
 ghost use Rattle.live.specs.Runs.{LiveRun, RunsOn, LiveClaims};
 
 // The monitor's image and the chart's length.
@@ -124,7 +121,7 @@ fn is_refused(a: Answer) -> bool
 }
 
 // One record fed to the monitor whose image starts the bytes.
-fn feed_chart(chart: Chart, bytes: &mut [u8], e: Record) -> u8
+pub fn feed_chart(chart: Chart, bytes: &mut [u8], e: Record) -> u8
     requires { ⌜ monitorSize ≤ length (now bytes) ⌝ }
     ensures { λ r. ⌜ FedBy chart (now (bytes .entry)) e r (now (bytes .exit)) ⌝ }
 {
@@ -148,43 +145,6 @@ pub fn feed(live: &mut [u8], e: Record) -> u8
         return judge::NO_CHART;
     }
     feed_chart(chart_in(live), live, e)
-}
-
-// One record fed to a monitor by its image, for the chart value in a chart's image.
-pub fn feed_image(chart: &[u8], bytes: &mut [u8], e: Record) -> u8
-    ensures fed { λ r. ⌜ FedImage (now (chart .entry)) (now (bytes .entry)) e r (now (bytes .exit)) ⌝ }
-    ensures unchanged { λ r. ⌜ now (chart .exit) ≡ now (chart .entry) ⌝ }
-{
-    if bytes.len() < image::MONITOR_SIZE {
-        return TOO_SHORT;
-    }
-    feed_chart(chart_image::chart_at(chart), bytes, e)
-}
-
-// The number of the answer to making a monitor.
-fn made_number(a: MadeAnswer) -> u8
-    ensures { λ r. ⌜ r ≡ madeNumber a ⌝ }
-{
-    match a {
-        MadeAnswer::Fresh => 0,
-        MadeAnswer::NoChart => judge::NO_CHART,
-    }
-}
-
-// A monitor made for the chart value in a chart's image, put at the start of the bytes.
-pub fn new_image(chart: &[u8], bytes: &mut [u8]) -> u8
-    ensures number { λ r. ⌜ r ≡ newNumber (now (chart .entry)) (now (bytes .entry)) ⌝ }
-    ensures bytes { λ r. ⌜ now (bytes .exit) ≡ newBytes (now (bytes .entry)) ⌝ }
-    ensures unchanged { λ r. ⌜ now (chart .exit) ≡ now (chart .entry) ⌝ }
-{
-    if bytes.len() < image::MONITOR_SIZE {
-        return TOO_SHORT;
-    }
-    let made = monitor::new(chart_image::chart_at(chart));
-    let answer = made.answer;
-    let fresh = made.monitor;
-    image::put_monitor(bytes, fresh);
-    made_number(answer)
 }
 
 // A refusal with zeros for the verdict.

@@ -1,12 +1,9 @@
 -- What judging and printing return and write, in the numbers of document 01.
-use Prim.Native.Nat.{ℕ, suc}
+use Prim.Native.Nat.{ℕ}
 use mathlib.Core.Bool.{Bool, cond, _||_}
 use mathlib.Core.List.{List, [], _∷_, _++_}
 use lib.Dec.{eqb, leb, ltb}
 use lib.ListN.{length, drop}
-use Rattle.rounds.specs.Feeds.{mostRecords}
-use Rattle.judge.specs.declared.Checked.{Checked}
-use Rattle.judge.specs.declared.Checked.the-variants as checked
 use Rattle.listing.specs.declared.Part.{Part}
 use Rattle.listing.specs.declared.Part.the-variants.{Input, Chart, Log}
 use Rattle.listing.specs.declared.Report.{Report}
@@ -42,11 +39,6 @@ judgedOut report out = cond (ltb (length out) places) out (reportNumbers report 
 -- the numbers that judging returns: 0, a chart's refusal from 1 to 11, 12, or a log's, 22, 23, 30 or 31
 abbrev pub isJudgedNumber : ℕ → Bool
 isJudgedNumber n = leb n tooShort || (eqb n 22 || (eqb n 23 || (eqb n 30 || eqb n 31)))
-
--- how many records a log has that is checked without a fault; one more than the most where it is refused
-abbrev pub checkedCount : Checked → ℕ
-checkedCount (checked.Fine n) = n
-checkedCount (checked.Refused k offset) = suc mostRecords
 
 -- 0 printed, 12 where out may be too short
 abbrev pub printedNumber : Response → ℕ

@@ -1,5 +1,4 @@
 // The exported functions of whole logs. Numbers returned are document 01's; 0 is success, 12 a buffer with too few places.
-use judge::Checked;
 use listing::Part;
 use listing::Report;
 use live::TOO_SHORT;
@@ -11,12 +10,8 @@ ghost use mathlib.Core.List.{[], _∷_, _++_};
 ghost use Prim.Native.Nat.{_≤_};
 ghost use lib.ListN.{length, drop};
 ghost use Rattle.respond.specs.Respond.{partsReport, textOf, responseOf, bufferAfter, countOf};
-ghost use Rattle.judge.specs.Check.{checkLog};
 ghost use Rattle.numbers.specs.Numbers.{places};
-ghost use Rattle.lsc.specs.Lsc.{partNumber, reportNumbers, reportNumber, judgedNumber, judgedOut, isJudgedNumber, checkedCount, printedNumber};
-
-// The count of no log that is checked without a fault.
-const REFUSED: u32 = 1_000_001;
+ghost use Rattle.lsc.specs.Lsc.{partNumber, reportNumbers, reportNumber, judgedNumber, judgedOut, isJudgedNumber, printedNumber};
 
 // The number of the part that a refusal speaks of.
 fn part_number(part: Part) -> u64
@@ -87,18 +82,5 @@ pub extern "C" fn lsc_print(input: &[u8], out: &mut [u8], written: &mut u64) -> 
             *written = 0;
             TOO_SHORT
         }
-    }
-}
-
-// For tests: checks a whole log, and answers how many records it has; one more than the most where it is refused.
-#[no_mangle]
-pub extern "C" fn lsc_test_check(log: &[u8]) -> u32
-    ensures count { λ r. ⌜ r ≡ checkedCount (checkLog (now (log .entry))) ⌝ }
-    ensures unchanged { λ r. ⌜ now (log .exit) ≡ now (log .entry) ⌝ }
-{
-    let checked = judge::check_log(log);
-    match checked {
-        Checked::Fine(n) => n,
-        Checked::Refused(_, _) => REFUSED,
     }
 }

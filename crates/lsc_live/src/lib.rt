@@ -8,7 +8,6 @@ ghost use mathlib.Core.Path.{_≡_};
 ghost use lib.ListN.{length};
 ghost use Rattle.model.specs.declared.Record.the-variants.{Message as MessageAt, Time as TimeAt};
 ghost use Rattle.live.specs.Live.{liveSize, openedOf, bytesOpened, Holds, Fed, standingIn};
-ghost use Rattle.live.specs.Images.{newNumber, newBytes, FedImage};
 ghost use Rattle.lsc_live.specs.Lsc.{standingNumber, standingOut};
 
 // The bytes that a live monitor of a chart of so many bytes takes.
@@ -77,44 +76,4 @@ pub extern "C" fn lsc_standing(live: &[u8], out: &mut [u64]) -> u8
     }
     numbers::put_verdict(out, standing.verdict);
     0
-}
-
-// For tests: makes a monitor for the chart value in an image.
-#[no_mangle]
-pub extern "C" fn lsc_test_new(chart: &[u8], monitor: &mut [u8]) -> u8
-    ensures number { λ r. ⌜ r ≡ newNumber (now (chart .entry)) (now (monitor .entry)) ⌝ }
-    ensures bytes { λ r. ⌜ now (monitor .exit) ≡ newBytes (now (monitor .entry)) ⌝ }
-    ensures unchanged { λ r. ⌜ now (chart .exit) ≡ now (chart .entry) ⌝ }
-{
-    live::new_image(chart, monitor)
-}
-
-// For tests: feeds a message to a monitor by its image.
-#[no_mangle]
-pub extern "C" fn lsc_test_feed_message(
-    chart: &[u8],
-    monitor: &mut [u8],
-    source: u8,
-    destination: u8,
-    label: u16,
-    time: u32,
-) -> u8
-    ensures fed { λ r. ⌜ FedImage (now (chart .entry)) (now (monitor .entry)) (MessageAt (record { source = source; destination = destination; label = label }) (record { 0 = time })) r (now (monitor .exit)) ⌝ }
-    ensures unchanged { λ r. ⌜ now (chart .exit) ≡ now (chart .entry) ⌝ }
-{
-    let message = Message {
-        source,
-        destination,
-        label,
-    };
-    live::feed_image(chart, monitor, Record::Message(message, Moment(time)))
-}
-
-// For tests: feeds a record of time to a monitor by its image.
-#[no_mangle]
-pub extern "C" fn lsc_test_feed_time(chart: &[u8], monitor: &mut [u8], time: u32) -> u8
-    ensures fed { λ r. ⌜ FedImage (now (chart .entry)) (now (monitor .entry)) (TimeAt (record { 0 = time })) r (now (monitor .exit)) ⌝ }
-    ensures unchanged { λ r. ⌜ now (chart .exit) ≡ now (chart .entry) ⌝ }
-{
-    live::feed_image(chart, monitor, Record::Time(Moment(time)))
 }

@@ -4,10 +4,10 @@
 //! it to both sides and compares every number and every byte lent. An input that differs is
 //! shrunk and shown in hexadecimal with both answers, the seed and the input's number.
 //!
-//! `random` has the generators, `coverage` and `seen` count what was reached, and `image` has
-//! values in the library's form. `fast` is a judge in Rust that the benchmark runs beside the
-//! proved one; the reference is its test too.
-#![forbid(unsafe_code)]
+//! `random` has the generators, `coverage` and `seen` count what was reached, `image` has
+//! values in the library's form, and `testing` calls what takes them. `fast` is a judge in
+//! Rust that the benchmark runs beside the proved one; the reference is its test too.
+#![deny(unsafe_code)]
 
 pub mod charts;
 pub mod coverage;
@@ -21,6 +21,7 @@ pub mod measure;
 pub mod plot;
 pub mod random;
 pub mod seen;
+pub mod testing;
 
 use difference::Difference;
 use kinds::{Kind, KINDS};

@@ -49,34 +49,3 @@ extern "C" {
         out_length: usize,
     ) -> u8;
 }
-
-#[cfg(feature = "testing")]
-extern "C" {
-    pub fn lsc_test_new(
-        chart: *const u8,
-        chart_length: usize,
-        monitor: *mut u8,
-        monitor_length: usize,
-    ) -> u8;
-
-    pub fn lsc_test_feed_message(
-        chart: *const u8,
-        chart_length: usize,
-        monitor: *mut u8,
-        monitor_length: usize,
-        source: u8,
-        destination: u8,
-        label: u16,
-        time: u32,
-    ) -> u8;
-
-    pub fn lsc_test_feed_time(
-        chart: *const u8,
-        chart_length: usize,
-        monitor: *mut u8,
-        monitor_length: usize,
-        time: u32,
-    ) -> u8;
-
-    pub fn lsc_test_check(log: *const u8, log_length: usize) -> u32;
-}

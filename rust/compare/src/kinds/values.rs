@@ -6,7 +6,7 @@ use crate::difference::{same, Both, Hex};
 use crate::image::{Image, MONITOR_IMAGE};
 use crate::random::{self, Rng};
 use crate::seen::Seen;
-use lsc::call;
+use crate::testing;
 use lsc_reference::monitor::{feed, new};
 use lsc_reference::value::*;
 
@@ -40,9 +40,9 @@ pub fn make(rng: &mut Rng) -> (Vec<u8>, Vec<u8>) {
 /// Feeds a record to the images, whichever of the two it is.
 pub fn feed_images(chart: &[u8], monitor: &mut [u8], record: &RecordValue) -> u8 {
     match *record {
-        RecordValue::Time(time) => call::test_feed_time(chart, monitor, time),
+        RecordValue::Time(time) => testing::feed_time(chart, monitor, time),
         RecordValue::Message { message: m, time } => {
-            call::test_feed_message(chart, monitor, m.source, m.destination, m.label, time)
+            testing::feed_message(chart, monitor, m.source, m.destination, m.label, time)
         }
     }
 }
@@ -54,7 +54,7 @@ pub fn compare(image: &[u8], second: &[u8], seen: &mut Seen) -> Result<(), Both>
     check_feed(image, before, record, seen)?;
     for length in [0, MONITOR_IMAGE - 1] {
         let mut short = filled(length);
-        let said = call::test_new(image, &mut short);
+        let said = testing::new(image, &mut short);
         let fed = feed_images(image, &mut short, &record);
         let wanted = (12, 12, Hex(&filled(length)));
         same("a short monitor", (said, fed, Hex(&short)), wanted)?;
@@ -72,7 +72,7 @@ fn check_new(image: &[u8], seen: &mut Seen) -> Result<(), Both> {
     let mut wanted = filled(MONITOR_IMAGE + BEYOND);
     wanted[..MONITOR_IMAGE].fill(0);
     let mut monitor = filled(MONITOR_IMAGE + BEYOND);
-    let answer = call::test_new(image, &mut monitor);
+    let answer = testing::new(image, &mut monitor);
     let wanted = (made, Hex(&wanted));
     same("making a monitor", (answer, Hex(&monitor)), wanted)?;
     if made != 0 {

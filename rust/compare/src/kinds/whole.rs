@@ -4,6 +4,7 @@ use super::filled_places;
 use crate::difference::{same, Both};
 use crate::random::{self, Rng, Size};
 use crate::seen::Seen;
+use crate::testing;
 use lsc::{call, Part};
 use lsc_reference::log;
 use lsc_reference::reader::read_chart;
@@ -49,7 +50,7 @@ pub fn compare(chart: &[u8], log: &[u8], seen: &mut Seen) -> Result<(), Both> {
     let answer = call::judge(chart, log, &mut out);
     same("verdict and places", (answer, out), (number, after))?;
     let records = log::read_log(log).map_or(MAX_RECORDS + 1, |records| records.len() as u32);
-    same("records checked", call::test_check(log), records)?;
+    same("records checked", testing::check(log), records)?;
     if number == 0 {
         seen.standing(numbers[0]);
     } else {

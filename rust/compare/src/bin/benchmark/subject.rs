@@ -3,6 +3,7 @@
 use lsc::call;
 use lsc_compare::charts;
 use lsc_compare::fast;
+use lsc_compare::testing;
 use lsc_reference::log::read_log;
 use lsc_reference::reader::read_chart;
 use lsc_reference::value::{ChartValue, RecordValue};
@@ -76,7 +77,7 @@ pub fn reference(chart: &[u8], log: &[u8]) {
 
 /// The proved check of a log, without judging it.
 pub fn check(log: &[u8]) {
-    black_box(call::test_check(black_box(log)));
+    black_box(testing::check(black_box(log)));
 }
 
 /// The bare walk over a log.

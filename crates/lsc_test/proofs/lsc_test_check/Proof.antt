@@ -1,9 +1,9 @@
--- `lsc::lsc_test_check` meets its contract, by the check's answer. Assumes nothing.
+-- `lsc_test::lsc_test_check` meets its contract, by the check's answer. Assumes nothing.
 use mathlib.Core.Path.{sym, ap, _∙_}
-use Rattle.lsc.specs.Lsc.{checkedCount}
+use Rattle.lsc_test.specs.Checks.{checkedCount}
 use borrow.Author.Needs.{needs}
-use Rattle.lsc.proofs.lsc_test_check.Statement.{statement}
-use Rattle.lsc.proofs.lsc_test_check.Tie as tie
+use Rattle.lsc_test.proofs.lsc_test_check.Statement.{statement}
+use Rattle.lsc_test.proofs.lsc_test_check.Tie as tie
 
 check-log-requires : tie.Need-check-log-requires
 check-log-requires c κs = search needs

@@ -1,9 +1,9 @@
--- `live::feed_image` meets its contract: too few bytes, or one record fed for the chart in the image. Assumes nothing.
-use Rattle.live.proofs.Feeding.{image-short, image-fed}
+-- `lsc_test::feed_image` meets its contract: too few bytes, or one record fed for the image's chart. Assumes nothing.
+use Rattle.lsc_test.proofs.Laws.{image-short, image-fed}
 use mathlib.Core.Path.{refl}
 use borrow.Author.Needs.{needs}
-use Rattle.live.proofs.feed_image.Statement.{statement}
-use Rattle.live.proofs.feed_image.Tie as tie
+use Rattle.lsc_test.proofs.feed_image.Statement.{statement}
+use Rattle.lsc_test.proofs.feed_image.Tie as tie
 
 returns : tie.Need-returns
 returns c = (image-short _ (c .before .before .before .args .e) (c .if1 .taken), refl)
@@ -18,7 +18,9 @@ same-length : tie.Need-same-length
 same-length c = search needs
 
 returns-2 : tie.Need-returns-2
-returns-2 c = (image-fed _ (c .before .before .before .before .chart-at .ensures .0) (c .before .before .before .before .before .if1 .left) (c .before .before .feed-chart .ensures), refl)
+returns-2 c = let f = c .before .before in
+    let a = f .before .before in
+    (image-fed _ (a .chart-at .ensures .0) (a .before .if1 .left) (f .feed-chart .ensures), refl)
 
 pub feed-image-spec : {M : Type 1} → statement M
 feed-image-spec =

@@ -12,16 +12,18 @@ use Rattle.stepping.specs.declared.FeedRefusal.the-variants.{NotAChart}
 use Rattle.stepping.specs.Answers.{feedRefusalNumber}
 use Rattle.image.specs.Image.{monitorSize, monitorBytes}
 use Rattle.chart_image.specs.ChartImage.{isImage, chartValue}
 use Rattle.live.specs.Live.{tooShort, FedBy}
 
 -- 12 where the buffer has no room for a monitor, which then stays as it was; else 0 or 20, and a monitor of zeros
 unfoldable pub newNumber : List ℕ → List ℕ → ℕ
-newNumber image l = cond (ltb (length l) monitorSize) tooShort (cond (wellFormed (chartValue image)) 0 (feedRefusalNumber NotAChart))
+newNumber image l =
+    cond (ltb (length l) monitorSize) tooShort (cond (wellFormed (chartValue image)) 0 (feedRefusalNumber NotAChart))
 
 unfoldable pub newBytes : List ℕ → List ℕ
 newBytes l = cond (ltb (length l) monitorSize) l (monitorBytes zeroMonitor ++ drop monitorSize l)
 
--- One record fed to the bytes l, which are n afterwards: 12 where they are too few for a monitor; 20 where the chart's bytes are no image.
+-- One record fed to the bytes l, which are n afterwards: 12 where they are too few for a monitor; 20 where the chart's
+-- bytes are no image.
 pub record FedImage (image l : List ℕ) (e : Record) (number : ℕ) (n : List ℕ) : Type 0 where
   pub short : length l < monitorSize → (number ≡ tooShort) × (n ≡ l)
   pub by-chart : monitorSize ≤ length l → FedBy (chartValue image) l e number n

@@ -1,0 +1,98 @@
+// The exported functions that only tests use: a monitor made and fed by its image, and the check of a log.
+// Numbers returned are document 01's; 12 is a buffer with too few places.
+use judge::Checked;
+use live::TOO_SHORT;
+use model::Message;
+use model::Moment;
+use model::Record;
+use monitor::MadeAnswer;
+ghost use mathlib.Core.Path.{_≡_};
+ghost use Rattle.model.specs.declared.Record.the-variants.{Message as MessageAt, Time as TimeAt};
+ghost use Rattle.monitor.specs.Feed.{madeNumber};
+ghost use Rattle.judge.specs.Check.{checkLog};
+ghost use Rattle.lsc_test.specs.Images.{newNumber, newBytes, FedImage};
+ghost use Rattle.lsc_test.specs.Checks.{checkedCount};
+
+// The count of no log that is checked without a fault.
+const REFUSED: u32 = 1_000_001;
+
+// The number of the answer to making a monitor.
+fn made_number(a: MadeAnswer) -> u8
+    ensures { λ r. ⌜ r ≡ madeNumber a ⌝ }
+{
+    match a {
+        MadeAnswer::Fresh => 0,
+        MadeAnswer::NoChart => judge::NO_CHART,
+    }
+}
+
+// One record fed to a monitor by its image, for the chart value in a chart's image.
+fn feed_image(chart: &[u8], bytes: &mut [u8], e: Record) -> u8
+    ensures fed { λ r. ⌜ FedImage (now (chart .entry)) (now (bytes .entry)) e r (now (bytes .exit)) ⌝ }
+    ensures unchanged { λ r. ⌜ now (chart .exit) ≡ now (chart .entry) ⌝ }
+{
+    if bytes.len() < image::MONITOR_SIZE {
+        return TOO_SHORT;
+    }
+    live::feed_chart(chart_image::chart_at(chart), bytes, e)
+}
+
+// Makes a monitor for the chart value in an image.
+#[no_mangle]
+pub extern "C" fn lsc_test_new(chart: &[u8], monitor: &mut [u8]) -> u8
+    ensures number { λ r. ⌜ r ≡ newNumber (now (chart .entry)) (now (monitor .entry)) ⌝ }
+    ensures bytes { λ r. ⌜ now (monitor .exit) ≡ newBytes (now (monitor .entry)) ⌝ }
+    ensures unchanged { λ r. ⌜ now (chart .exit) ≡ now (chart .entry) ⌝ }
+{
+    if monitor.len() < image::MONITOR_SIZE {
+        return TOO_SHORT;
+    }
+    let made = monitor::new(chart_image::chart_at(chart));
+    let answer = made.answer;
+    let fresh = made.monitor;
+    image::put_monitor(monitor, fresh);
+    made_number(answer)
+}
+
+// Feeds a message to a monitor by its image.
+#[no_mangle]
+pub extern "C" fn lsc_test_feed_message(
+    chart: &[u8],
+    monitor: &mut [u8],
+    source: u8,
+    destination: u8,
+    label: u16,
+    time: u32,
+) -> u8
+    ensures fed { λ r. ⌜ FedImage (now (chart .entry)) (now (monitor .entry)) (MessageAt (record { source = source; destination = destination; label = label }) (record { 0 = time })) r (now (monitor .exit)) ⌝ }
+    ensures unchanged { λ r. ⌜ now (chart .exit) ≡ now (chart .entry) ⌝ }
+{
+    let message = Message {
+        source,
+        destination,
+        label,
+    };
+    feed_image(chart, monitor, Record::Message(message, Moment(time)))
+}
+
+// Feeds a record of time to a monitor by its image.
+#[no_mangle]
+pub extern "C" fn lsc_test_feed_time(chart: &[u8], monitor: &mut [u8], time: u32) -> u8
+    ensures fed { λ r. ⌜ FedImage (now (chart .entry)) (now (monitor .entry)) (TimeAt (record { 0 = time })) r (now (monitor .exit)) ⌝ }
+    ensures unchanged { λ r. ⌜ now (chart .exit) ≡ now (chart .entry) ⌝ }
+{
+    feed_image(chart, monitor, Record::Time(Moment(time)))
+}
+
+// Checks a whole log, and answers how many records it has; one more than the most where it is refused.
+#[no_mangle]
+pub extern "C" fn lsc_test_check(log: &[u8]) -> u32
+    ensures count { λ r. ⌜ r ≡ checkedCount (checkLog (now (log .entry))) ⌝ }
+    ensures unchanged { λ r. ⌜ now (log .exit) ≡ now (log .entry) ⌝ }
+{
+    let checked = judge::check_log(log);
+    match checked {
+        Checked::Fine(n) => n,
+        Checked::Refused(_, _) => REFUSED,
+    }
+}
