@@ -65,7 +65,7 @@ module _ (C : Chart) where
   pub data Ends (o : ℕ) (s : Snoc LogRecord) (e : LogRecord) : Outcome → Type 0 where
     -- W17: some lawful row has all regions
     complete : (r : Row) → Lawful C o (s ▸ e) r → Full C (stands r) → Ends o s e kept
-    -- W19: no row, not even with the last conditions waived; the row q before the record says which half it was
+    -- W19: no row, not even with the last conditions waived; the row q before the record says which phase it was
     unplaced-main : (q : Row) → NoRow C o (s ▸ e) → ((r : Row) → ¬ LawfulButLast C o s e r)
         → Lawful C o s q → PrechartDone C (stands q) → Ends o s e (broken noReadyRegion)
     unplaced-prechart : (q : Row) → NoRow C o (s ▸ e) → ((r : Row) → ¬ LawfulButLast C o s e r)
