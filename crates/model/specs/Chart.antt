@@ -13,7 +13,7 @@ use Rattle.model.specs.declared.Term.{Term}
 use Rattle.model.specs.declared.Region.{Region}
 use Rattle.model.specs.declared.Chart.{Chart}
 
--- A chart has 2 to 16 lines, 0 to 8 clocks, and 1 to 32 regions; a condition has 1 to 4 terms.
+-- C1 to C3, C9: how many lines, clocks, regions and terms there can be
 abbrev pub leastLines : ℕ
 leastLines = 2
 
@@ -29,7 +29,7 @@ mostRegions = 32
 abbrev pub mostTerms : ℕ
 mostTerms = 4
 
--- unused places hold zeros
+-- M3: what a place that is not in use holds
 abbrev pub zeroTerm : Term
 zeroTerm = record { left = Clock 0; relation = Less; n = 0 }
 
@@ -41,7 +41,13 @@ zeroChart = record { lines = 0; clocks = 0; prechart = 0; count = 0; regions = r
 
 -- what the logic reads past the end of a list of regions: each enum at its first variant, each array empty
 abbrev pub absentRegion : Region
-absentRegion = record { event = Message (record { source = 0; destination = 0; label = 0 }); terms = []; «term_count» = 0; hot = false; resets = 0 }
+absentRegion = record {
+  event = Message (record { source = 0; destination = 0; label = 0 });
+  terms = [];
+  «term_count» = 0;
+  hot = false;
+  resets = 0;
+}
 
 abbrev pub regionAt : Chart → ℕ → Region
 regionAt c i = getD (c .regions) i absentRegion
@@ -53,11 +59,11 @@ abbrev pub isPlain : Event → Bool
 isPlain (Plain l) = true
 isPlain (Message m) = false
 
--- a plain region with neither term nor reset
+-- C14 forbids it: no message, no term, no reset
 abbrev pub isBare : Region → Bool
 isBare g = isPlain (g .event) && (eqb (g .«term_count») 0 && eqb (g .resets) 0)
 
--- A message region touches its two lines. A plain region touches the lines it names.
+-- C7: the ends of the message, or exactly the lines that are named
 abbrev pub touches : Event → ℕ → Bool
 touches (Message m) k = eqb k (m .source) || eqb k (m .destination)
 touches (Plain l) k = contains l k

@@ -5,12 +5,18 @@ use Rattle.model.specs.declared.Tally.{Tally}
 use Rattle.model.specs.declared.Monitor.{Monitor}
 use Rattle.model.specs.Chart.{mostClocks}
 
--- "Fresh: nothing fired, all else zero."
+-- T2: no region is fired, and every number is 0
 abbrev pub zeroPlace : Place
 zeroPlace = record { fired = 0; resets = replicate mostClocks (record { 0 = 0 }) }
 
 abbrev pub zeroTally : Tally
-zeroTally = record { now = record { 0 = 0 }; records = 0; kept = 0; dropped = 0; broken = record { at = 0; reason = 0 } }
+zeroTally = record {
+  now = record { 0 = 0 };
+  records = 0;
+  kept = 0;
+  dropped = 0;
+  broken = record { at = 0; reason = 0 };
+}
 
 abbrev pub zeroMonitor : Monitor
 zeroMonitor = record { at = zeroPlace; tally = zeroTally }

@@ -2,7 +2,8 @@
 ghost use mathlib.Core.Path.{_≡_};
 ghost use Prim.Native.Nat.{ℕ, _-_, _<_, _≤_};
 ghost use Rattle.bitset.specs.Set.{contains};
-ghost use Rattle.model.specs.Chart.{zeroTerm, zeroRegion, zeroChart, isPlain, isBare, lineSet, touched, touches, mostLines};
+ghost use Rattle.model.specs.Chart.{zeroTerm, zeroRegion, zeroChart, isPlain, isBare, lineSet, touched, touches};
+ghost use Rattle.model.specs.Chart.{mostLines};
 ghost use Rattle.model.specs.Monitor.{zeroMonitor};
 
 pub const LEAST_LINES: u8 = 2;
@@ -20,10 +21,10 @@ pub const MOST_RECORDS: u32 = 1_000_000;
 // One place for each clock that a chart may have.
 pub const CLOCK_PLACES: usize = MOST_CLOCKS as usize;
 
-// A point in time, in ticks from the log's start.
+// A moment (C15): how many ticks the log is old.
 pub struct Moment(pub u32);
 
-// The time between two moments, in ticks.
+// A length (C15): the ticks between two moments.
 pub struct Length(pub u32);
 
 impl Moment {
@@ -133,7 +134,7 @@ pub fn is_plain(e: Event) -> bool
     }
 }
 
-// A plain region with neither term nor reset.
+// No message, no term, no reset: C14 forbids it.
 pub fn is_bare(g: Region) -> bool
     ensures { λ r. ⌜ r ≡ isBare g ⌝ }
 {
@@ -177,7 +178,7 @@ pub struct Break {
     pub reason: u8,
 }
 
-// The last record's time, the counts of records, kept rounds and dropped rounds, and the break.
+// Now, which is the time of the last record; how many records, kept and dropped rounds there were; the break.
 pub struct Tally {
     pub now: Moment,
     pub records: u32,
@@ -192,7 +193,7 @@ pub struct Monitor {
     pub tally: Tally,
 }
 
-// Nothing fired, all else zero.
+// T2: no region is fired, and every number is 0.
 pub fn zero_monitor() -> Monitor
     ensures { λ r. ⌜ r ≡ zeroMonitor ⌝ }
 {

@@ -1,4 +1,6 @@
--- A stretch ends in one way only, or runs on; and the machine's step on an accepted record does what the rows say. Assumes nothing.
+-- A stretch ends in one way only (W14), or runs on: two ways to end would be two rows, or a row and none, where at most
+-- one is lawful. And the machine's step on an accepted record does what the rows say, by its move's meaning.
+-- Assumes nothing.
 use mathlib.Core.Path.{_≡_, refl, sym, ap, _∙_, subst}
 use mathlib.Core.Logic.{inl, inr}
 use mathlib.Core.Bool.{cond}
@@ -17,6 +19,7 @@ use Rattle.rounds.proofs.Moments.{chartMessages-skip}
 use Rattle.rounds.proofs.Rows.{lawful-after, one-row, one-row-waived}
 use Rattle.rounds.proofs.Rounds.{placeOf, Means, unplaced, failed, grown, move-means}
 
+-- from one row to another there is one answer
 pub onward-same : {C : Chart} {q r : Row} {a b : Answer} → Onward C q r a → Onward C q r b → a ≡ b
 onward-same (completes-prechart h k) (completes-prechart h′ k′) = refl
 onward-same (completes-prechart h k) (fires lt f) = absurd (h (f k))
@@ -45,6 +48,7 @@ module _ (C : Chart) (A : Accepted C) (o : ℕ) (s : Snoc LogRecord) (e : LogRec
   way (fails-hot r i N W f h) = untrue r i N W f (rw h)
   way (fails-cold r i N W f h) = untrue r i N W f (rw h)
 
+  -- two ways to end have one outcome, since no stretch has two rows
   same-way : {x y : Outcome} → Way x → Way y → x ≡ y
   unfolding NoRow
   same-way (whole r L F p) (whole r′ L′ F′ p′) = p ∙ sym p′
@@ -81,6 +85,7 @@ module _ (C : Chart) (A : Accepted C) (o : ℕ) (s : Snoc LogRecord) (e : LogRec
     drops : Ends C o s e dropped → Comes m (dropRound C m e)
     breaks : (k : ℕ) (p : Place) → Ends C o s e (broken k) → Comes m (breakRound C m e k p)
 
+  -- by what the move means, case by case
   comes-move : (m : Monitor) (v : Move) → m .at .fired ≡ stands q → Means C o s q e v → Comes m (conclude C m e v)
   unfolding conclude placeOf
   comes-move m v at (unplaced N W) = elim (split (prechartDone C (stands q))) [
@@ -104,6 +109,7 @@ module _ (C : Chart) (A : Accepted C) (o : ℕ) (s : Snoc LogRecord) (e : LogRec
     ]
   ]
 
+  -- the monitor's place is the one that the row shows
   place-same : (m : Monitor) → m .at .fired ≡ stands q → m .at .clocks ≡ resetMoment C o (chartMessages C s) q
       → m .at ≡ placeOf C o (chartMessages C s) q
   unfolding placeOf

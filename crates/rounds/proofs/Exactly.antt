@@ -1,4 +1,5 @@
--- Up to each record of each stretch: kept, running on, and dropped or broken, each exactly if the rows say so. Assumes nothing.
+-- W24: kept, running on, and dropped or broken, each exactly if the rows say so, after each record of each stretch.
+-- Assumes nothing.
 use mathlib.Core.Path.{_≡_, refl, ap}
 use mathlib.Core.Logic.{_≢_}
 use mathlib.Core.Bool.{false, So, true≢false, false≢true}

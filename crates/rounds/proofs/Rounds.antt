@@ -1,5 +1,6 @@
--- What the machine makes of one more chart message, behind the lawful row of the stretch so far: its settling is that of rows, and
--- its move says whether the stretch with the message has a lawful row. Assumes nothing.
+-- What the machine makes of one more chart message, after the lawful row of the stretch so far. Its settling is that of
+-- rows, region by region; every lawful row for the longer stretch goes through the row before and the message's region;
+-- so the machine's move says whether there is such a row. Assumes nothing.
 use mathlib.Core.Path.{_≡_, refl, sym, ap, _∙_}
 use mathlib.Core.Logic.{inl, inr}
 use mathlib.Core.Bool.{Bool, false, cond, So}
@@ -23,9 +24,11 @@ use Rattle.rounds.proofs.Rows.{codes, as-many, strict-early, waived-ear
 unfoldable pub placeOf : Chart → ℕ → Snoc LogRecord → Row → Place
 placeOf C o l r = record { fired = stands r; clocks = resetMoment C o l r }
 
+-- coming to rest is no failing
 rest-fail : {X : Type 0} {r q : Row} {i : ℕ} → restsAt r ≡ failsAt q i → X
 rest-fail p = absurd (let z : _≡_ {A = ℕ} 0 1 = cc in omega arith)
 
+-- a row's settling, as the machine's move
 asMove : Chart → ℕ → Snoc LogRecord → RowMove → Move
 asMove C o l (failsAt r i) = fails i (placeOf C o l r)
 asMove C o l (restsAt r) = rests (placeOf C o l r)
@@ -60,6 +63,7 @@ module _ (C : Chart) (o : ℕ) (l : Snoc LogRecord) (t : ℕ) where
           ]
     ]
 
+-- which condition of a row fails first
 module _ (C : Chart) (o : ℕ) (l : Snoc LogRecord) where
   all-hold : (r : Row) → EachIn (Placed C (holds C o l)) r → firstFailing C o l r ≡ none
   unfolding firstFailing
@@ -75,11 +79,12 @@ module _ (C : Chart) (o : ℕ) (l : Snoc LogRecord) where
   fails-still ok stop h = h
   fails-still ok (more w e t) h = rw (fails-still ok w h)
 
+-- settling shortens no row
 longer : (C : Chart) (ok : Row → ℕ → Bool) {b r : Row} → Plains C ok b r → size b ≤ size r
 longer C ok stop = omega arith
 longer C ok (more w e t) = omega (arith, longer C ok w)
 
--- what the machine's move on the record e means, behind the row q of s
+-- what the machine's move on the record e means, after the row q of s
 pub data Means (C : Chart) (o : ℕ) (s : Snoc LogRecord) (q : Row) (e : LogRecord) : Move → Type 0 where
   unplaced : NoRow C o (s ▸ e) → ((r : Row) → ¬ LawfulButLast C o s e r) → Means C o s q e stuck
   failed : (p : Row) (i : ℕ) (r : Row) → NoRow C o (s ▸ e) → LawfulButLast C o s e r
@@ -87,6 +92,7 @@ pub data Means (C : Chart) (o : ℕ) (s : Snoc LogRecord) (q : Row) (e : LogReco
       → Means C o s q e (fails i (placeOf C o (chartMessages C (s ▸ e)) p))
   grown : (r : Row) → Lawful C o (s ▸ e) r → size q < size r → Means C o s q e (rests (placeOf C o (chartMessages C (s ▸ e)) r))
 
+-- one more chart message e, and the lawful row q of the stretch s before it
 module _ (C : Chart) (A : Accepted C) (o : ℕ) (s : Snoc LogRecord) (e : LogRecord) (chart : So (chartMessage C e)) (q : Row)
     (lawful : Lawful C o s q) where
   abbrev l : Snoc LogRecord
@@ -218,7 +224,7 @@ module _ (C : Chart) (A : Accepted C) (o : ℕ) (s : Snoc LogRecord) (e : LogRec
           (fails-here q m placed-q (placed-m loose (waived-last q m last-m)) t codes-m last-m (λ r M. clash (lawful-settles r M .0) t))
     ]
 
-  -- the machine's move on a chart message, behind the lawful row of the stretch so far
+  -- the machine's move on a chart message, after the lawful row of the stretch so far
   pub move-means : Means C o s q e (place C (placeOf C o (chartMessages C s) q) e)
   unfolding NoRow Lawful LawfulButLast placeOf
   move-means = rw (← place-q) (elim (found (readyFor C (stands q) e)) [

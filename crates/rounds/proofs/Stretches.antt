@@ -1,4 +1,5 @@
--- Each stretch of a list's meaning, by the feeds that made it: the round ran on up to each record before its end. Assumes nothing.
+-- Each stretch of a list's meaning, by the feeds that made it: the round ran on up to each record before its end.
+-- Assumes nothing.
 use mathlib.Core.Path.{_≡_, refl, subst}
 use Prim.Native.Nat.{ℕ}
 use Rattle.base.specs.Lists.{Snoc, ε, _▸_, EachIn, all-of-it, shorter}

@@ -1,4 +1,4 @@
--- Rows that are written out: one that passes a test is lawful, and the machine's move says where there is none.
+-- Rows that are written out: one that passes a test is lawful, and the machine's move says where no row is.
 -- Assumes nothing.
 use mathlib.Core.Path.{_≡_}
 use mathlib.Core.Logic.{inl, inr}
@@ -19,7 +19,7 @@ use Rattle.rounds.proofs.Rows.{codes}
 use Rattle.rounds.proofs.Rounds.{placeOf, Means, unplaced, failed, move-means}
 
 module _ (C : Chart) (ok : Row → ℕ → Bool) where
-  -- if a plain region could stand behind p, region i is plain and not higher than the lowest such
+  -- if a plain region could stand after p, region i is plain and not higher than the lowest such
   unfoldable pub promptTest : Row → ℕ → Bool
   promptTest p i = onFound (readyPlain C (stands p)) true (λ j. plain C i && leb i j)
 
@@ -80,7 +80,7 @@ module _ (C : Chart) (A : Accepted C) (o : ℕ) (s : Snoc LogRecord) where
   unfolding LawfulButLast
   waived-tested e r m h n = tested C (waived C o s e) A (s ▸ e) r m h n
 
--- one more chart message, behind the lawful row q of the stretch s
+-- one more chart message, after the lawful row q of the stretch s
 module _ (C : Chart) (A : Accepted C) (o : ℕ) (s : Snoc LogRecord) (e : LogRecord) (q : Row) (lawful : Lawful C o s q)
     (chart : So (chartMessage C e)) where
   abbrev move : Move

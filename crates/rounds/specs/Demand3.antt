@@ -1,22 +1,24 @@
--- The members' third demand, of one chart: its sentences on lists of feeds, with document 01's on the monitor after the list.
+-- The third demand, of one chart: the rules on lists of feeds, rows and stretches (W9 to W29).
 use mathlib.Core.Path.{_≡_}
 use mathlib.Core.Logic.{_≢_}
 use mathlib.Core.Option.{none}
 use Prim.Native.Nat.{ℕ}
 use Rattle.base.specs.Lists.{Snoc, _▸_, size, EachIn, Beginning}
 use Rattle.rounds.specs.Chart.{Chart}
-use Rattle.rounds.specs.Rows.{LogRecord, Row, stands, chartMessages, resetMoment, Lawful, NoRow, Full, LawfulButLast}
-use Rattle.rounds.specs.Feeds.{lastMoment, refusal, Stretch, Last, unended, behindBreak, Ends, Answer, Fed, keptAmong, droppedAmong, Exactly}
+use Rattle.rounds.specs.Rows.{LogRecord, Row, stands, chartMessages, resetMoment, Lawful, NoRow, Full}
+use Rattle.rounds.specs.Rows.{LawfulButLast}
+use Rattle.rounds.specs.Feeds.{lastMoment, refusal, Stretch, Last, unended, behindBreak, Ends, Answer, Fed}
+use Rattle.rounds.specs.Feeds.{keptAmong, droppedAmong, Exactly}
 use Rattle.rounds.specs.Machine.{Monitor, feed, after, answers, Fit}
 
--- "the break is zeros, or the number of accepted records and the broken stretch's reason": behind a broken stretch, the latter
+-- W27, after a broken stretch: how many records were accepted, and its reason
 pub record Broken (k : ℕ) (rs : Snoc LogRecord) (m : Monitor) : Type 0 where
   pub at-last-accepted : m .tally .broken .at ≡ size rs
   pub not-zero : m .tally .broken .at ≢ 0
   pub of-stretch : m .tally .broken .reason ≡ k
 
 module _ (C : Chart) where
-  -- in an unended one, zeros; and "an unended last stretch's row has exactly the fired regions", with the monitor's clocks
+  -- W27, W28, if the last one is not broken: no break, and the monitor has the regions and clocks of its row
   pub record Unbroken (o : ℕ) (s : Snoc LogRecord) (m : Monitor) : Type 0 where
     pub row : Row
     pub lawful : Lawful C o s row
@@ -31,7 +33,7 @@ module _ (C : Chart) where
   AtLast (unended o s) rs m = Unbroken o s m
   AtLast (behindBreak k) rs m = Broken k rs m
 
-  -- "the monitor's kept, dropped and break are what the stretches give", and so are its time and its count of records
+  -- W26: counts and time, each as the accepted records and the stretches have it; the rest by W27 and W28
   pub record Agrees (rs : Snoc LogRecord) (es : Snoc Stretch) (last : Last) (m : Monitor) : Type 0 where
     pub now : m .tally .now ≡ lastMoment rs
     pub records : m .tally .records ≡ size rs
@@ -39,11 +41,11 @@ module _ (C : Chart) where
     pub dropped : m .tally .dropped ≡ droppedAmong es
     pub at-last : AtLast last rs m
 
-  -- up to each of these records the round runs on: a lawful row lacks a region
+  -- W14: after each of these records there is a lawful row that lacks a region, so that the round runs on
   unfoldable pub RunsOn : ℕ → Snoc LogRecord → Type 0
   RunsOn o s = (p : Snoc LogRecord) → Beginning p s → (r : Row) × Lawful C o p r × (¬ Full C (stands r))
 
-  -- an ended stretch: up to each record before its last the round ran on, and at its last it ends with its outcome
+  -- W14: before its last record the round ran on each time, and with that record it ends as its outcome says
   pub record Ended (x : Stretch) : Type 0 where
     pub before : Snoc LogRecord
     pub last : LogRecord
@@ -66,22 +68,24 @@ module _ (C : Chart) where
     pub same-last : M .last ≡ M′ .last
 
 pub record Demand3 (C : Chart) : Type 0 where
-  -- "every list of feeds from a fresh monitor, refused ones included, whatever was sent and when" has a meaning, and only one
+  -- W10 to W16: each list of feeds has a meaning, and only one
   pub cut-exists : (fs : Snoc LogRecord) → Meaning C fs
   pub cut-unique : {fs : Snoc LogRecord} (M M′ : Meaning C fs) → Same C M M′
-  -- "up to each record of each of its stretches", here of the list fs and then e: the three "exactly", of what the machine answers
-  pub exactly : {fs : Snoc LogRecord} (M : Meaning C fs) (o : ℕ) (s : Snoc LogRecord) (e : LogRecord) → M .last ≡ unended o s
+  -- W24: the answer to one more accepted record, after the list fs
+  pub exactly : {fs : Snoc LogRecord} (M : Meaning C fs) (o : ℕ) (s : Snoc LogRecord) (e : LogRecord)
+      → M .last ≡ unended o s
       → refusal (M .accepted) e ≡ none → Exactly C o s e (feed C (after C fs) e .answer)
-  -- the same of the stretches themselves: each ended one as its outcome says, and the last one, unended, at each of its records
+  -- W24, of the stretches themselves: of each that has ended, and of the last one at each of its records
   pub each-stretch : {fs : Snoc LogRecord} (M : Meaning C fs) → EachIn (λ before x. Ended C x) (M .stretches)
-  pub last-stretch : {fs : Snoc LogRecord} (M : Meaning C fs) (o : ℕ) (s : Snoc LogRecord) → M .last ≡ unended o s → RunsOn C o s
-  -- "No stretch has two lawful rows."
+  pub last-stretch : {fs : Snoc LogRecord} (M : Meaning C fs) (o : ℕ) (s : Snoc LogRecord)
+      → M .last ≡ unended o s → RunsOn C o s
+  -- W9: a stretch has one lawful row at most
   pub one-row : (o : ℕ) (s : Snoc LogRecord) (r r′ : Row) → Lawful C o s r → Lawful C o s r′ → r ≡ r′
-  -- nor has an ended one two rows with the conditions at its last record waived
+  -- W18: and so does one that has ended, where the last conditions are waived
   pub one-row-waived : (o : ℕ) (s : Snoc LogRecord) (e : LogRecord) (q : Row) → Lawful C o s q → NoRow C o (s ▸ e)
       → (r r′ : Row) → LawfulButLast C o s e r → LawfulButLast C o s e r′ → r ≡ r′
-  -- "After the list the monitor's kept, dropped and break are what the stretches give"; and so is every answer
+  -- W22 to W28: every answer, and the monitor in the end
   pub monitor-agrees : {fs : Snoc LogRecord} (M : Meaning C fs)
       → (answers C fs ≡ M .told) × Agrees C (M .accepted) (M .stretches) (M .last) (after C fs)
-  -- refusal 21 meets no monitor that feeding handed back
+  -- W29: refusal 21 never occurs
   pub stays-fit : (fs : Snoc LogRecord) → Fit C (after C fs)

@@ -1,4 +1,4 @@
--- Document 01, "How a record is taken": its steps 1 to 7 as a machine over an abstract chart, and what a fit monitor is.
+-- T1 to T30 as a machine over an abstract chart, step by step, and which monitors are fit (M10).
 use mathlib.Core.Path.{_≡_}
 use mathlib.Core.Logic.{_⊎_}
 use mathlib.Core.Bool.{Bool, false, not, cond, So, _&&_, _||_}
@@ -9,19 +9,20 @@ use Rattle.base.specs.Lists.{Snoc, ε, _▸_, allBelow, countBelow, first, onFo
 use Rattle.rounds.specs.Chart.{Chart}
 use Rattle.rounds.specs.Rows.{LogRecord, chartMessage, plain, Ready, Full, values, opened}
 use Rattle.rounds.specs.Tally.{Tally, freshTally, counted, countedKept, countedDropped, countedBroken}
-use Rattle.rounds.specs.Feeds.{timeFalls, tooManyRecords, mostRecords, noReadyRegion, conditionFails, Answer, refused, toldBroken, toldKept, toldDropped, entered, moved, quiet}
+use Rattle.rounds.specs.Feeds.{timeFalls, tooManyRecords, mostRecords, noReadyRegion, conditionFails, Answer}
+use Rattle.rounds.specs.Feeds.{refused, toldBroken, toldKept, toldDropped, entered, moved, quiet}
 
--- "the set of fired regions, each clock's reset moment"
+-- T1: which regions are fired, and when each clock was last reset
 pub record Place : Type 0 where
   pub fired : ℕ → Bool
   pub clocks : ℕ → ℕ
 
--- with "now, the counts of records, kept rounds and dropped rounds, and the break (record and reason, zeros if none)": the tally
+-- T1: a place, and the tally with now, the counts and the break
 pub record Monitor : Type 0 where
   pub at : Place
   pub tally : Tally
 
--- "Fresh: nothing fired, all else zero."
+-- T2: no region is fired, and every number is 0
 abbrev pub fresh : Monitor
 fresh = record { at = record { fired = λ i. false; clocks = λ c. 0 }; tally = freshTally }
 
@@ -30,27 +31,27 @@ pub record Step : Type 0 where
   pub answer : Answer
   pub next : Monitor
 
--- what steps 3 and 4 come to: no ready region has the message; a region's condition fails, at the place before it; or nothing
--- more is ready
+-- what steps 3 and 4 come to: no ready region has the message; a region's condition fails, at the place before it; or
+-- nothing more is ready
 pub data Move : Type 0 where
   stuck : Move
   fails : ℕ → Place → Move
   rests : Place → Move
 
 module _ (C : Chart) where
-  -- "A region is ready if it isn't fired and all above it are."
+  -- O5: not fired, while each region above is
   unfoldable pub ready : (ℕ → Bool) → ℕ → Bool
   ready fired i = not (fired i) && allBelow (C .regions) (λ a. not (C .above a i) || fired a)
 
-  -- step 3: "a ready region that has it"
+  -- T11: the ready region with the record's message
   unfoldable pub readyFor : (ℕ → Bool) → LogRecord → Option ℕ
   readyFor fired e = first (C .regions) (λ i. eqb (C .key i) (e .code) && ready fired i)
 
-  -- step 4: of the ready plain regions, "the lowest-numbered"
+  -- T13: the lowest plain region that is ready
   unfoldable pub readyPlain : (ℕ → Bool) → Option ℕ
   readyPlain fired = first (C .regions) (λ i. plain C i && ready fired i)
 
-  -- "the region fires, then resets", at moment t
+  -- T12: region i is fired at moment t, and its clocks are reset
   unfoldable pub fire : ℕ → Place → ℕ → Place
   fire t p i = record { fired = λ j. eqb j i || p .fired j; clocks = λ c. cond (C .resets i c) t (p .clocks c) }
 
@@ -58,37 +59,37 @@ module _ (C : Chart) where
   unfoldable pub unfired : (ℕ → Bool) → ℕ
   unfired fired = countBelow (C .regions) (λ i. not (fired i))
 
-  -- step 4: "While a plain region is ready, the lowest-numbered is tested and fired likewise, at the same moment" t. The second
-  -- number bounds the turns of the loop.
+  -- T13 to T15: plain regions are tested and fired at moment t until none is ready. The second number bounds the turns
+  -- of the loop.
   unfoldable pub settle : ℕ → ℕ → Place → Move
   settle t zero p = rests p
   settle t (suc k) p = onFound (readyPlain (p .fired)) (rests p)
       (λ i. cond (C .condition i (values C t (p .clocks))) (settle t k (fire t p i)) (fails i p))
 
-  -- step 3, "the condition is tested on the clocks before the region's own resets", then step 4
+  -- T11, T12: the message's region is tested and fired, its resets come after the test; then T13
   unfoldable pub place : Place → LogRecord → Move
   place p e = onFound (readyFor (p .fired) e) stuck
       (λ i. cond (C .condition i (values C (e .time) (p .clocks)))
       (let q = fire (e .time) p i in settle (e .time) (unfired (q .fired)) q)
       (fails i p))
 
-  -- "the opening: nothing fired, every clock reset at that moment"
+  -- T22: how a round opens at moment t
   unfoldable pub opening : ℕ → Place
   opening t = record { fired = λ i. false; clocks = opened C t }
 
-  -- "all regions are fired"
+  -- T17: no region is left to fire
   unfoldable pub full : (ℕ → Bool) → Bool
   full fired = allBelow (C .regions) fired
 
-  -- "The phase is prechart while a prechart region is unfired, else main."
+  -- T6: the phase is main
   unfoldable pub prechartDone : (ℕ → Bool) → Bool
   prechartDone fired = allBelow (C .prechart) fired
 
-  -- Step 1, "The record is counted; now becomes its time", in each of the four that follow. The round runs on at place p:
+  -- Each of the four that follow counts the record and moves now (T9). The round runs on at place p:
   unfoldable pub goOn : Monitor → LogRecord → Answer → Place → Step
   goOn m e a p = record { answer = a; next = record { at = p; tally = counted (m .tally) (e .time) } }
 
-  -- "Kept or dropped returns to the opening"
+  -- T17, T18: one more round is kept, or dropped, and another opens
   unfoldable pub keepRound : Monitor → LogRecord → Step
   keepRound m e = record {
     answer = toldKept;
@@ -101,29 +102,26 @@ module _ (C : Chart) where
     next = record { at = opening (e .time); tally = countedDropped (m .tally) (e .time) };
   }
 
-  -- "A break stores its record and reason; fired regions and clocks are those just before the failing region, or, for reason 1,
-  -- before the record": the place p.
+  -- T23 to T25: the break has this record and reason k, and place p stays
   unfoldable pub breakRound : Monitor → LogRecord → ℕ → Place → Step
   breakRound m e k p = record {
     answer = toldBroken (suc (m .tally .records)) k;
     next = record { at = p; tally = countedBroken (m .tally) (e .time) k };
   }
 
-  -- Step 6, "A chart message with no ready region: in the prechart the round is dropped, also if nothing was fired", "In the main chart
-  -- the round is broken, reason 1." Step 7, "A condition that fails: cold, the round is dropped; hot, broken, reason 2." Step 5, "When
-  -- all regions are fired, the round is kept"; otherwise "entered (the prechart was completed), moved (something fired)".
+  -- T18, T19: stuck, which is a drop or a break by the phase. T21: a condition fails, cold or hot. T17: at rest with
+  -- all regions fired; else T28, T29.
   unfoldable pub conclude : Monitor → LogRecord → Move → Step
   conclude m e stuck = cond (prechartDone (m .at .fired)) (breakRound m e noReadyRegion (m .at)) (dropRound m e)
   conclude m e (fails i p) = cond (C .hot i) (breakRound m e conditionFails p) (dropRound m e)
   conclude m e (rests p) = cond (full (p .fired)) (keepRound m e)
       (goOn m e (cond (not (prechartDone (m .at .fired)) && prechartDone (p .fired)) entered moved) p)
 
-  -- step 2: "A record of time, or a message that no region of either half has, does nothing more."
+  -- T10: only a chart message does more than count
   unfoldable pub accept : Monitor → LogRecord → Step
   accept m e = cond (chartMessage C e) (conclude m e (place (m .at) e)) (goOn m e quiet (m .at))
 
-  -- "a broken monitor answers broken again, with record and reason, and nothing changes. Otherwise 22 the time is below now; 23 it
-  -- would be record 1,000,001." "A refusal gives the monitor as it came."
+  -- M12 to M14: broken again, 22 or 23, each with the monitor unchanged; or the record is taken
   unfoldable pub feed : Monitor → LogRecord → Step
   feed m e = cond (not (eqb (m .tally .broken .at) 0))
       (record { answer = toldBroken (m .tally .broken .at) (m .tally .broken .reason); next = m })
@@ -131,7 +129,7 @@ module _ (C : Chart) where
       (cond (leb mostRecords (m .tally .records)) (record { answer = refused tooManyRecords; next = m })
       (accept m e)))
 
-  -- the monitor after a list of feeds from a fresh one, and the feeds' answers
+  -- W10: where a list of feeds leads from a fresh monitor, and what is answered on the way
   unfoldable pub after : Snoc LogRecord → Monitor
   after ε = fresh
   after (fs ▸ e) = feed (after fs) e .next
@@ -140,24 +138,24 @@ module _ (C : Chart) where
   answers ε = ε
   answers (fs ▸ e) = answers fs ▸ feed (after fs) e .answer
 
--- "A monitor is fit if":
+-- M10: the monitor fits the chart.
 pub record Fit (C : Chart) (m : Monitor) : Type 0 where
-  -- "all above a fired region are fired"
+  -- the fired regions are a cut (O7)
   pub closed : (i a : ℕ) → So (m .at .fired i) → So (C .above a i) → So (m .at .fired a)
-  -- "no fired region is beyond the chart"
+  -- and regions of the chart
   pub within : (i : ℕ) → So (m .at .fired i) → i < C .regions
-  -- "not all are fired"
+  -- one is left to fire
   pub unfinished : ¬ Full C (m .at .fired)
-  -- "no plain region is ready unless broken"
+  -- there is a break, or no plain region could fire
   pub settled : m .tally .broken .at ≡ 0 → (j : ℕ) → So (plain C j) → ¬ Ready C (m .at .fired) j
-  -- "reset moments are at most now, unused ones zero"
+  -- no reset lies in the future; a clock that the chart lacks has 0
   pub moments : (c : ℕ) → m .at .clocks c ≤ m .tally .now
   pub unused : (c : ℕ) → C .clocks ≤ c → m .at .clocks c ≡ 0
-  -- "records are at most 1,000,000"
+  -- no more records than there can be
   pub few : m .tally .records ≤ mostRecords
-  -- "kept plus dropped is at most records"
+  -- no more rounds have ended than records came
   pub counts : m .tally .kept + m .tally .dropped ≤ m .tally .records
-  -- "and the break is two zeros, or a record from 1 to the count with reason 1 or 2"
+  -- no break and no reason; or both, at a record that was counted
   pub break-fits : ((m .tally .broken .at ≡ 0) × (m .tally .broken .reason ≡ 0))
       ⊎ ((1 ≤ m .tally .broken .at) × (m .tally .broken .at ≤ m .tally .records)
       × ((m .tally .broken .reason ≡ noReadyRegion) ⊎ (m .tally .broken .reason ≡ conditionFails)))

@@ -23,7 +23,13 @@ freshTally = record { now = 0; records = 0; kept = 0; dropped = 0; broken = noBr
 
 -- one more record, at time t, with these numbers of kept and of dropped rounds and this break
 abbrev pub countedAs : Tally → ℕ → ℕ → ℕ → Break → Tally
-countedAs x t kept dropped broken = record { now = t; records = suc (x .records); kept = kept; dropped = dropped; broken = broken }
+countedAs x t kept dropped broken = record {
+  now = t;
+  records = suc (x .records);
+  kept = kept;
+  dropped = dropped;
+  broken = broken;
+}
 
 -- Four ways to take a record, each for a tally without a break. The round runs on:
 abbrev pub counted : Tally → ℕ → Tally

@@ -1,6 +1,7 @@
--- The letters of a prompt run satisfy prechart or chart exactly if its cut has all their regions. A letter but a delay adds at most one region,
--- and in a prompt run just one: whatever run a beginning of the word has to a maximal cut, the prompt run has as many regions by then, and as
--- the prechart is above all else they are the prechart's. Assumes nothing.
+-- The letters of a prompt run satisfy prechart or chart exactly if its cut has all their regions. A letter but a delay
+-- adds at most one region, and in a prompt run just one: whatever run a beginning of the word has to a maximal cut, the
+-- prompt run has as many regions by then, and as the prechart is above all else they are the prechart's. Assumes
+-- nothing.
 use mathlib.Core.Path.{_≡_, refl, sym, ap, _∙_, subst}
 use mathlib.Core.Logic.{inl, inr}
 use mathlib.Core.Bool.{Bool, true, false, So, not}

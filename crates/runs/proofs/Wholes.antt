@@ -1,6 +1,6 @@
--- Whole rounds after a list of feeds: the running one is a prompt run to the monitor's configuration; what the next record is answered, the
--- prompt runs over the round's word decide; where it is entered, kept or broken, the word satisfies the prechart or the chart, or violates
--- it. Times never fall, so that the rows are prompt runs. Assumes nothing.
+-- Whole rounds after a list of feeds (S17 to S19): times never fall, so that the rows are prompt runs. So the running
+-- round is one, to the monitor's configuration; those over the round's word decide the next answer; and where that is
+-- entered, kept or broken, the word satisfies the prechart or the chart, or violates it. Assumes nothing.
 use mathlib.Core.Path.{_≡_, refl, sym, ap, ap₂, _∙_}
 use mathlib.Core.Logic.{_≢_, _↔_, inl, inr}
 use mathlib.Core.Bool.{Bool, true, false, not, cond, So, _&&_}
@@ -33,6 +33,7 @@ use Rattle.runs.proofs.Steps.{failure-of}
 use Rattle.runs.proofs.Words.{run-is-cut, full-completes, message-completes, done-satisfies, main-follows}
 use Rattle.runs.proofs.Chains.{shown, past, row-step, row-is-prompt, prompt-is-row}
 
+-- no other answer is a broken one
 dropped-broken : {X : Type 0} {n k : ℕ} → toldDropped ≡ toldBroken n k → X
 dropped-broken p = absurd (let z : _≡_ {A = ℕ} 0 1 = cc in omega arith)
 
@@ -140,6 +141,7 @@ Steady : Last → Snoc LogRecord → Type 0
 Steady (unended o s) rs = Rising o s × (lastOf o s ≡ lastMoment rs)
 Steady (behindBreak k) rs = Unit {0}
 
+-- a record that is not refused is not before the last one
 not-below : (rs : Snoc LogRecord) (e : LogRecord) → refusal rs e ≡ none → lastMoment rs ≤ e .time
 unfolding refusal
 not-below rs e h = elim (split (ltb (e .time) (lastMoment rs))) [
@@ -147,6 +149,7 @@ not-below rs e h = elim (split (ltb (e .time) (lastMoment rs))) [
   | inr t ↦ ltb-false (e .time) (lastMoment rs) t
 ]
 
+-- a stretch that has just opened
 steady-behind : (x : Outcome) (rs : Snoc LogRecord) (e : LogRecord) → Steady (behind x (e .time)) (rs ▸ e)
 unfolding Steady
 steady-behind kept rs e = (tt, refl)
@@ -154,6 +157,7 @@ steady-behind dropped rs e = (tt, refl)
 steady-behind (broken k) rs e = tt
 
 module _ (C : Chart) where
+  -- feed by feed
   steady-one : {rs rs′ : Snoc LogRecord} {es es′ : Snoc Stretch} {last last′ : Last} {e : LogRecord} {a : Answer}
       → Steady last rs → FedOne C rs es e last a rs′ es′ last′ → Steady last′ rs′
   unfolding Steady
