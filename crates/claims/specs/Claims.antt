@@ -58,9 +58,10 @@ pub record Demands (c : Chart) : Type 0 where
 pub record Claims : Type 0 where
   -- number, offset, chart, verdict and record fix the answers
   pub answers-tell : AnswersTell
-  -- the definition that reading a chart cites refuses exactly the first fault, and accepts exactly the chart that the commands describe
+  -- the definition that reading a chart cites refuses exactly the first fault, and accepts exactly the chart that the
+  -- commands describe
   pub faults : Faults
-  -- a chart that some accepted bytes give shows an accepted abstract chart, whose order is the closure over shared lines
+  -- a chart that accepted bytes give shows an accepted abstract chart, whose order is the closure over shared lines
   pub shown : (c : Chart) → Given c → Shown c
   -- one code, one message
   pub codes-tell : CodesTell
@@ -69,12 +70,14 @@ pub record Claims : Type 0 where
   -- of every chart that is read from bytes: the second and the third demand, and that feeding goes as they say
   pub demands : (bytes : List ℕ) (c : Chart) → readChart bytes ≡ acceptedAs c → Demands c
   -- the verdict over a log without a fault is what the stretches of its records give
-  pub judged : (c : Chart) → Given c → (log : List ℕ) {es : Snoc Record} {at last : ℕ} → Walk log es at last → FindsAs log at (found.end at)
+  pub judged : (c : Chart) → Given c → (log : List ℕ) {es : Snoc Record} {at last : ℕ} → Walk log es at last
+      → FindsAs log at (found.end at)
       → (M : Meaning (chartOf c) (logged es)) → JudgedBy c log es M
   -- and these are the records that are fed from its bytes
-  pub walked : (log : List ℕ) {es : Snoc Record} {at last : ℕ} → Walk log es at last → FindsAs log at (found.end at) → recordsIn log ≡ es
+  pub walked : (log : List ℕ) {es : Snoc Record} {at last : ℕ} → Walk log es at last → FindsAs log at (found.end at)
+      → recordsIn log ≡ es
   -- the view through which feeding's promise speaks shows every field of the monitor, and fixes it
   pub views : (m : Monitor) → Views m
   pub view-tells : ViewTells
-  -- the examples marked ◆
+  -- the examples X3 to X11, X13 and X14
   pub examples-said : AllSaid examples

@@ -1,4 +1,4 @@
--- Document 01's examples marked ◆, as one list: a chart's bytes, a log's bytes, and what is said of them.
+-- The examples X3 to X11, X13 and X14, as one list: a chart's bytes, a log's bytes, and what is said of them.
 use mathlib.Core.Path.{_≡_}
 use mathlib.Core.List.{List, [], _∷_}
 use Prim.Native.Nat.{ℕ}
@@ -14,14 +14,18 @@ pub record Example : Type 0 where
 
 abbrev pub chartU : List ℕ
 chartU =
-    0x10 ∷ 0x04 ∷ 0x01 ∷ 0x20 ∷ 0x00 ∷ 0x01 ∷ 0x00 ∷ 0x01 ∷ 0x40 ∷ 0x01 ∷ 0x50 ∷ 0x20 ∷ 0x01 ∷ 0x00 ∷ 0x00 ∷ 0x02 ∷ 0x30 ∷ 0x00 ∷ 0x01
-    ∷ 0x00 ∷ 0x00 ∷ 0x00 ∷ 0x28 ∷ 0x32 ∷ 0x20 ∷ 0x02 ∷ 0x03 ∷ 0x00 ∷ 0x03 ∷ 0x30 ∷ 0x00 ∷ 0x01 ∷ 0x00 ∷ 0x00 ∷ 0x00 ∷ 0x28 ∷ 0x32 ∷ 0x7f ∷ []
+    0x10 ∷ 0x04 ∷ 0x01
+    ∷ 0x20 ∷ 0x00 ∷ 0x01 ∷ 0x00 ∷ 0x01 ∷ 0x40 ∷ 0x01
+    ∷ 0x50
+    ∷ 0x20 ∷ 0x01 ∷ 0x00 ∷ 0x00 ∷ 0x02 ∷ 0x30 ∷ 0x00 ∷ 0x01 ∷ 0x00 ∷ 0x00 ∷ 0x00 ∷ 0x28 ∷ 0x32
+    ∷ 0x20 ∷ 0x02 ∷ 0x03 ∷ 0x00 ∷ 0x03 ∷ 0x30 ∷ 0x00 ∷ 0x01 ∷ 0x00 ∷ 0x00 ∷ 0x00 ∷ 0x28 ∷ 0x32
+    ∷ 0x7f ∷ []
 
 -- a message's bytes, with a time below 256, before more of the log
 abbrev pub message : ℕ → ℕ → ℕ → ℕ → List ℕ → List ℕ
 message source destination label time rest = 0x01 ∷ source ∷ destination ∷ 0 ∷ label ∷ 0 ∷ 0 ∷ 0 ∷ time ∷ rest
 
--- chart U's messages: undo (0 to 1, label 1), headings (1 to 0, label 2), references (2 to 3, label 3)
+-- the messages of chart U (X1)
 abbrev pub undo : ℕ → List ℕ → List ℕ
 undo time rest = message 0 1 1 time rest
 
@@ -37,7 +41,14 @@ judgedU log standing kept dropped records break reason =
     record {
       chart = chartU;
       log = log;
-      report = Judged (record { standing = standing; kept = kept; dropped = dropped; records = records; broken = break; reason = reason });
+      report = Judged (record {
+        standing = standing;
+        kept = kept;
+        dropped = dropped;
+        records = records;
+        broken = break;
+        reason = reason;
+      });
     }
 
 -- a chart that is refused, with an empty log
@@ -46,29 +57,29 @@ refusedChart chart number offset = record { chart = chart; log = []; report = Re
 
 abbrev pub examples : List Example
 examples =
-    -- "With undo at 100, references at 120, headings at 140", "The log above"; "Headings at 141"
+    -- X3 and X4
     judgedU (undo 100 (references 120 (headings 140 []))) 0 1 0 3 0 0
     ∷ judgedU (undo 100 (references 120 (headings 141 []))) 3 0 0 3 3 2
-    -- "Undo 100, headings 120"; "Headings again at 130"
+    -- X5 and X6
     ∷ judgedU (undo 100 (headings 120 [])) 2 0 0 2 0 0
     ∷ judgedU (undo 100 (headings 120 (headings 130 []))) 3 0 0 3 3 1
-    -- "Undo 100, undo 110"
+    -- X7
     ∷ judgedU (undo 100 (undo 110 [])) 3 0 0 2 2 1
-    -- "Headings at 5, alone"
+    -- X8
     ∷ judgedU (headings 5 []) 0 0 1 1 0 0
-    -- "Undo 100, then 3 to 2, label 3, at 110"
+    -- X9
     ∷ judgedU (undo 100 (message 3 2 3 110 [])) 2 0 0 2 0 0
-    -- "Empty log"
+    -- X10
     ∷ judgedU [] 0 0 0 0 0 0
-    -- "Messages at 100 and 99: log refused 22 at 9"
+    -- X11
     ∷ record { chart = chartU; log = undo 100 (headings 99 []); report = Refused Log 22 9 }
-    -- "Empty chart: 1 at 0"; "`10 01 00`: 4 at 0"; "`10 02 01 21 00 01 40 01 50 7F`: 9 at 3"
+    -- X13 (two charts) and X14
     ∷ refusedChart [] 1 0
     ∷ refusedChart (0x10 ∷ 0x01 ∷ 0x00 ∷ []) 4 0
     ∷ refusedChart (0x10 ∷ 0x02 ∷ 0x01 ∷ 0x21 ∷ 0x00 ∷ 0x01 ∷ 0x40 ∷ 0x01 ∷ 0x50 ∷ 0x7f ∷ []) 9 3
     ∷ []
 
--- each example is as the document says, through the definitions that reading and judging cite
+-- each example is so, through the definitions that reading and judging cite
 abbrev pub AllSaid : List Example → Type 0
 AllSaid [] = Unit {0}
 AllSaid (e ∷ es) = (partsReport (e .chart) (e .log) ≡ e .report) × AllSaid es

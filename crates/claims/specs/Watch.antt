@@ -18,7 +18,7 @@ use Rattle.monitor.specs.Runs.{Run}
 use Rattle.chart_value.specs.Records.{logged}
 use Rattle.claims.specs.declared.Watched.{Watched}
 
--- the monitor m after feeding these records to a fresh one, with the answers told
+-- the monitor m after feeding these records to a fresh one, with the answers given
 pub record FedAll (c : Chart) (es : Snoc Record) (m : Monitor) : Type 0 where
   pub told : Snoc Told
   pub run : Run c es told m

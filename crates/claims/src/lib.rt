@@ -1,5 +1,5 @@
-// What is claimed of the operations. The first demand is in the contracts of the five functions that call one operation each; the second
-// and the third are claims about what these operations cite, and `watch` uses them from bytes.
+// What is claimed of the operations. The first demand is in the contracts of the five functions that call one operation
+// each; the second and the third are claims about what these operations cite, and `watch` uses them from bytes.
 use chart_reader::ChartAnswer;
 use chart_reader::ChartRead;
 use judge::Judgement;

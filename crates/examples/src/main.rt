@@ -1,6 +1,7 @@
-// Runs the cases of its data/ folder through `respond`, the function that the printing program calls. A case is a line: a name, ':', the
-// whole input in hexadecimal, '=', the numbers of the verdict or the refusal, worked out from the scope; a line that starts with '#' has the
-// reason. It writes what differs, and for each file how many cases it ran and how many differ.
+// Runs the cases of its data/ folder through `respond`, the function that the printing program calls. A case is a line:
+// a name, ':', the whole input in hexadecimal, '=', the numbers of the verdict or the refusal, worked out from the
+// rules; a line that starts with '#' has the reason. It writes what differs, and for each file how many cases it ran
+// and how many differ.
 use libc::STDOUT_FILENO;
 use lines::COLON;
 use lines::LINE_FEED;

@@ -1,6 +1,7 @@
-// Feeds logs to charts record by record. Standard input has a line for each: a name, ':', the chart's bytes in hexadecimal, '/', the
-// log's. For each record it writes the answer's number, and of the monitor then handed back: fired regions as a set, now, records, kept,
-// dropped, break, reason, and each clock's reset moment. The expected lines, in the file stdout, are worked out from the scope.
+// Feeds logs to charts record by record. Standard input has a line for each: a name, ':', the chart's bytes in
+// hexadecimal, '/', the log's. For each record it writes the answer's number, and of the monitor then handed back:
+// fired regions as a set, now, records, kept, dropped, break, reason, and each clock's reset moment. The expected
+// lines, in the file stdout, are worked out from the rules.
 use libc::STDIN_FILENO;
 use libc::STDOUT_FILENO;
 use lines::COLON;

@@ -1,4 +1,4 @@
--- What owning a monitor tells: the ranges of its numbers, eight places for the reset moments. Assumes nothing.
+-- What owning a monitor gives: the ranges of its numbers, eight places for the reset moments. Assumes nothing.
 use mathlib.Core.Path.{_≡_, sym, _∙_}
 use mathlib.Core.List.{List, [], _∷_, map}
 use Prim.Native.Nat.{ℕ, zero, suc, _<_}

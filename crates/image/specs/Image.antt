@@ -1,5 +1,4 @@
--- A monitor as bytes: fired, eight reset moments, now, records, kept, dropped, break record in four bytes each, reason in one; the most
--- significant byte first.
+-- V1, V2: a monitor's image. Four bytes for each number, one for the reason; the most significant byte first (N3).
 use Prim.Native.Nat.{ℕ, _+_, _*_, _/_, _%_}
 use mathlib.Core.List.{List, [], _∷_, _++_}
 use lib.ListN.{getD}
@@ -13,7 +12,7 @@ use Rattle.stepping.specs.Monitors.{momentsOf}
 abbrev pub wordBytes : ℕ → List ℕ
 wordBytes x = x / 0x100_0000 % 256 ∷ x / 0x1_0000 % 256 ∷ x / 0x100 % 256 ∷ x % 256 ∷ []
 
--- numbers one behind the other
+-- numbers one after the other
 abbrev pub wordsBytes : List ℕ → List ℕ
 wordsBytes [] = []
 wordsBytes (x ∷ xs) = wordBytes x ++ wordsBytes xs
@@ -31,9 +30,10 @@ monitorSize = 57
 -- the eight reset moments
 abbrev pub momentNumbers : List Moment → List ℕ
 momentNumbers r =
-    momentsOf r 0 ∷ momentsOf r 1 ∷ momentsOf r 2 ∷ momentsOf r 3 ∷ momentsOf r 4 ∷ momentsOf r 5 ∷ momentsOf r 6 ∷ momentsOf r 7 ∷ []
+    momentsOf r 0 ∷ momentsOf r 1 ∷ momentsOf r 2 ∷ momentsOf r 3
+    ∷ momentsOf r 4 ∷ momentsOf r 5 ∷ momentsOf r 6 ∷ momentsOf r 7 ∷ []
 
--- what stands behind them
+-- what comes after them
 abbrev pub tallyBytes : Tally → List ℕ
 tallyBytes x =
     wordsBytes (x .now .0 ∷ x .records ∷ x .kept ∷ x .dropped ∷ x .broken .at ∷ []) ++ (x .broken .reason ∷ [])
@@ -46,7 +46,8 @@ momentIn s i = record { 0 = word32 s i }
 
 abbrev pub momentsIn : List ℕ → List Moment
 momentsIn s =
-    momentIn s 4 ∷ momentIn s 8 ∷ momentIn s 12 ∷ momentIn s 16 ∷ momentIn s 20 ∷ momentIn s 24 ∷ momentIn s 28 ∷ momentIn s 32 ∷ []
+    momentIn s 4 ∷ momentIn s 8 ∷ momentIn s 12 ∷ momentIn s 16
+    ∷ momentIn s 20 ∷ momentIn s 24 ∷ momentIn s 28 ∷ momentIn s 32 ∷ []
 
 abbrev pub tallyIn : List ℕ → Tally
 tallyIn s =

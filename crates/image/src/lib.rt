@@ -10,7 +10,8 @@ ghost use mathlib.Core.List.{_∷_, []};
 ghost use Prim.Native.Nat.{_+_, _≤_, _%_};
 ghost use lib.ListN.{length};
 ghost use Rattle.text.specs.Text.{Wrote};
-ghost use Rattle.image.specs.Image.{wordBytes, wordsBytes, longBytes, word64, monitorSize, momentNumbers, tallyBytes, monitorBytes, momentIn, momentsIn, tallyIn, monitorIn};
+ghost use Rattle.image.specs.Image.{wordBytes, wordsBytes, longBytes, word64, monitorSize, momentNumbers};
+ghost use Rattle.image.specs.Image.{tallyBytes, monitorBytes, momentIn, momentsIn, tallyIn, monitorIn};
 
 // The bytes of a monitor.
 pub const MONITOR_SIZE: usize = 57;
@@ -36,7 +37,7 @@ fn put_word32(out: &mut [u8], at: usize, x: u32) -> usize
     text::put_byte(out, fourth, byte_of(x))
 }
 
-// Four numbers one behind the other.
+// Four numbers one after the other.
 fn put_four(out: &mut [u8], at: usize, a: u32, b: u32, c: u32, d: u32) -> usize
     requires { ⌜ at + 16 ≤ length (now out) ⌝ }
     ensures { λ r. ⌜ Wrote (now (out .entry)) at (wordsBytes (a ∷ b ∷ c ∷ d ∷ [])) (now (out .exit)) r ⌝ }
@@ -124,7 +125,7 @@ fn moment_at(bytes: &[u8], at: usize) -> Moment
     Moment(wire::word32_at(bytes, at))
 }
 
-// The eight reset moments, behind the four bytes of the fired regions.
+// The eight reset moments, after the four bytes of the fired regions.
 fn moments_at(bytes: &[u8]) -> [Moment; CLOCK_PLACES]
     ensures { λ r. ⌜ r ≡ momentsIn (now (bytes .entry)) ⌝ }
 {

@@ -121,7 +121,7 @@ module _ {C : Abstract} {s : List ℕ} {m : Monitor} {at left : ℕ} (S : SoFar 
     pub fed-bad : 0 < left → (f : RecordRefusal) → nextAt s at ≡ Refused f → monitorAt m ≡ after D (logged (recordsIn s))
     fed-bad h f q = done (sym (one-record s at left h (S .before) (Refused f) q) ∙ S .rest)
 
-    -- behind a break the rest changes nothing
+    -- after a break the rest changes nothing
     pub fed-broken : m .tally .broken .at ≢ 0 → monitorAt m ≡ after D (logged (recordsIn s))
     fed-broken b =
         S .monitor

@@ -1,4 +1,4 @@
--- Checking a whole log: each record from the left, with its offset.
+-- Checking a whole log (J2, J3), record by record.
 use Prim.Native.Nat.{ℕ, zero, suc, _+_}
 use mathlib.Core.Bool.{cond}
 use mathlib.Core.List.{List}
@@ -18,7 +18,7 @@ use Rattle.judge.specs.declared.Checked.the-variants.{Fine, Refused}
 use Rattle.judge.specs.declared.CheckStep.{CheckStep}
 use Rattle.judge.specs.declared.CheckStep.the-variants.{Over, Going}
 
--- 31 unknown record byte; 30 cut short; 22 a time below the one before; 23 it would be record 1,000,001
+-- J3: 31 and 30 as in E, 22 a time that falls, 23 too many records
 abbrev pub logRefusalNumber : LogRefusal → ℕ
 logRefusalNumber (NoRecord k) = recordRefusalNumber k
 logRefusalNumber TimeFalls = timeFalls
@@ -28,7 +28,7 @@ abbrev pub timeOf : Record → Moment
 timeOf (Message m t) = t
 timeOf (Time t) = t
 
--- a record that was read at `at`, behind the time `last` and n records
+-- a record that was read at `at`, after n records, the last of them with the time `last`
 abbrev pub takeRecord : Moment → ℕ → ℕ → Moment → ℕ → CheckStep
 takeRecord time place at last n =
     cond (ltb (time .0) (last .0)) (Over (Refused TimeFalls at))

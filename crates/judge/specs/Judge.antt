@@ -1,4 +1,4 @@
--- Judging a whole log: 20, then the whole log checked, then each record fed; the verdict.
+-- Judging a whole log (J1 to J6): 20, then the whole log checked, then each record fed; the verdict.
 use mathlib.Core.Bool.{cond, not}
 use mathlib.Core.List.{List}
 use Prim.Native.Nat.{ℕ}
@@ -21,7 +21,7 @@ use Rattle.judge.specs.declared.Verdict.{Verdict}
 use Rattle.judge.specs.declared.Judgement.{Judgement}
 use Rattle.judge.specs.Check.{checkLog, logRefusalNumber}
 
--- "Standing, the first that applies: 3 broken, 0 nothing fired, 1 in the prechart, 2 owed in the main chart."
+-- J8: the standing
 abbrev pub broken : ℕ
 broken = 3
 
@@ -40,7 +40,7 @@ standingOf C m =
     (cond (allBelow (C .regions) (λ i. not (m .at .fired i))) nothingFired
     (cond (not (prechartDone C (m .at .fired))) inPrechart owed))
 
--- "The verdict is standing, kept, dropped, records (to the break if there is one), break, reason."
+-- J6: the verdict
 abbrev pub verdictOf : Abstract → AbstractMonitor → Verdict
 verdictOf C m =
     record {
@@ -84,4 +84,5 @@ byCheck c s (checked.Refused k offset) = record { number = logRefusalNumber k; o
 -- 20 at 0, then the faults of the log, all before a record is fed, then the verdict
 unfoldable pub judgeOf : Chart → List ℕ → Said
 judgeOf c s =
-    cond (not (wellFormed c)) (record { number = feedRefusalNumber NotAChart; offset = 0; verdict = zeroVerdict }) (byCheck c s (checkLog s))
+    cond (not (wellFormed c)) (record { number = feedRefusalNumber NotAChart; offset = 0; verdict = zeroVerdict })
+    (byCheck c s (checkLog s))

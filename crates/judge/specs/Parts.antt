@@ -1,5 +1,5 @@
--- The code of a record in its bytes, whether a check found a fault, and the standing and the verdict of a stored monitor, for the functions
--- that compute them.
+-- The code of a record in its bytes, whether a check found a fault, and the standing and the verdict of a stored
+-- monitor, for the functions that compute them.
 use mathlib.Core.Bool.{Bool, true, false, cond, not}
 use mathlib.Core.List.{List}
 use Prim.Native.Nat.{ℕ, _+_, _*_}

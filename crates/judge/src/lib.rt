@@ -64,7 +64,7 @@ pub fn time_of(e: Record) -> Moment
     }
 }
 
-// A record that was read: 22 its time is below the one before; 23 it would be record 1,000,001.
+// A record that was read: J3's 22 and 23.
 fn take_record(time: Moment, place: usize, at: usize, last: Moment, records: u32) -> CheckStep
     ensures { λ r. ⌜ r ≡ takeRecord time place at last records ⌝ }
 {
@@ -149,8 +149,8 @@ fn wide(x: u32) -> u64
     x as u64
 }
 
-// The code of the record at a place, from its bytes: the label, then source and destination. A record taken apart again would be
-// stored and loaded in pieces, which costs more than all else that is done for it.
+// The code of the record at a place, from its bytes: the label, then source and destination. A record taken apart again
+// would be stored and loaded in pieces, which costs more than all else that is done for it.
 fn code_at(log: &[u8], at: usize) -> u64
     requires { ⌜ at < length (now log) ⌝ }
     ensures { λ r. ⌜ r ≡ codeAt (now (log .entry)) at ⌝ }
@@ -162,8 +162,8 @@ fn code_at(log: &[u8], at: usize) -> u64
     0
 }
 
-// The chart compiled once; each record of a log without a fault where it lies, taken by a fresh monitor. What a feed would refuse the check
-// has refused, and behind a break nothing changes any more.
+// The chart compiled once; each record of a log without a fault where it lies, taken by a fresh monitor. What a feed
+// would refuse the check has refused, and after a break nothing changes any more.
 fn feed_log(c: Chart, log: &[u8]) -> Monitor
     requires { ⌜ wellFormed c ≡ true ⌝ }
     requires { ⌜ So (isFine (checkLog (now log))) ⌝ }
@@ -254,7 +254,7 @@ fn refused(answer: JudgeAnswer) -> Judgement
     Judgement { answer, verdict }
 }
 
-// The verdict over a whole log, or why there is none, with zeros for the verdict.
+// The verdict over a whole log; or why it has no verdict, with zeros in its place.
 pub fn judge(chart: Chart, log: &[u8]) -> Judgement
     ensures verdict { λ r. ⌜ said r ≡ judgeOf chart (now (log .entry)) ⌝ }
     ensures unchanged { λ r. ⌜ now (log .exit) ≡ now (log .entry) ⌝ }

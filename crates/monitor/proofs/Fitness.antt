@@ -1,4 +1,4 @@
--- The test of a monitor is document 01's list. Assumes nothing.
+-- The test of a monitor is the list of M10. Assumes nothing.
 use mathlib.Core.Path.{_≡_, refl, sym, ap, ap₂, subst, _∙_}
 use mathlib.Core.Logic.{_⊎_, inl, inr, _↔_}
 use mathlib.Core.Bool.{Bool, true, false, not, So, _&&_, _||_}

@@ -1,4 +1,4 @@
--- What owning a monitor tells: 32 bits for the fired regions, eight places for the reset moments. Assumes nothing.
+-- What owning a monitor gives: 32 bits for the fired regions, eight places for the reset moments. Assumes nothing.
 use mathlib.Core.Path.{sym, _∙_}
 use mathlib.Core.List.{List}
 use lib.ListN.{length-map}

@@ -1,5 +1,5 @@
 -- Every fit monitor of the machine can be stored, its fired regions as a number and its reset moments as a list, and
--- every answer of the machine can be told. Assumes nothing.
+-- every answer of the machine can be given. Assumes nothing.
 use mathlib.Core.Path.{_≡_, refl, sym, ap, fun-ext, _∙_}
 use mathlib.Core.Logic.{inl, inr}
 use mathlib.Core.Bool.{Bool, true, false, cond, _||_}
@@ -132,7 +132,7 @@ module _ (C : Abstract) (few : C .regions ≤ mostRegions) (clocks : C .clocks �
     };
   }
 
--- an answer that is told
+-- an answer that is given
 pub record ToldAs (a : Told) : Type 0 where
   pub answer : Answer
   pub tells : answerOf answer ≡ a

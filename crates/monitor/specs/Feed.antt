@@ -27,7 +27,7 @@ pub record Stored (m : Monitor) : Type 0 where
   pub bits : m .at .fired < 2 ^ mostRegions
   pub places : length (m .at .resets) ≡ mostClocks
 
--- 0 made; 20: the chart value is not one that some accepted bytes give
+-- M8: 0 made, 20 no chart
 abbrev pub madeNumber : MadeAnswer → ℕ
 madeNumber Fresh = 0
 madeNumber NoChart = feedRefusalNumber NotAChart
@@ -38,11 +38,11 @@ pub record MadeOf (c : Chart) (r : Made) : Type 0 where
   pub monitor : r .monitor ≡ zeroMonitor
   pub stored : Stored (r .monitor)
 
--- a refusal gives the monitor as it came
+-- M14: a refusal, with the monitor that came
 abbrev pub refuse : FeedRefusal → Monitor → machine.Step
 refuse k m = record { answer = refused (feedRefusalNumber k); next = monitorAt m }
 
--- Feeding a record: 20, 21, then the broken answer again, 22, 23, else steps 1 to 7.
+-- M12, M13: feeding tries 20, 21, then the broken answer again, 22 and 23; else the record is taken (T).
 unfoldable pub feedOf : Chart → Monitor → Record → machine.Step
 feedOf c m e =
     cond (not (wellFormed c)) (refuse NotAChart m)

@@ -1,4 +1,4 @@
--- Refusal 21: a fit monitor, as a test of the stored value, clause by clause.
+-- M10: the fit monitor of refusal 21, as a test of the stored value, clause by clause.
 use mathlib.Core.Bool.{Bool, true, false, not, _&&_, _||_}
 use mathlib.Core.Option.{Option, none, some}
 use mathlib.Core.List.{List}
@@ -16,40 +16,41 @@ use Rattle.rounds.specs.Feeds.{mostRecords, noReadyRegion, conditionFails}
 use Rattle.rounds.specs.Machine.{full, readyPlain}
 use Rattle.stepping.specs.Monitors.{momentsOf}
 
--- "all above a fired region are fired"
+-- each region above a fired one is fired
 unfoldable pub closedUpward : Abstract → ℕ → Bool
 closedUpward C fired =
-    allBelow (C .regions) (λ i. not (contains fired i) || allBelow (C .regions) (λ a. not (C .above a i) || contains fired a))
+    allBelow (C .regions)
+    (λ i. not (contains fired i) || allBelow (C .regions) (λ a. not (C .above a i) || contains fired a))
 
 abbrev pub isNone : Option ℕ → Bool
 isNone none = true
 isNone (some i) = false
 
--- "no plain region is ready unless broken"
+-- there is a break, or no plain region is ready
 unfoldable pub restsUnlessBroken : Abstract → ℕ → ℕ → Bool
 restsUnlessBroken C fired break = not (eqb break 0) || isNone (readyPlain C (contains fired))
 
--- "reset moments are at most now, unused ones zero"
+-- no reset moment is above now; for a clock that the chart has not it is 0
 unfoldable pub momentsFit : ℕ → List Moment → ℕ → Bool
 momentsFit clocks resets t =
     allBelow mostClocks (λ k. leb (momentsOf resets k) t && (ltb k clocks || eqb (momentsOf resets k) 0))
 
--- "the break is two zeros, or a record from 1 to the count with reason 1 or 2"
+-- break and reason are 0 and 0, or the break is 1 to records and the reason 1 or 2
 unfoldable pub breakFits : ℕ → Break → Bool
 breakFits records b =
     eqb (b .at) 0 && eqb (b .reason) 0
     || leb 1 (b .at) && (leb (b .at) records && (eqb (b .reason) noReadyRegion || eqb (b .reason) conditionFails))
 
--- "records are at most 1,000,000; kept plus dropped is at most records"
+-- records is not above 1,000,000, and the sum of kept and dropped is not above records
 unfoldable pub countsFit : Tally → Bool
 countsFit x = leb (x .records) mostRecords && leb (x .kept + x .dropped) (x .records)
 
 unfoldable pub fits : Abstract → Monitor → Bool
 fits C m =
     closedUpward C (m .at .fired)
-    -- "no fired region is beyond the chart"
+    -- no bit is set beyond the regions
     && (within (C .regions) (m .at .fired)
-    -- "not all are fired"
+    -- some region is not fired
     && (not (full C (contains (m .at .fired)))
     && (restsUnlessBroken C (m .at .fired) (m .tally .broken .at)
     && (momentsFit (C .clocks) (m .at .resets) (m .tally .now .0)

@@ -17,11 +17,12 @@ use Rattle.stepping.specs.Monitors.{monitorAt, stepOf}
 use Rattle.monitor.specs.Feed.{Stored, feedOf}
 use Rattle.chart_value.specs.Records.{logRecord, logged}
 
--- "All feeds carry one accepted chart; the first gets a fresh monitor, each later one the monitor the last handed back, whatever it
--- answered". Each feed gives what its definition says: the records fed, the answers, and the monitor after them.
+-- W10: a list of feeds of one chart, each with the monitor of the feed before it. Each feed gives what its definition
+-- says: the records fed, the answers, and the monitor after them.
 pub data Run (c : Chart) : Snoc Record → Snoc Told → Monitor → Type 0 where
   none-yet : Run c ε ε zeroMonitor
-  one-more : {es : Snoc Record} {told : Snoc Told} {m : Monitor} (e : Record) (r : Step) → Run c es told m → stepOf r ≡ feedOf c m e
+  one-more : {es : Snoc Record} {told : Snoc Told} {m : Monitor} (e : Record) (r : Step) → Run c es told m
+      → stepOf r ≡ feedOf c m e
       → Run c (es ▸ e) (told ▸ answerOf (r .answer)) (r .next)
 
 -- a list of feeds over the records, whose monitor is one that can be stored
@@ -34,11 +35,14 @@ pub record RunOver (c : Chart) (es : Snoc Record) : Type 0 where
 -- Feeding goes as the machine over the chart that c shows.
 pub record Feeding (c : Chart) : Type 0 where
   -- one record to a fit monitor
-  pub one : (m : Monitor) (e : Record) → Fit (chartOf c) (monitorAt m) → feedOf c m e ≡ feed (chartOf c) (monitorAt m) (logRecord e)
+  pub one : (m : Monitor) (e : Record) → Fit (chartOf c) (monitorAt m)
+      → feedOf c m e ≡ feed (chartOf c) (monitorAt m) (logRecord e)
   -- every list of records can be fed, whatever was sent and when; its answers and its monitor are the machine's
   pub exists : (es : Snoc Record) → RunOver c es
-  pub answered : {es : Snoc Record} {told : Snoc Told} {m : Monitor} → Run c es told m → told ≡ answers (chartOf c) (logged es)
-  pub leads : {es : Snoc Record} {told : Snoc Told} {m : Monitor} → Run c es told m → monitorAt m ≡ after (chartOf c) (logged es)
+  pub answered : {es : Snoc Record} {told : Snoc Told} {m : Monitor} → Run c es told m
+      → told ≡ answers (chartOf c) (logged es)
+  pub leads : {es : Snoc Record} {told : Snoc Told} {m : Monitor} → Run c es told m
+      → monitorAt m ≡ after (chartOf c) (logged es)
   -- 20 and 21 never occur in it
   pub never-refused : {es : Snoc Record} {told : Snoc Told} {m : Monitor} → Run c es told m → (e : Record) (r : Step)
       → stepOf r ≡ feedOf c m e → (r .answer ≢ Refused NotAChart) × (r .answer ≢ Refused Unfit)

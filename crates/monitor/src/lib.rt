@@ -43,10 +43,11 @@ pub struct Made {
     pub monitor: Monitor,
 }
 
-// All above each fired region are fired.
+// Each region above a fired one is fired.
 fn closed_upward(above: &[u32; MOST_REGIONS], count: usize, fired: u32) -> bool
     requires { ⌜ count ≤ mostRegions ⌝ }
-    ensures { λ r. ⌜ r ≡ allBelow count (λ i. not (contains fired i) || isSubset (getD (now (above .entry)) i 0) fired) ⌝ }
+    ensures { λ r. ⌜ r
+        ≡ allBelow count (λ i. not (contains fired i) || isSubset (getD (now (above .entry)) i 0) fired) ⌝ }
 {
     let mut ok = true;
     let mut i: usize = 0;
@@ -57,7 +58,7 @@ fn closed_upward(above: &[u32; MOST_REGIONS], count: usize, fired: u32) -> bool
     ok
 }
 
-// Reset moments are at most now, unused ones zero.
+// No reset moment is above now, and those of other clocks than the chart's are 0.
 fn moments_fit(clocks: usize, resets: [Moment; CLOCK_PLACES], now: Moment) -> bool
     ensures test { λ r. ⌜ r ≡ momentsFit clocks resets (now .0) ⌝ }
     ensures places { λ r. ⌜ length resets ≡ mostClocks ⌝ }
@@ -78,14 +79,14 @@ fn wide(x: u32) -> u64
     x as u64
 }
 
-// Records are at most 1,000,000, and kept plus dropped at most records.
+// Records is not above 1,000,000, and the sum of kept and dropped is not above records.
 fn counts_fit(x: Tally) -> bool
     ensures { λ r. ⌜ r ≡ countsFit x ⌝ }
 {
     (x.records <= MOST_RECORDS) & (wide(x.kept) + wide(x.dropped) <= wide(x.records))
 }
 
-// The break is two zeros, or a record from 1 to the count with reason 1 or 2.
+// Break and reason are 0 and 0, or the break is 1 to records and the reason 1 or 2.
 fn break_fits(records: u32, b: Break) -> bool
     ensures { λ r. ⌜ r ≡ breakFits records b ⌝ }
 {
@@ -113,8 +114,11 @@ pub fn is_fit<'a>(
     m: Monitor,
 ) -> bool
     requires { ⌜ Compiled h (now keys) (now above) (now resets) (now terms) ⌝ }
-    ensures test { λ r. ⌜ r ≡ fits (planChart h (now (keys .entry)) (now (above .entry)) (now (resets .entry)) (now (terms .entry))) m ⌝ }
-    ensures list { λ r. ⌜ ((r ≡ true) ↔ Fit (planChart h (now (keys .entry)) (now (above .entry)) (now (resets .entry)) (now (terms .entry))) (monitorAt m)) ⌝ }
+    ensures test { λ r. ⌜ r
+        ≡ fits (planChart h (now (keys .entry)) (now (above .entry)) (now (resets .entry)) (now (terms .entry))) m ⌝ }
+    ensures list { λ r. ⌜ ((r ≡ true)
+        ↔ Fit (planChart h (now (keys .entry)) (now (above .entry)) (now (resets .entry)) (now (terms .entry)))
+        (monitorAt m)) ⌝ }
 {
     let at = m.at;
     let fired = at.fired;

@@ -7,6 +7,6 @@ use Rattle.judge.specs.declared.Verdict.{Verdict}
 abbrev pub places : ℕ
 places = 6
 
--- "standing, kept, dropped, records, break, reason"
+-- J6: the verdict's numbers
 abbrev pub verdictNumbers : Verdict → List ℕ
 verdictNumbers v = v .standing ∷ v .kept ∷ v .dropped ∷ v .records ∷ v .broken ∷ v .reason ∷ []

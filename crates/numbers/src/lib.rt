@@ -22,7 +22,7 @@ pub fn put_six(out: &mut [u64], a: u64, b: u64, c: u64, d: u64, e: u64, f: u64)
     out[5] = f;
 }
 
-// The verdict's fields in their order.
+// The numbers of a verdict.
 pub fn put_verdict(out: &mut [u64], v: Verdict)
     requires { ⌜ places ≤ length (now out) ⌝ }
     ensures { λ r. ⌜ now (out .exit) ≡ verdictNumbers v ++ drop places (now (out .entry)) ⌝ }

@@ -30,7 +30,7 @@ pub lt-two-pow : (n : ℕ) → n < 2 ^ n
 lt-two-pow zero = omega arith
 lt-two-pow (suc n) = let p = pow-suc 2 n in omega (arith, lt-two-pow n)
 
--- a subset by masks, where the members of m are below n
+-- a subset by masks, where each member of m is below n
 pub subset-all : (n m f : ℕ) → ((a : ℕ) → So (contains m a) → a < n) → isSubset m f ≡ allBelow n (λ a. not (contains m a) || contains f a)
 subset-all n m f small =
     so-same (isSubset m f) (allBelow n _)

@@ -1,24 +1,25 @@
--- The answers of a feed: document 01's numbers, and the same answers over an abstract chart.
+-- The answers of a feed: their numbers, and the same answers over an abstract chart.
 use mathlib.Core.Path.{_≡_}
 use mathlib.Core.Logic.{_≢_}
 use mathlib.Core.Bool.{Bool, true, false, So}
 use Prim.Native.Nat.{ℕ}
 use Rattle.model.specs.declared.Monitor.{Monitor}
-use Rattle.rounds.specs.Feeds.{timeFalls, tooManyRecords, Answer as AbstractAnswer, refused, toldBroken, toldKept, toldDropped, entered, moved, quiet}
+use Rattle.rounds.specs.Feeds.{timeFalls, tooManyRecords, Answer as AbstractAnswer, refused, toldBroken}
+use Rattle.rounds.specs.Feeds.{toldKept, toldDropped, entered, moved, quiet}
 use Rattle.stepping.specs.declared.FeedRefusal.{FeedRefusal}
 use Rattle.stepping.specs.declared.FeedRefusal.the-variants.{NotAChart, Unfit, TimeFalls, TooManyRecords}
 use Rattle.stepping.specs.declared.Step.{Step}
 use Rattle.stepping.specs.declared.Answer.{Answer}
 use Rattle.stepping.specs.declared.Answer.the-variants.{Refused, Broken, Kept, Dropped, Entered, Moved, Quiet}
 
--- "20: the chart value is not one that some accepted bytes give", "21 an unfit monitor", 22, 23
+-- N9: 20 no chart, 21 an unfit monitor, 22 a time that falls, 23 too many records
 abbrev pub feedRefusalNumber : FeedRefusal → ℕ
 feedRefusalNumber NotAChart = 20
 feedRefusalNumber Unfit = 21
 feedRefusalNumber TimeFalls = timeFalls
 feedRefusalNumber TooManyRecords = tooManyRecords
 
--- "broken (record, reason), kept, dropped, entered (the prechart was completed), moved (something fired), quiet", in this order
+-- T27: the numbers of the answers, in the order in which they are tried
 abbrev pub answerNumber : Answer → ℕ
 answerNumber (Refused k) = feedRefusalNumber k
 answerNumber (Broken n k) = 1
@@ -46,7 +47,7 @@ isRefused Entered = false
 isRefused Moved = false
 isRefused Quiet = false
 
--- "A refusal gives the monitor as it came", and so does a broken monitor's answer: every field of it
+-- M14: with a refusal, and with a broken monitor's answer, every field of the monitor is handed back
 pub record HandsBack (m : Monitor) (r : Step) : Type 0 where
   pub refused : So (isRefused (r .answer)) → r .next ≡ m
   pub broken : m .tally .broken .at ≢ 0 → r .next ≡ m

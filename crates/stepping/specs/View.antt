@@ -13,9 +13,9 @@ use Rattle.rounds.specs.Chart.{Chart, Accepted}
 use Rattle.rounds.specs.Rows.{LogRecord}
 use Rattle.stepping.specs.declared.Head.{Head}
 
--- A term as one number, its word. Every relation bounds the difference d, the first clock's value less the second's, by a number k: from
--- above, d ≤ k, from below, k ≤ d, or from both sides. The word has the first clock, then the second clock, the sides and bias + k, each
--- at its place. A term of one clock has, as its second clock, a number from 8 on.
+-- A term as one number, its word. Every relation bounds the difference d, the first clock's value less the second's, by
+-- a number k: from above, d ≤ k, from below, k ≤ d, or from both sides. The word has the first clock, then the second
+-- clock, the sides and bias + k, each at its place. A term of one clock has, as its second clock, a number from 8 on.
 abbrev pub secondPlace : ℕ
 secondPlace = 0x10
 
@@ -52,8 +52,8 @@ secondValue w v = cond (ltb (secondOf w) mostClocks) (v (secondOf w)) 0
 abbrev pub bounded : ℕ → ℕ → ℕ → Bool
 bounded w x y = not (eqb (w / upperPlace % 2) 1 && ltb y x) && not (eqb (w / lowerPlace % 2) 1 && ltb x y)
 
--- the word's term holds, given each clock's value; word 0, without a side, is no term. The sums are d and k with bias and the second
--- clock's value added: no number is negative.
+-- the word's term holds, given each clock's value; word 0, without a side, is no term. The sums are d and k with bias
+-- and the second clock's value added: no number is negative.
 unfoldable pub holdsBy : ℕ → (ℕ → ℕ) → Bool
 holdsBy w v = bounded w (bias + v (firstOf w)) (boundOf w + secondValue w v)
 
@@ -82,8 +82,9 @@ pub record InChart (clocks w : ℕ) : Type 0 where
 -- what a compiled chart's words are
 pub record Words (clocks : ℕ) (terms : List ℕ) : Type 0 where
   pub named : (k : ℕ) → ¬ (getD terms k 0 ≡ 0) → InChart clocks (getD terms k 0)
-  -- behind a region's last term are zeros
-  pub ends : (i j k : ℕ) → j ≤ k → k < mostTerms → getD terms (i * mostTerms + j) 0 ≡ 0 → getD terms (i * mostTerms + k) 0 ≡ 0
+  -- after a region's last term come zeros
+  pub ends : (i j k : ℕ) → j ≤ k → k < mostTerms → getD terms (i * mostTerms + j) 0 ≡ 0
+      → getD terms (i * mostTerms + k) 0 ≡ 0
 
 -- every member of the set is a region, of at most 32
 pub record Within (count set : ℕ) : Type 0 where

@@ -22,17 +22,19 @@ ghost use Rattle.rounds.specs.Chart.{Chart};
 ghost use Rattle.rounds.specs.Rows.{Ready};
 ghost use Rattle.rounds.specs.Feeds.{mostRecords, entered, moved};
 ghost use Rattle.rounds.specs.Tally.{countedAs, counted as tallied, countedKept, countedDropped, countedBroken};
-ghost use Rattle.rounds.specs.Machine.{stuck, opening as opened, goOn, keepRound, dropRound, breakRound, conclude as concluded, accept as accepted, feed as fed, Fit};
+ghost use Rattle.rounds.specs.Machine.{stuck, opening as opened, goOn, keepRound, dropRound};
+ghost use Rattle.rounds.specs.Machine.{breakRound, conclude as concluded, accept as accepted, feed as fed, Fit};
 ghost use Rattle.stepping.specs.declared.Rest.the-variants.{Fails as FailsAt};
 ghost use Rattle.stepping.specs.Answers.{feedRefusalNumber, answerNumber, answerOf, HandsBack};
 ghost use Rattle.stepping.specs.Monitors.{momentsOf, placeAt, breakAt, tallyAt, monitorAt, stepOf};
 ghost use Rattle.stepping.specs.View.{bias, boundOf, bounded, Within, conditionBy, planChart, recordOf, Compiled};
-ghost use Rattle.stepping.specs.Parts.{readyBy, foundOf, Covers, soughtBy, valueAt, Testable, fireBy, takenAt, moveOf};
+ghost use Rattle.stepping.specs.Parts.{readyBy, foundOf, Covers, soughtBy};
+ghost use Rattle.stepping.specs.Parts.{valueAt, Testable, fireBy, takenAt, moveOf};
 
 pub const TERM_PLACES: usize = MOST_REGIONS * MOST_TERMS;
 
-// A term's word: the first clock below SECOND_PLACE, then the second clock, the two sides and, with BIAS added, the bound, each at its
-// place. What is small stands below, where a test of it needs no large constant.
+// A term's word: the first clock below SECOND_PLACE, then the second clock, the two sides and, with BIAS added, the
+// bound, each at its place. What is small stands below, where a test of it needs no large constant.
 pub const SECOND_PLACE: u64 = 0x10;
 
 pub const UPPER_PLACE: u64 = 0x100;
@@ -117,9 +119,10 @@ pub enum Found {
     Nothing,
 }
 
-// The lowest plain region that is ready: of those that are neither fired nor found unready, the first, and then the next.
+// The lowest plain region that is ready: of those that are neither fired nor found unready, the first, then the next.
 pub fn ready_plain(plain: u32, above: &[u32; MOST_REGIONS], fired: u32) -> Found
-    ensures { λ r. ⌜ ((count : ℕ) → Within count plain → foundOf r ≡ first count (λ i. contains plain i && readyBy (now (above .entry)) fired i)) ⌝ }
+    ensures { λ r. ⌜ ((count : ℕ) → Within count plain → foundOf r
+        ≡ first count (λ i. contains plain i && readyBy (now (above .entry)) fired i)) ⌝ }
 {
     let mut skip = bitset::join(fired, bitset::others(plain));
     let mut i = bitset::run(skip) as usize;
@@ -148,7 +151,9 @@ fn ready_for(
     fired: u32,
     code: u64,
 ) -> Found
-    ensures { λ r. ⌜ ((count : ℕ) → Covers count (now (keys .entry)) code among → foundOf r ≡ first count (λ i. eqb (getD (now (keys .entry)) i 0) code && readyBy (now (above .entry)) fired i)) ⌝ }
+    ensures { λ r. ⌜ ((count : ℕ) → Covers count (now (keys .entry)) code among
+        → foundOf r
+        ≡ first count (λ i. eqb (getD (now (keys .entry)) i 0) code && readyBy (now (above .entry)) fired i)) ⌝ }
 {
     let mut skip = bitset::join(fired, bitset::others(among));
     let mut i = bitset::run(skip) as usize;
@@ -164,7 +169,8 @@ fn ready_for(
 
 // Some region has the message.
 fn is_known(keys: &[u64; MOST_REGIONS], among: u32, code: u64) -> bool
-    ensures { λ r. ⌜ ((count : ℕ) → Covers count (now (keys .entry)) code among → r ≡ someBelow count (λ i. eqb (getD (now (keys .entry)) i 0) code)) ⌝ }
+    ensures { λ r. ⌜ ((count : ℕ) → Covers count (now (keys .entry)) code among
+        → r ≡ someBelow count (λ i. eqb (getD (now (keys .entry)) i 0) code)) ⌝ }
 {
     let mut skip = bitset::others(among);
     let mut i = bitset::run(skip) as usize;
@@ -186,7 +192,8 @@ fn seek(
     fired: u32,
     code: u64,
 ) -> Sought
-    ensures { λ r. ⌜ ((count : ℕ) → Covers count (now (keys .entry)) code among → r ≡ soughtBy (now (keys .entry)) (now (above .entry)) count fired code) ⌝ }
+    ensures { λ r. ⌜ ((count : ℕ) → Covers count (now (keys .entry)) code among
+        → r ≡ soughtBy (now (keys .entry)) (now (above .entry)) count fired code) ⌝ }
 {
     let f = ready_for(keys, above, among, fired, code);
     let Found::At(i) = f else {
@@ -239,12 +246,13 @@ fn second_value(b: usize, m: Moment, t: Moment) -> Length
     Length(0)
 }
 
-// All terms of region i hold at moment t. The array of moments is looked into here and lent no further: a call that takes it by value
-// would copy it for each clock.
+// All terms of region i hold at moment t. The array of moments is looked into here and lent no further: a call that
+// takes it by value would copy it for each clock.
 fn holds(terms: &[u64; TERM_PLACES], resets: [Moment; CLOCK_PLACES], i: usize, t: Moment) -> bool
     requires { ⌜ i < mostRegions ⌝ }
     requires { ⌜ ((c : ℕ) → momentsOf resets c ≤ t .0) ⌝ }
-    ensures { λ r. ⌜ ((clocks : ℕ) → Testable clocks (now (terms .entry)) → r ≡ conditionBy (now (terms .entry)) i (valueAt clocks (t .0) resets)) ⌝ }
+    ensures { λ r. ⌜ ((clocks : ℕ) → Testable clocks (now (terms .entry))
+        → r ≡ conditionBy (now (terms .entry)) i (valueAt clocks (t .0) resets)) ⌝ }
 {
     let mut j: usize = 0;
     while j < MOST_TERMS {
@@ -308,8 +316,7 @@ struct Settled {
     place: Place,
 }
 
-// Steps 3 and 4, from the ready region that has the message: it is tested on the clocks before its own resets and fires; then, while
-// a plain region is ready, the lowest likewise.
+// T12 to T15: the ready region that has the message, and then each lowest ready plain one, is tested and fired.
 fn take_region<'a>(
     h: Head,
     keys: &'a [u64; MOST_REGIONS],
@@ -323,7 +330,9 @@ fn take_region<'a>(
     requires { ⌜ Compiled h (now keys) (now above) (now resets) (now terms) ⌝ }
     requires { ⌜ Ready (planChart h (now keys) (now above) (now resets) (now terms)) (contains (p .fired)) i ⌝ }
     requires { ⌜ ((c : ℕ) → momentsOf (p .resets) c ≤ t .0) ⌝ }
-    ensures place { λ r. ⌜ moveOf r ≡ takenAt (planChart h (now (keys .entry)) (now (above .entry)) (now (resets .entry)) (now (terms .entry))) (t .0) (placeAt p) i ⌝ }
+    ensures place { λ r. ⌜ moveOf r
+        ≡ takenAt (planChart h (now (keys .entry)) (now (above .entry)) (now (resets .entry)) (now (terms .entry)))
+        (t .0) (placeAt p) i ⌝ }
     ensures region { λ r. ⌜ ((j : ℕ) → r .rest ≡ FailsAt j → j < mostRegions) ⌝ }
 {
     let mut q = p;
@@ -365,7 +374,7 @@ pub fn all_fired(n: usize, fired: u32) -> bool
     bitset::subset(below(n), fired)
 }
 
-// Nothing fired, every clock reset at moment t.
+// T22: the place at which a round opens at moment t.
 fn opening(clocks: usize, t: Moment) -> Place
     requires { ⌜ clocks ≤ mostClocks ⌝ }
     ensures { λ r. ⌜ ((C : Chart) → C .clocks ≡ clocks → placeAt r ≡ opened C (t .0)) ⌝ }
@@ -425,7 +434,8 @@ fn counted_broken(x: Tally, t: Moment, reason: u8) -> Tally
 // The round runs on at a place.
 fn go_on(m: Monitor, t: Moment, answer: Answer, place: Place) -> Step
     requires { ⌜ m .tally .records < mostRecords ⌝ }
-    ensures { λ r. ⌜ ((C : Chart) (code : ℕ) → stepOf r ≡ goOn C (monitorAt m) (recordOf code (t .0)) (answerOf answer) (placeAt place)) ⌝ }
+    ensures { λ r. ⌜ ((C : Chart) (code : ℕ) → stepOf r
+        ≡ goOn C (monitorAt m) (recordOf code (t .0)) (answerOf answer) (placeAt place)) ⌝ }
 {
     let tally = counted(m.tally, t);
     Step {
@@ -438,7 +448,8 @@ fn go_on(m: Monitor, t: Moment, answer: Answer, place: Place) -> Step
 fn keep_round(clocks: usize, m: Monitor, t: Moment) -> Step
     requires { ⌜ clocks ≤ mostClocks ⌝ }
     requires { ⌜ (m .tally .records < mostRecords) × (m .tally .kept ≤ m .tally .records) ⌝ }
-    ensures { λ r. ⌜ ((C : Chart) (code : ℕ) → C .clocks ≡ clocks → stepOf r ≡ keepRound C (monitorAt m) (recordOf code (t .0))) ⌝ }
+    ensures { λ r. ⌜ ((C : Chart) (code : ℕ) → C .clocks ≡ clocks
+        → stepOf r ≡ keepRound C (monitorAt m) (recordOf code (t .0))) ⌝ }
 {
     let at = opening(clocks, t);
     let tally = counted_kept(m.tally, t);
@@ -452,7 +463,8 @@ fn keep_round(clocks: usize, m: Monitor, t: Moment) -> Step
 fn drop_round(clocks: usize, m: Monitor, t: Moment) -> Step
     requires { ⌜ clocks ≤ mostClocks ⌝ }
     requires { ⌜ (m .tally .records < mostRecords) × (m .tally .dropped ≤ m .tally .records) ⌝ }
-    ensures { λ r. ⌜ ((C : Chart) (code : ℕ) → C .clocks ≡ clocks → stepOf r ≡ dropRound C (monitorAt m) (recordOf code (t .0))) ⌝ }
+    ensures { λ r. ⌜ ((C : Chart) (code : ℕ) → C .clocks ≡ clocks
+        → stepOf r ≡ dropRound C (monitorAt m) (recordOf code (t .0))) ⌝ }
 {
     let at = opening(clocks, t);
     let tally = counted_dropped(m.tally, t);
@@ -465,7 +477,8 @@ fn drop_round(clocks: usize, m: Monitor, t: Moment) -> Step
 // The round is broken, and the place stays.
 fn break_round(m: Monitor, t: Moment, reason: u8, place: Place) -> Step
     requires { ⌜ m .tally .records < mostRecords ⌝ }
-    ensures { λ r. ⌜ ((C : Chart) (code : ℕ) → stepOf r ≡ breakRound C (monitorAt m) (recordOf code (t .0)) reason (placeAt place)) ⌝ }
+    ensures { λ r. ⌜ ((C : Chart) (code : ℕ) → stepOf r
+        ≡ breakRound C (monitorAt m) (recordOf code (t .0)) reason (placeAt place)) ⌝ }
 {
     let tally = counted_broken(m.tally, t, reason);
     Step {
@@ -484,11 +497,12 @@ fn entered_or_moved(before: bool, after: bool) -> Answer
     Answer::Moved
 }
 
-// Step 6: a chart message with no ready region.
+// T18 and T19: no ready region has the chart message.
 fn unplaced(h: Head, m: Monitor, t: Moment) -> Step
     requires { ⌜ (h .prechart ≤ mostRegions) × (h .clocks ≤ mostClocks) ⌝ }
     requires { ⌜ (m .tally .records < mostRecords) × (m .tally .kept + m .tally .dropped ≤ m .tally .records) ⌝ }
-    ensures { λ r. ⌜ ((keys above resets terms : List ℕ) (code : ℕ) → stepOf r ≡ concluded (planChart h keys above resets terms) (monitorAt m) (recordOf code (t .0)) stuck) ⌝ }
+    ensures { λ r. ⌜ ((keys above resets terms : List ℕ) (code : ℕ)
+        → stepOf r ≡ concluded (planChart h keys above resets terms) (monitorAt m) (recordOf code (t .0)) stuck) ⌝ }
 {
     let at = m.at;
     if all_fired(h.prechart, at.fired) {
@@ -502,7 +516,9 @@ fn conclude(h: Head, m: Monitor, t: Moment, s: Settled) -> Step
     requires { ⌜ (h .count ≤ mostRegions) × (h .prechart ≤ mostRegions) × (h .clocks ≤ mostClocks) ⌝ }
     requires { ⌜ (m .tally .records < mostRecords) × (m .tally .kept + m .tally .dropped ≤ m .tally .records) ⌝ }
     requires { ⌜ ((i : ℕ) → s .rest ≡ FailsAt i → i < mostRegions) ⌝ }
-    ensures { λ r. ⌜ ((keys above resets terms : List ℕ) (code : ℕ) → stepOf r ≡ concluded (planChart h keys above resets terms) (monitorAt m) (recordOf code (t .0)) (moveOf s)) ⌝ }
+    ensures { λ r. ⌜ ((keys above resets terms : List ℕ) (code : ℕ)
+        → stepOf r
+        ≡ concluded (planChart h keys above resets terms) (monitorAt m) (recordOf code (t .0)) (moveOf s)) ⌝ }
 {
     let rest = s.rest;
     let place = s.place;
@@ -525,7 +541,8 @@ fn conclude(h: Head, m: Monitor, t: Moment, s: Settled) -> Step
     }
 }
 
-// A record that is neither refused nor behind a break; code 0 is a record of time. Every region that has its message is in `among`.
+// A record that is neither refused nor after a break; code 0 is a record of time. Every region that has its message is
+// in `among`.
 pub fn accept<'a>(
     h: Head,
     keys: &'a [u64; MOST_REGIONS],
@@ -541,7 +558,9 @@ pub fn accept<'a>(
     requires { ⌜ (m .tally .records < mostRecords) × (m .tally .kept + m .tally .dropped ≤ m .tally .records) ⌝ }
     requires { ⌜ ((c : ℕ) → momentsOf (m .at .resets) c ≤ t .0) ⌝ }
     requires { ⌜ Covers (h .count) (now keys) code among ⌝ }
-    ensures { λ r. ⌜ stepOf r ≡ accepted (planChart h (now (keys .entry)) (now (above .entry)) (now (resets .entry)) (now (terms .entry))) (monitorAt m) (recordOf code (t .0)) ⌝ }
+    ensures { λ r. ⌜ stepOf r
+        ≡ accepted (planChart h (now (keys .entry)) (now (above .entry)) (now (resets .entry)) (now (terms .entry)))
+        (monitorAt m) (recordOf code (t .0)) ⌝ }
 {
     let at = m.at;
     if code == 0 {
@@ -573,7 +592,9 @@ pub fn feed_fit<'a>(
     requires { ⌜ Compiled h (now keys) (now above) (now resets) (now terms) ⌝ }
     requires { ⌜ Fit (planChart h (now keys) (now above) (now resets) (now terms)) (monitorAt m) ⌝ }
     requires { ⌜ Covers (h .count) (now keys) code among ⌝ }
-    ensures step { λ r. ⌜ stepOf r ≡ fed (planChart h (now (keys .entry)) (now (above .entry)) (now (resets .entry)) (now (terms .entry))) (monitorAt m) (recordOf code (t .0)) ⌝ }
+    ensures step { λ r. ⌜ stepOf r
+        ≡ fed (planChart h (now (keys .entry)) (now (above .entry)) (now (resets .entry)) (now (terms .entry)))
+        (monitorAt m) (recordOf code (t .0)) ⌝ }
     ensures back { λ r. ⌜ HandsBack m r ⌝ }
 {
     let tally = m.tally;

@@ -99,7 +99,7 @@ caseFor b (toldBroken n k) = cond b 7 5
 abbrev pub statusWith : Config → Monitor → Status
 statusWith z m = statusAs z (m .tally .now) (m .tally .records) (m .tally .kept) (m .tally .dropped) (m .tally .broken .at) (m .tally .broken .reason)
 
--- one more record, behind the records fs
+-- one more record, after the records fs
 module _ (C : Chart) (A : Accepted C) (fs : Snoc LogRecord) (e : LogRecord) where
   abbrev m : Monitor
   m = after C fs
@@ -125,7 +125,7 @@ module _ (C : Chart) (A : Accepted C) (fs : Snoc LogRecord) (e : LogRecord) wher
     unfolding AtRest
     at-rest = P .fit .settled (P .unbroken)
 
-    -- the answer tells the case
+    -- the answer decides the case
     numbered : {y : Status} {a : Answer} (T : Taken C (statusOf C m) e y a)
         → caseOf C T ≡ caseFor (unplaceable (place C (m .at) e)) a
     unfolding caseFor unplaceable Unmatched configAt
@@ -152,7 +152,7 @@ module _ (C : Chart) (A : Accepted C) (fs : Snoc LogRecord) (e : LogRecord) wher
   abbrev TakenSo : ℕ → Config → Answer → Type 0
   TakenSo n z a = (T : Taken C (statusOf C m) e (statusWith z (feed C m e .next)) a) × (caseOf C T ≡ n)
 
-  -- the answer with the machine's move tells the case
+  -- the answer with the machine's move decides the case
   abbrev Case : Answer → ℕ
   Case a = caseFor (unplaceable (place C (m .at) e)) a
 

@@ -1,5 +1,5 @@
--- The other ways to end, to run on, to be fed and to be taken, and the source's steps: each by its constructor or by
--- the laws. Assumes nothing.
+-- The other ways to end, to run on, to be fed and to be taken, and the steps of S7 to S10: each by its constructor or
+-- by the laws. Assumes nothing.
 use mathlib.Core.Path.{_≡_, refl, ap, subst, _∙_}
 use mathlib.Core.Bool.{true, false}
 use mathlib.Core.List.{[], _∷_}
@@ -21,7 +21,7 @@ use Rattle.witness_rounds.proofs.Computing.{computing}
 use Rattle.witness_rounds.proofs.Laws.{wait-is, successor-is, ready-at, rests-at, next-at, unplaceable, caseFor, accepts, taken-anew, taken-at, turn-at}
 use Rattle.witness_rounds.proofs.Logs.{accepted-u, accepted-a}
 
--- behind an opening of chart U: nothing, undo at 100, and undo again at 110
+-- after an opening of chart U: nothing, undo at 100, and undo again at 110
 abbrev undone : Snoc LogRecord
 undone = logged (ε ▸ undo 100)
 
@@ -88,7 +88,7 @@ five-fed =
     (ends refl (broken noReadyRegion) (breaks 5)))
     again
 
--- chart A's configurations: 10 ticks after the opening; behind ask; 10 ticks later, behind pass; and behind region 2
+-- chart A's configurations: 10 ticks after the opening; after ask; 10 ticks later, after pass; and after region 2
 abbrev x₁ : Config
 x₁ = configOf ε (10 ∷ 10 ∷ [])
 

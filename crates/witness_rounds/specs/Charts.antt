@@ -1,5 +1,5 @@
--- Two charts beside document 01's chart U, and the records that are fed to the three. Regions are numbered from 0, as
--- in the theory.
+-- Two charts beside chart U (X1), and the records that are fed to the three. Regions are numbered from 0, as in the
+-- theory.
 use mathlib.Core.List.{List, [], _∷_}
 use Prim.Native.Nat.{ℕ}
 use Rattle.model.specs.declared.Record.{Record}

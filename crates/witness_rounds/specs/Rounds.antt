@@ -12,7 +12,8 @@ use Rattle.log_reader.specs.Records.{recordsIn}
 use Rattle.base.specs.Lists.{Snoc, ε, _▸_}
 use Rattle.rounds.specs.Chart.{Chart as Abstract}
 use Rattle.rounds.specs.Rows.{LogRecord, Row, stands, chartMessages, Lawful, NoRow, Full, LawfulButLast, firstFailing}
-use Rattle.rounds.specs.Feeds.{conditionFails, Outcome, kept, dropped, broken, Ends, Answer, toldKept, toldDropped, toldBroken}
+use Rattle.rounds.specs.Feeds.{conditionFails, Outcome, kept, dropped, broken}
+use Rattle.rounds.specs.Feeds.{Ends, Answer, toldKept, toldDropped, toldBroken}
 use Rattle.rounds.specs.Machine.{after}
 use Rattle.runs.specs.Paper.{Config, initial}
 use Rattle.runs.specs.Taken.{Status, Taken, caseOf, statusOf}
@@ -20,7 +21,8 @@ use Rattle.chart_value.specs.Records.{logRecord, logged}
 use Rattle.judge.specs.declared.Verdict.{Verdict}
 use Rattle.judge.specs.Judge.{judgeOf}
 use Rattle.claims.specs.Examples.{chartU}
-use Rattle.witness_rounds.specs.Charts.{chartA, chartB, undo, headings, references, ask, pass, answer, load, check, written}
+use Rattle.witness_rounds.specs.Charts.{chartA, chartB, undo, headings, references}
+use Rattle.witness_rounds.specs.Charts.{ask, pass, answer, load, check, written}
 
 -- the chart value that bytes give, and the chart of the theory that it shows
 abbrev pub valueOf : List ℕ → Chart
@@ -53,7 +55,7 @@ abbrev pub verdictAs : ℕ → ℕ → ℕ → ℕ → ℕ → ℕ → Verdict
 verdictAs standing k d n break reason =
     record { standing = standing; kept = k; dropped = d; records = n; broken = break; reason = reason }
 
--- Behind the records s, record e is taken by the case of this number, with this status after it and this answer. The
+-- After the records s, record e is taken by the case of this number, with this status after it and this answer. The
 -- cases: 0 passes, 1 moves, 2 enters, 3 keeps, 4 fails cold, 5 fails hot, 6 unmatched in the prechart, 7 in the main
 -- chart.
 abbrev pub TakenBy : ℕ → Abstract → Snoc Record → Record → Status → Answer → Type 0
@@ -93,7 +95,7 @@ pub record RoundShown (g : Round) : Type 0 where
   pub ends : Ends (theory (g .chart)) 0 (logged (g .before)) (logRecord (g .last)) (g .outcome)
   pub taken : TakenBy (g .case) (theory (g .chart)) (g .before) (g .last) (g .status) (g .told)
 
--- document 01's first marked example: undo is region 0, headings 1, references 2
+-- X3: undo is region 0, headings 1, references 2
 abbrev pub roundU : Round
 roundU = record {
   chart = chartU;
@@ -141,7 +143,7 @@ droppedA = record {
   verdict = verdictAs 0 0 1 2 0 0;
 }
 
--- answered a tick late: region 4, plain and hot, fails, behind region 3
+-- answered a tick late: region 4, plain and hot, fails, after region 3
 abbrev pub brokenA : Round
 brokenA = record {
   chart = chartA;
@@ -189,7 +191,7 @@ droppedB = record {
   verdict = verdictAs 0 0 1 2 0 0;
 }
 
--- checked a tick late: region 3, plain and hot, fails, behind region 1
+-- checked a tick late: region 3, plain and hot, fails, after region 1
 abbrev pub brokenB : Round
 brokenB = record {
   chart = chartB;

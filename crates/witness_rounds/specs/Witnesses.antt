@@ -8,13 +8,15 @@ use Rattle.model.specs.declared.Record.{Record}
 use Rattle.base.specs.Lists.{Snoc, ε, _▸_}
 use Rattle.rounds.specs.Chart.{Chart}
 use Rattle.rounds.specs.Rows.{Row, plain, NoRow, LawfulButLast}
-use Rattle.rounds.specs.Feeds.{timeFalls, noReadyRegion, Outcome, dropped, broken, behindBreak, Ends, refused, toldDropped, toldBroken, entered, moved, quiet, Onward, Fed}
+use Rattle.rounds.specs.Feeds.{timeFalls, noReadyRegion, Outcome, dropped, broken, behindBreak, Ends}
+use Rattle.rounds.specs.Feeds.{refused, toldDropped, toldBroken, entered, moved, quiet, Onward, Fed}
 use Rattle.rounds.specs.Machine.{after}
 use Rattle.runs.specs.Paper.{Config, Letter, message, silent, delay, initial, Advance, by, Prompt, Over, spelled}
 use Rattle.runs.specs.Taken.{Turn, statusOf}
 use Rattle.chart_value.specs.Records.{logRecord, logged}
 use Rattle.witness_rounds.specs.Charts.{passed, undo, headings, references, ask, pass, answer}
-use Rattle.witness_rounds.specs.Rounds.{U, A, configOf, statusAs, TakenBy, RoundShown, roundU, keptA, droppedA, brokenA, keptB, droppedB, brokenB}
+use Rattle.witness_rounds.specs.Rounds.{U, A, configOf, statusAs, TakenBy, RoundShown}
+use Rattle.witness_rounds.specs.Rounds.{roundU, keptA, droppedA, brokenA, keptB, droppedB, brokenB}
 
 -- the stretch of s and then e has no row, not even with the conditions at e waived, and ends so
 abbrev pub Unplaced : Chart → Snoc Record → Record → Outcome → Type 0
@@ -22,11 +24,11 @@ Unplaced C s e x =
     NoRow C 0 (logged s ▸ logRecord e) × ((r : Row) → ¬ LawfulButLast C 0 (logged s) (logRecord e) r)
     × Ends C 0 (logged s) (logRecord e) x
 
--- a step of the source over this letter, by this region
+-- S7 to S9: a step over this letter, by this region
 abbrev pub StepBy : Chart → ℕ → Config → Letter → Config → Type 0
 StepBy C i x u z = (a : Advance C x u z) × (by C a ≡ some i)
 
--- behind the records s, when record e comes, it is region i's turn in configuration z
+-- after the records s, when record e comes, it is region i's turn in configuration z
 abbrev pub TurnOf : Chart → Snoc Record → Record → ℕ → Config → Type 0
 TurnOf C s e i z = Turn C (statusOf C (after C (logged s))) (logRecord e) i z
 
@@ -46,7 +48,7 @@ pub record Witnesses : Type 0 where
   pub row-entered : Onward U ε (ε ▸ 0) entered
   pub row-moved : Onward U (ε ▸ 0) (ε ▸ 0 ▸ 2) moved
   pub row-quiet : Onward U (ε ▸ 0) (ε ▸ 0) quiet
-  -- `Fed` and `FedOne`: a stretch ends, one runs on, a record is refused, that stretch ends, and is told again
+  -- `Fed` and `FedOne`: a stretch ends, one runs on, a record is refused, that stretch ends, and is answered again
   pub five-fed : Fed U
       (logged (ε ▸ headings 5 ▸ undo 100 ▸ headings 99 ▸ undo 110 ▸ references 120))
       (ε ▸ toldDropped ▸ entered ▸ refused timeFalls ▸ toldBroken 3 noReadyRegion ▸ toldBroken 3 noReadyRegion)
@@ -65,7 +67,7 @@ pub record Witnesses : Type 0 where
   pub run-settles : Prompt A initial (ε ▸ delay 10 ▸ message (A .key 0) ▸ delay 10 ▸ message (A .key 1) ▸ silent)
       (configOf (ε ▸ 0 ▸ 1 ▸ 2) (10 ∷ 0 ∷ []))
   pub run-over : Over A initial (spelled 0 (logged (ε ▸ ask 10 ▸ pass 20))) (configOf (ε ▸ 0 ▸ 1 ▸ 2) (10 ∷ 0 ∷ []))
-  -- `Turn`: of a region with the record's message, and of a plain one behind it
+  -- `Turn`: of a region with the record's message, and of a plain one after it
   pub turn-heard : (plain U 1 ≡ false)
       × TurnOf U (ε ▸ undo 100 ▸ references 120) (headings 141) 1 (configOf (ε ▸ 0 ▸ 2) (41 ∷ []))
   pub turn-plain : (plain A 4 ≡ true)

@@ -1,4 +1,4 @@
--- Charts, each worked out by hand from document 01: every refusal with its offset, and every limit.
+-- Charts, each worked out by hand from the rules: every refusal with its offset, and every limit.
 use mathlib.Core.Path.{_≡_}
 use mathlib.Core.List.{List, [], _∷_, _++_}
 use Prim.Native.String.{String}
@@ -76,9 +76,9 @@ refusals =
     ∷ chartFault (hex "10 02 01 20 00 01 00 01 31 00 00 00 00 00 00 00") 4 8
     ∷ chartFault (hex "10 02 01 20 00 01 00 01 40 02") 4 8
     ∷ chartFault (hex "10 02 01 20 00 01 00 01 40 00") 4 8
-    -- 6, before 7: a hot plain region with neither term nor reset
+    -- 6, before 7: a plain region that is hot, and has no term and no reset
     ∷ chartFault (hex "10 02 01 20 00 01 00 01 50 21 00 01 32 7F") 6 9
-    -- 6, before 4: the region at 9 is bare, and the 20 behind it is of one line
+    -- 6, before 4: the region at 9 is bare, and the 20 after it is of one line
     ∷ chartFault (hex "10 02 01 50 20 00 01 00 01 21 00 01 20 00 00 00 01") 6 9
     -- 7: a hot message region without a term, and a hot plain one that has a reset
     ∷ chartFault (hex "10 02 01 50 20 00 01 00 01 32 7F") 7 4
@@ -88,7 +88,7 @@ refusals =
     -- 9: in a prechart, a line that no region before it touches; first in a main chart without a prechart
     ∷ chartFault (hex "10 03 01 20 00 01 00 01 21 00 04") 9 8
     ∷ chartFault (hex "10 02 01 50 21 00 01") 9 4
-    -- 10: no 50; no region behind it; before 11
+    -- 10: no 50; no region after it; before 11
     ∷ chartFault (hex "10 02 00 7F") 10 3
     ∷ chartFault (hex "10 02 00 20 00 01 00 01 50 7F") 10 9
     ∷ chartFault (hex "10 02 00 7F 00") 10 3
@@ -101,7 +101,7 @@ abbrev pub regions : ℕ → List ℕ → List ℕ
 regions zero rest = rest
 regions (suc n) rest = hex "20 00 01 00 01" ++ regions n rest
 
--- n terms, "clock 0 at most 40", and what follows them
+-- n terms, clock 0 ≤ 40, and what follows them
 abbrev pub terms : ℕ → List ℕ → List ℕ
 terms zero rest = rest
 terms (suc n) rest = hex "30 00 01 00 00 00 28" ++ terms n rest
@@ -123,7 +123,7 @@ limits =
     ∷ chartFault (ofRegions 33 "7F") 5 164
     ∷ chartFault (ofRegions 32 "21 00 04") 5 164
     ∷ chartFault (ofRegions 32 "20 00 00 00 01") 4 164
-    -- four terms are taken; the fifth stands at 8 + 4 * 7: 5, but 4 if it is of clock 1, of which there is none
+    -- four terms are taken; the fifth stands at 8 + 4 * 7: 5, but 4 if it is of clock 1, which the chart has not
     ∷ judged (ofTerms 4 "50 20 00 01 00 02 7F") [] 0 0 0 0 0 0
     ∷ chartFault (ofTerms 5 "") 5 36
     ∷ chartFault (ofTerms 4 "30 01 01 00 00 00 28") 4 36

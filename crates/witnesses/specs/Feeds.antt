@@ -1,4 +1,4 @@
--- Feeds, each worked out by hand from document 01: every answer and every refusal, by its number.
+-- Feeds, each worked out by hand from the rules: every answer and every refusal, by its number.
 use mathlib.Core.Path.{_≡_}
 use mathlib.Core.List.{List, [], _∷_, _++_}
 use Prim.Native.Nat.{ℕ}
@@ -103,7 +103,7 @@ feeds =
     -- 22: 99 is below 100, 100 isn't
     ∷ feeding chartU (stored 1 100 100 1 0 0) (passes 99) (answer.Refused TimeFalls) 22
     ∷ feeding chartU (stored 1 100 100 1 0 0) (passes 100) answer.Quiet 6
-    -- 23: behind 1,000,000 records, 22 before it; record 1,000,000 is taken
+    -- 23: after 1,000,000 records, 22 before it; record 1,000,000 is taken
     ∷ feeding chartU (stored 0 0 5 1000000 0 0) (passes 5) (answer.Refused TooManyRecords) 23
     ∷ feeding chartU (stored 0 0 5 1000000 0 0) (passes 4) (answer.Refused TimeFalls) 22
     ∷ feeding chartU (stored 0 0 5 999999 0 0) (passes 5) answer.Quiet 6

@@ -1,4 +1,4 @@
--- The formats' numbers in examples, and the printed texts, each worked out by hand from document 01.
+-- The formats' numbers in examples, and the printed texts, each worked out by hand from the rules.
 use mathlib.Core.Path.{_≡_}
 use mathlib.Core.List.{List, [], _∷_, _++_}
 use Prim.Native.String.{String}
@@ -29,7 +29,7 @@ Prints e = textOf (e .input) ≡ bytesOf (e .text)
 abbrev pub printed : List ℕ → String → Print
 printed input text = record { input = input; text = text }
 
--- chart U, of 38 bytes; undo at 100, references at 120, headings at a later time
+-- chart U, of 38 bytes; the log of X3, with headings at a later time
 abbrev pub undone : String → List ℕ
 undone time =
     hex "00 26"
@@ -38,7 +38,7 @@ undone time =
 -- The printed texts. An input is a chart's length in two bytes, the chart, the log.
 abbrev pub texts : List Print
 texts =
-    -- 41: no byte; one byte; length 1 with no byte behind it; length 256, not 1, with one byte behind it
+    -- 41: no byte; one byte; length 1 with no byte after it; length 256, not 1, with one byte after it
     printed [] "refused input 41 at 0\n"
     ∷ printed (hex "00") "refused input 41 at 0\n"
     ∷ printed (hex "00 01") "refused input 41 at 0\n"
@@ -46,7 +46,7 @@ texts =
     -- the chart 11 is an unknown command, the log 03 an unknown record: the chart's refusal goes first
     ∷ printed (hex "00 01 11") "refused chart 2 at 0\n"
     ∷ printed (hex "00 01 11 03") "refused chart 2 at 0\n"
-    -- a byte behind the end, at 10; a time that falls, at 5 of the log
+    -- a byte after the end, at 10; a time that falls, at 5 of the log
     ∷ printed (hex "00 0B 10 02 00 50 20 00 01 00 01 7F 00") "refused chart 11 at 10\n"
     ∷ printed (hex "00 0A 10 02 00 50 20 00 01 00 01 7F 02 00 00 00 05 02 00 00 00 04") "refused log 22 at 5\n"
     -- headings at 140 and at 141
@@ -54,7 +54,7 @@ texts =
     ∷ printed (undone "8D") "STANDING KEPT DROPPED RECORDS BREAK REASON\n3 0 0 3 3 2\n"
     ∷ []
 
--- a log's record of time 5 at offset 0, checked behind n others and the time 5
+-- a log's record of time 5 at offset 0, checked after n others and the time 5
 abbrev pub behind : ℕ → CheckStep
 behind n = stepAt (hex "02 00 00 00 05") 0 (record { 0 = 5 }) n
 

@@ -1,4 +1,4 @@
--- Conditions, clocks, orders and logs, each worked out by hand from document 01.
+-- Conditions, clocks, orders and logs, each worked out by hand from the rules.
 use mathlib.Core.List.{List, [], _∷_, _++_}
 use Prim.Native.String.{String}
 use Prim.Native.Nat.{ℕ}
@@ -93,8 +93,7 @@ conditions =
     ∷ differs "00 80 00 00 00" "FF FF FF FF"
     ∷ []
 
--- Clock 0 is reset at 10, clock 1 at 30: clock 0 minus clock 1 is 20, the other way round it is -20. The third message
--- has a term of the two.
+-- T5: clock 0 is reset at 10, clock 1 at 30, so their difference is 20 or -20. The third message has a term of the two.
 abbrev pub asked : String → List ℕ
 asked term = hex "10 02 02 20 00 01 00 01 40 01 20 00 01 00 02 40 02 50 20 00 01 00 03 31" ++ (hex term ++ hex "32 7F")
 
@@ -115,7 +114,7 @@ clocks =
     ∷ judged fiveToTen (sentAt "00 00 00 04") 3 0 0 1 1 2
     ∷ judged fiveToTen (sentAt "00 00 00 05") 0 1 0 1 0 0
     ∷ judged fiveToTen (sentAt "00 00 00 0B") 3 0 0 1 1 2
-    -- a region's own reset comes behind its test: the clock is 3
+    -- a region's own reset comes after its test: the clock is 3
     ∷ judged (hex "10 02 01 50 20 00 01 00 01 30 00 03 00 00 00 03 40 01 32 7F") (sentAt "00 00 00 03") 0 1 0 1 0 0
     -- without a 32 the round is dropped
     ∷ judged (hex "10 02 01 50 20 00 01 00 01 30 00 01 00 00 00 0A 7F") (sentAt "00 00 00 0B") 0 0 1 1 0 0
@@ -145,7 +144,7 @@ orders =
     -- in a prechart: a plain region on the message's source line, or on its destination line, has one above it
     ∷ judged (hex "10 02 01 20 00 01 00 01 21 00 01 40 01 50 20 00 01 00 02 7F") (sentAt "00 00 00 05") 2 0 0 1 0 0
     ∷ judged (hex "10 02 01 20 00 01 00 01 21 00 02 40 01 50 20 00 01 00 02 7F") (sentAt "00 00 00 05") 2 0 0 1 0 0
-    -- a plain region first in a main chart, behind a prechart; it fires at once
+    -- a plain region first in a main chart, after a prechart; it fires at once
     ∷ judged (hex "10 03 01 20 00 01 00 01 50 21 00 04 40 01 7F") (sentAt "00 00 00 05") 0 1 0 1 0 0
     ∷ []
 
@@ -164,7 +163,7 @@ logs =
     ∷ judged chartP (hex "01 00 01 00 01 00 00 00 05 01 00 01 00 02 00 00 00 05") 2 0 0 2 0 0
     ∷ judged chartP (hex "01 00 01 00 01 00 00 00 05 01 00 01 00 02 00 00 00 05 01 00 01 00 03 00 00 00 06") 0 1 0 3 0 0
     ∷ judged chartP (hex "01 00 01 00 01 00 00 00 05 01 00 01 00 02 00 00 00 05 01 00 01 00 02 00 00 00 06") 3 0 0 3 3 1
-    -- label 1 twice is dropped, label 2 behind it is dropped alone
+    -- label 1 twice is dropped, label 2 after it is dropped alone
     ∷ judged chartP (hex "01 00 01 00 01 00 00 00 05 01 00 01 00 01 00 00 00 06 01 00 01 00 02 00 00 00 07") 0 0 2 3 0 0
     -- times, and label 256, are counted and do nothing more; equal times are taken, and the last moment
     ∷ judged chartP (hex "02 00 00 00 05 02 00 00 00 05 01 00 01 00 01 00 00 00 05") 1 0 0 3 0 0

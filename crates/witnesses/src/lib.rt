@@ -1,4 +1,4 @@
-// Examples that are proved by computation, so that an error made alike in a definition and in the source is refused.
+// Examples that are proved by computation, so that an error made alike in a definition and in the program is refused.
 ghost use Rattle.witnesses.specs.Formats.{Formats};
 
 // The numbers of the formats.

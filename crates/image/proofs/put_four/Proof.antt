@@ -1,4 +1,4 @@
--- `image::put_four` meets its contract: four words, one behind the other. Assumes nothing.
+-- `image::put_four` meets its contract: four words, one after the other. Assumes nothing.
 use Rattle.text.proofs.Laws.{then}
 use borrow.Author.Needs.{needs}
 use Rattle.image.proofs.put_four.Statement.{statement}

@@ -1,4 +1,5 @@
--- `image::put_monitor` meets its contract: its three parts one behind the other, and the image is read as the monitor. Assumes nothing.
+-- `image::put_monitor` meets its contract: its three parts one after the other, and the image is read as the monitor.
+-- Assumes nothing.
 use Rattle.image.proofs.Owned.{owned}
 use Rattle.image.proofs.Laws.{monitor-back}
 use Rattle.text.specs.Text.{Wrote}

@@ -1,4 +1,4 @@
--- `image::put_word32` meets its contract: four bytes, one behind the other. Assumes nothing.
+-- `image::put_word32` meets its contract: four bytes, one after the other. Assumes nothing.
 use Rattle.image.proofs.Laws.{word-of}
 use Rattle.text.proofs.Laws.{then}
 use borrow.Author.Needs.{needs}

@@ -1,4 +1,5 @@
--- `judge::code_at` meets its contract: the byte decides, and the four bytes behind it are the lines and the label. Assumes nothing.
+-- `judge::code_at` meets its contract: the byte decides, and the next four bytes are the lines and the label. Assumes
+-- nothing.
 use mathlib.Core.Path.{_≡_, sym, _∙_}
 use Prim.Native.Nat.{ℕ, _+_, _*_, _/_, _%_}
 use native.Mathlib.Omega.{arith}

@@ -1,4 +1,4 @@
--- By the tally, whose break the answer tells. Assumes nothing.
+-- By the tally, whose break the answer has. Assumes nothing.
 use mathlib.Core.Path.{ap}
 use borrow.Author.Needs.{needs}
 use Rattle.rounds.specs.Tally.{Tally}
