@@ -1,4 +1,5 @@
--- A live monitor as bytes: the monitor's image, the chart's length in eight bytes, the chart's bytes; and what is done with it.
+-- V1: a live monitor as bytes, the monitor's image, the chart's length in eight bytes, the chart's bytes; and what is
+-- done with it.
 use Prim.Native.Nat.{ℕ, _+_, _-_}
 use mathlib.Core.Path.{_≡_}
 use mathlib.Core.Logic.{_↔_}
@@ -40,7 +41,7 @@ isFramed l = leb headSize (length l) && leb (lengthIn l) (length l - headSize)
 abbrev pub chartPart : List ℕ → List ℕ
 chartPart l = take (lengthIn l) (drop headSize l)
 
--- the chart in the bytes; a chart of zeros where there is none, as the reader gives for bytes that it refuses
+-- the chart in the bytes; a chart of zeros where the reader refuses it
 unfoldable pub chartIn : List ℕ → Chart
 chartIn l = cond (isFramed l) (readChart (chartPart l) .chart) zeroChart
 
@@ -48,7 +49,7 @@ chartIn l = cond (isFramed l) (readChart (chartPart l) .chart) zeroChart
 unfoldable pub isLive : List ℕ → Bool
 isLive l = isFramed l && eqb (readChart (chartPart l) .number) 0
 
--- "the bytes that a live monitor of a chart of so many bytes takes"; the largest number of 64 bits where the sum is above it
+-- V9: the size of a live monitor, by the length of its chart; the largest number of 64 bits where the sum is above it
 abbrev pub largest : ℕ
 largest = 0xffff_ffff_ffff_ffff
 
@@ -75,15 +76,16 @@ openedOf chart room = openedBy (readChart chart) (liveSize (length chart)) room
 
 -- only an opened buffer is written, and only where the live monitor stands
 unfoldable pub bytesOpened : List ℕ → List ℕ → List ℕ
-bytesOpened chart l = cond (eqb (openedOf chart (length l) .number) 0) (freshBytes chart ++ drop (liveSize (length chart)) l) l
+bytesOpened chart l =
+    cond (eqb (openedOf chart (length l) .number) 0) (freshBytes chart ++ drop (liveSize (length chart)) l) l
 
 -- what an opened buffer holds: the chart that was read, and a fresh monitor
 pub record Holds (chart l : List ℕ) : Type 0 where
   pub chart-read : chartIn l ≡ readChart chart .chart
   pub fresh : monitorIn l ≡ zeroMonitor
 
--- The bytes after a feed: as they were where it was refused or the monitor is broken already, else the monitor handed back, and all
--- other bytes as they were.
+-- V11: the bytes after a feed, as they were where it was refused or the monitor is broken already, else the monitor
+-- handed back, and all other bytes as they were.
 abbrev pub isBroken : Monitor → Bool
 isBroken m = not (eqb (m .tally .broken .at) 0)
 

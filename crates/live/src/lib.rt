@@ -14,7 +14,8 @@ ghost use Rattle.base.specs.Lists.{ε};
 ghost use Rattle.stepping.specs.Answers.{feedRefusalNumber, isRefused};
 ghost use Rattle.judge.specs.Judge.{zeroVerdict};
 ghost use Rattle.image.specs.Image.{monitorSize};
-ghost use Rattle.live.specs.Live.{headSize, chartIn, liveSize, freshBytes, openedOf, bytesOpened, Holds, FedBy, Fed, standingBy, standingIn};
+ghost use Rattle.live.specs.Live.{headSize, chartIn, liveSize, freshBytes, openedOf, bytesOpened, Holds};
+ghost use Rattle.live.specs.Live.{FedBy, Fed, standingBy, standingIn};
 ghost use Rattle.live.specs.Runs.{LiveRun, RunsOn, LiveClaims};
 
 // The monitor's image and the chart's length.
@@ -88,7 +89,7 @@ pub fn open(chart: &[u8], live: &mut [u8]) -> Opened
     }
 }
 
-// The chart in the bytes; zeros where there is none.
+// The chart in the bytes; zeros where they hold no chart.
 fn chart_in(live: &[u8]) -> Chart
     ensures { λ r. ⌜ r ≡ chartIn (now (live .entry)) ⌝ }
 {

@@ -1,4 +1,4 @@
--- What judging and printing return and write, in the numbers of document 01.
+-- V7, V8: what judging and printing return and write.
 use Prim.Native.Nat.{ℕ}
 use mathlib.Core.Bool.{Bool, cond, _||_}
 use mathlib.Core.List.{List, [], _∷_, _++_}

@@ -1,4 +1,4 @@
-// The exported functions of whole logs. Numbers returned are document 01's; 0 is success, 12 a buffer with too few places.
+// V7, V8: the exported functions of whole logs. 0 is success, 12 a buffer with too few places.
 use listing::Part;
 use listing::Report;
 use live::TOO_SHORT;
@@ -11,7 +11,8 @@ ghost use Prim.Native.Nat.{_≤_};
 ghost use lib.ListN.{length, drop};
 ghost use Rattle.respond.specs.Respond.{partsReport, textOf, responseOf, bufferAfter, countOf};
 ghost use Rattle.numbers.specs.Numbers.{places};
-ghost use Rattle.lsc.specs.Lsc.{partNumber, reportNumbers, reportNumber, judgedNumber, judgedOut, isJudgedNumber, printedNumber};
+ghost use Rattle.lsc.specs.Lsc.{partNumber, reportNumbers, reportNumber, judgedNumber, judgedOut};
+ghost use Rattle.lsc.specs.Lsc.{isJudgedNumber, printedNumber};
 
 // The number of the part that a refusal speaks of.
 fn part_number(part: Part) -> u64
@@ -53,9 +54,11 @@ fn put_report(out: &mut [u64], report: Report) -> u8
 // Judges a whole log against a chart.
 #[no_mangle]
 pub extern "C" fn lsc_judge(chart: &[u8], log: &[u8], out: &mut [u64]) -> u8
-    ensures number { λ r. ⌜ r ≡ judgedNumber (partsReport (now (chart .entry)) (now (log .entry))) (now (out .entry)) ⌝ }
+    ensures number { λ r. ⌜ r ≡ judgedNumber (partsReport (now (chart .entry)) (now (log .entry)))
+        (now (out .entry)) ⌝ }
     ensures listed { λ r. ⌜ isJudgedNumber r ≡ true ⌝ }
-    ensures numbers { λ r. ⌜ now (out .exit) ≡ judgedOut (partsReport (now (chart .entry)) (now (log .entry))) (now (out .entry)) ⌝ }
+    ensures numbers { λ r. ⌜ now (out .exit) ≡ judgedOut (partsReport (now (chart .entry)) (now (log .entry)))
+        (now (out .entry)) ⌝ }
     ensures unchanged { λ r. ⌜ (now (chart .exit) ≡ now (chart .entry)) × (now (log .exit) ≡ now (log .entry)) ⌝ }
 {
     if out.len() < PLACES {
@@ -68,7 +71,8 @@ pub extern "C" fn lsc_judge(chart: &[u8], log: &[u8], out: &mut [u64]) -> u8
 #[no_mangle]
 pub extern "C" fn lsc_print(input: &[u8], out: &mut [u8], written: &mut u64) -> u8
     ensures number { λ r. ⌜ r ≡ printedNumber (responseOf (length (now (out .entry))) (textOf (now (input .entry)))) ⌝ }
-    ensures count { λ r. ⌜ now (written .exit) ≡ countOf (responseOf (length (now (out .entry))) (textOf (now (input .entry)))) ⌝ }
+    ensures count { λ r. ⌜ now (written .exit)
+        ≡ countOf (responseOf (length (now (out .entry))) (textOf (now (input .entry)))) ⌝ }
     ensures buffer { λ r. ⌜ now (out .exit) ≡ bufferAfter (now (out .entry)) (textOf (now (input .entry))) ⌝ }
     ensures unchanged { λ r. ⌜ now (input .exit) ≡ now (input .entry) ⌝ }
 {

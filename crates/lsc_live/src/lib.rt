@@ -1,4 +1,4 @@
-// The exported functions of live monitors. Numbers returned are document 01's; 0 is success, 12 a buffer with too few places.
+// V9 to V12: the exported functions of live monitors. 0 is success, 12 a buffer with too few places.
 use live::TOO_SHORT;
 use model::Message;
 use model::Moment;
@@ -41,7 +41,9 @@ pub extern "C" fn lsc_feed_message(
     label: u16,
     time: u32,
 ) -> u8
-    ensures { λ r. ⌜ Fed (now (live .entry)) (MessageAt (record { source = source; destination = destination; label = label }) (record { 0 = time })) r (now (live .exit)) ⌝ }
+    ensures { λ r. ⌜ Fed (now (live .entry))
+        (MessageAt (record { source = source; destination = destination; label = label }) (record { 0 = time }))
+        r (now (live .exit)) ⌝ }
 {
     let message = Message {
         source,

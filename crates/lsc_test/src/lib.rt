@@ -1,5 +1,5 @@
 // The exported functions that only tests use: a monitor made and fed by its image, and the check of a log.
-// Numbers returned are document 01's; 12 is a buffer with too few places.
+// V16: 12 is a buffer with too few places.
 use judge::Checked;
 use live::TOO_SHORT;
 use model::Message;
@@ -64,7 +64,9 @@ pub extern "C" fn lsc_test_feed_message(
     label: u16,
     time: u32,
 ) -> u8
-    ensures fed { λ r. ⌜ FedImage (now (chart .entry)) (now (monitor .entry)) (MessageAt (record { source = source; destination = destination; label = label }) (record { 0 = time })) r (now (monitor .exit)) ⌝ }
+    ensures fed { λ r. ⌜ FedImage (now (chart .entry)) (now (monitor .entry))
+        (MessageAt (record { source = source; destination = destination; label = label }) (record { 0 = time }))
+        r (now (monitor .exit)) ⌝ }
     ensures unchanged { λ r. ⌜ now (chart .exit) ≡ now (chart .entry) ⌝ }
 {
     let message = Message {
@@ -78,7 +80,8 @@ pub extern "C" fn lsc_test_feed_message(
 // Feeds a record of time to a monitor by its image.
 #[no_mangle]
 pub extern "C" fn lsc_test_feed_time(chart: &[u8], monitor: &mut [u8], time: u32) -> u8
-    ensures fed { λ r. ⌜ FedImage (now (chart .entry)) (now (monitor .entry)) (TimeAt (record { 0 = time })) r (now (monitor .exit)) ⌝ }
+    ensures fed { λ r. ⌜ FedImage (now (chart .entry)) (now (monitor .entry)) (TimeAt (record { 0 = time }))
+        r (now (monitor .exit)) ⌝ }
     ensures unchanged { λ r. ⌜ now (chart .exit) ≡ now (chart .entry) ⌝ }
 {
     feed_image(chart, monitor, Record::Time(Moment(time)))
