@@ -7,6 +7,7 @@ pub mod Endings
 pub mod Feeds
 pub mod Cuts
 pub mod Stretches
+pub mod Agreeing
 pub mod Exactly
 pub mod Fitness
 pub mod Demand3

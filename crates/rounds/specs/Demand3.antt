@@ -87,5 +87,9 @@ pub record Demand3 (C : Chart) : Type 0 where
   -- W22 to W28: every answer, and the monitor in the end
   pub monitor-agrees : {fs : Snoc LogRecord} (M : Meaning C fs)
       → (answers C fs ≡ M .told) × Agrees C (M .accepted) (M .stretches) (M .last) (after C fs)
+  -- no other tally agrees, and if the last stretch has no end, no other monitor
+  pub agrees-only : {fs : Snoc LogRecord} (M : Meaning C fs) (m : Monitor)
+      → Agrees C (M .accepted) (M .stretches) (M .last) m
+      → (m .tally ≡ after C fs .tally) × ((o : ℕ) (s : Snoc LogRecord) → M .last ≡ unended o s → m ≡ after C fs)
   -- W29: refusal 21 never occurs
   pub stays-fit : (fs : Snoc LogRecord) → Fit C (after C fs)
