@@ -8,7 +8,7 @@ use lib.Seq.{sets-eq}
 use Rattle.wire.proofs.Past.{past32}
 use Rattle.model.specs.declared.Moment.{Moment}
 use Rattle.model.specs.declared.Monitor.{Monitor}
-use Rattle.stepping.specs.Monitors.{momentsOf}
+use Rattle.firing.specs.Places.{momentsOf}
 use Rattle.text.specs.Text.{Wrote}
 use Rattle.text.proofs.Laws.{spelled}
 use Rattle.image.specs.Image.{wordBytes, longBytes, word64, monitorSize, monitorBytes, monitorIn}

@@ -6,7 +6,7 @@ use Rattle.wire.specs.Bytes.{word32}
 use Rattle.model.specs.declared.Moment.{Moment}
 use Rattle.model.specs.declared.Tally.{Tally}
 use Rattle.model.specs.declared.Monitor.{Monitor}
-use Rattle.stepping.specs.Monitors.{momentsOf}
+use Rattle.firing.specs.Places.{momentsOf}
 
 -- a number in four bytes
 abbrev pub wordBytes : ℕ → List ℕ

@@ -30,8 +30,7 @@ use Rattle.log_reader.specs.Record.{messageByte, timeByte, messageSize, timeSiz
 use Rattle.log_reader.specs.Records.{onRecord, recordsFrom, recordsIn}
 use Rattle.log_reader.proofs.Records.{one-record}
 use Rattle.stepping.specs.declared.Step.{Step}
-use Rattle.stepping.specs.Monitors.{monitorAt, stepOf}
-use Rattle.stepping.specs.View.{recordOf}
+use Rattle.stepping.specs.Monitors.{monitorAt, stepOf, recordOf}
 use Rattle.plan.specs.Plan.{recordCode}
 use Rattle.chart_value.specs.Records.{logRecord, logged}
 use Rattle.stepping.proofs.Zeros.{zero-fresh}

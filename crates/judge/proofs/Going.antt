@@ -24,9 +24,8 @@ use Rattle.log_reader.specs.Record.{nextAt}
 use Rattle.log_reader.specs.Records.{recordsIn}
 use Rattle.log_reader.proofs.Places.{at-end, taken-past}
 use Rattle.stepping.specs.declared.Step.{Step}
-use Rattle.stepping.specs.Monitors.{monitorAt, stepOf}
-use Rattle.stepping.specs.View.{recordOf}
-use Rattle.stepping.specs.Parts.{Covers}
+use Rattle.stepping.specs.Monitors.{monitorAt, stepOf, recordOf}
+use Rattle.layout.specs.View.{Covers}
 use Rattle.plan.specs.Plan.{recordCode}
 use Rattle.plan.specs.Slots.{slotOf, Slotted}
 use Rattle.chart_value.specs.Records.{logged}

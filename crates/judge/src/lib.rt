@@ -218,7 +218,7 @@ fn standing(prechart: usize, m: Monitor) -> u8
     if at.fired == 0 {
         return NOTHING_FIRED;
     }
-    if stepping::all_fired(prechart, at.fired) {
+    if firing::all_fired(prechart, at.fired) {
         return OWED;
     }
     IN_PRECHART

@@ -17,9 +17,8 @@ use Rattle.chart_value.specs.View.{chartOf}
 use Rattle.rounds.specs.Chart.{Chart as Abstract}
 use Rattle.rounds.specs.Machine as machine
 use Rattle.stepping.specs.declared.FeedRefusal.the-variants.{NotAChart, Unfit}
-use Rattle.stepping.specs.Monitors.{monitorAt}
-use Rattle.stepping.specs.View.{recordOf}
-use Rattle.stepping.specs.Parts.{Covers}
+use Rattle.stepping.specs.Monitors.{monitorAt, recordOf}
+use Rattle.layout.specs.View.{Covers}
 use Rattle.plan.specs.Plan.{recordCode}
 use Rattle.monitor.specs.Fit.{fits}
 use Rattle.monitor.specs.Feed.{refuse, feedOf}

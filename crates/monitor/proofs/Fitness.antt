@@ -26,12 +26,13 @@ use Rattle.rounds.specs.Machine.{full, readyPlain, Fit}
 use Rattle.base.proofs.Bools.{split, clash, and-both, and-left, and-right, or-left, or-right, either}
 use Rattle.base.proofs.Facts.{all-of, all-at}
 use Rattle.rounds.proofs.Machine.{full-true, full-false, plain-none, plain-is-none}
-use Rattle.stepping.specs.declared.Head.{Head}
-use Rattle.stepping.specs.declared.Found.{Found}
-use Rattle.stepping.specs.Monitors.{momentsOf, monitorAt}
-use Rattle.stepping.specs.View.{planChart, Compiled}
-use Rattle.stepping.specs.Parts.{readyBy, foundOf}
-use Rattle.stepping.proofs.Ready.{lt-two-pow, subset-all, found-plain}
+use Rattle.layout.specs.declared.Head.{Head}
+use Rattle.firing.specs.declared.Found.{Found}
+use Rattle.firing.specs.Places.{momentsOf}
+use Rattle.stepping.specs.Monitors.{monitorAt}
+use Rattle.layout.specs.View.{planChart, Compiled}
+use Rattle.firing.specs.Parts.{readyBy, foundOf}
+use Rattle.firing.proofs.Ready.{lt-two-pow, subset-all, found-plain}
 use Rattle.monitor.specs.Fit.{closedUpward, isNone, restsUnlessBroken, momentsFit, breakFits, countsFit, fits}
 
 -- a set whose members are below n is a number below 2 ^ n

@@ -29,7 +29,8 @@ use Rattle.stepping.specs.declared.Answer.{Answer}
 use Rattle.stepping.specs.declared.Answer.the-variants.{Refused, Broken, Kept, Dropped, Entered, Moved, Quiet}
 use Rattle.stepping.specs.declared.FeedRefusal.the-variants.{TimeFalls, TooManyRecords}
 use Rattle.stepping.specs.Answers.{answerOf}
-use Rattle.stepping.specs.Monitors.{momentsOf, monitorAt}
+use Rattle.firing.specs.Places.{momentsOf}
+use Rattle.stepping.specs.Monitors.{monitorAt}
 use Rattle.stepping.proofs.Back.{Taken, accept-taken}
 use Rattle.monitor.specs.Feed.{Stored}
 

@@ -14,7 +14,7 @@ use Rattle.base.specs.Lists.{allBelow}
 use Rattle.rounds.specs.Chart.{Chart as Abstract}
 use Rattle.rounds.specs.Feeds.{mostRecords, noReadyRegion, conditionFails}
 use Rattle.rounds.specs.Machine.{full, readyPlain}
-use Rattle.stepping.specs.Monitors.{momentsOf}
+use Rattle.firing.specs.Places.{momentsOf}
 
 -- each region above a fired one is fired
 unfoldable pub closedUpward : Abstract → ℕ → Bool

@@ -1,4 +1,7 @@
 // Making a monitor and feeding it records.
+use firing::Found;
+use layout::Head;
+use layout::TERM_PLACES;
 use model::Break;
 use model::CLOCK_PLACES;
 use model::Chart;
@@ -11,11 +14,8 @@ use model::Tally;
 use stepping::Answer;
 use stepping::CONDITION_FAILS;
 use stepping::FeedRefusal;
-use stepping::Found;
-use stepping::Head;
 use stepping::NO_READY_REGION;
 use stepping::Step;
-use stepping::TERM_PLACES;
 ghost use mathlib.Core.Path.{_≡_};
 ghost use mathlib.Core.Bool.{true, not, _||_};
 ghost use mathlib.Core.Logic.{_↔_};
@@ -26,8 +26,8 @@ ghost use Rattle.model.specs.Chart.{mostRegions, mostClocks};
 ghost use Rattle.base.specs.Lists.{allBelow};
 ghost use Rattle.rounds.specs.Machine.{Fit};
 ghost use Rattle.stepping.specs.Monitors.{monitorAt, stepOf};
-ghost use Rattle.stepping.specs.View.{planChart, Compiled};
-ghost use Rattle.stepping.specs.Parts.{foundOf};
+ghost use Rattle.layout.specs.View.{planChart, Compiled};
+ghost use Rattle.firing.specs.Parts.{foundOf};
 ghost use Rattle.stepping.specs.Answers.{HandsBack};
 ghost use Rattle.monitor.specs.Fit.{isNone, momentsFit, breakFits, countsFit, fits};
 ghost use Rattle.monitor.specs.Feed.{Stored, MadeOf, refuse, feedOf};
@@ -125,11 +125,11 @@ pub fn is_fit<'a>(
     let moments = at.resets;
     let tally = m.tally;
     let count = h.count;
-    let rests = is_nothing(stepping::ready_plain(h.plain, above, fired));
+    let rests = is_nothing(firing::ready_plain(h.plain, above, fired));
     let settled = (tally.broken.at != 0) | rests;
     let counted = counts_fit(tally) & break_fits(tally.records, tally.broken);
     let set = bitset::within(count as u32, fired)
-        & (!stepping::all_fired(count, fired)
+        & (!firing::all_fired(count, fired)
             & (settled & (moments_fit(h.clocks, moments, tally.now) & counted)));
     closed_upward(above, count, fired) & set
 }
@@ -188,7 +188,7 @@ pub fn feed(chart: Chart, monitor: Monitor, e: Record) -> Step
         h,
         &p.keys,
         &p.above,
-        stepping::below(h.count),
+        firing::below(h.count),
         &p.resets,
         &p.terms,
         monitor,

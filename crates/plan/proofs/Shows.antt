@@ -23,7 +23,7 @@ use Rattle.rounds.specs.Chart.{Accepted}
 use Rattle.chart_value.specs.View.{codeOf, keyOf, regionOf, chartOf}
 use Rattle.chart_value.proofs.Facts.{WellFormed}
 use Rattle.chart_value.proofs.Order.{fits-at}
-use Rattle.stepping.specs.View.{bias, conditionBy, planChart, InChart, Words}
+use Rattle.layout.specs.View.{bias, conditionBy, planChart, InChart, Words}
 use Rattle.plan.specs.declared.Plan.{Plan}
 use Rattle.plan.specs.Words.{wordOf, wordAt}
 use Rattle.plan.specs.Plan.{Compiles}

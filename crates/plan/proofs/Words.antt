@@ -22,7 +22,7 @@ use Rattle.condition.specs.Parts.{inRelation, positivePart, negativePart}
 use Rattle.condition.proofs.Signed.{compares-exactly, one-clock}
 use Rattle.base.specs.Lists.{allBelow}
 use Rattle.chart_value.specs.WellFormed.{leftFits}
-use Rattle.stepping.specs.View.{secondPlace, upperPlace, lowerPlace, boundPlace, bias, clockCodes, firstOf, secondOf, holdsBy, InChart}
+use Rattle.layout.specs.View.{secondPlace, upperPlace, lowerPlace, boundPlace, bias, clockCodes, firstOf, secondOf, holdsBy, InChart}
 use Rattle.plan.specs.Words.{sidesOf, biased, raisedBy, loweredBy, boundBy, firstClock, secondClock, wordOf, wordAt}
 
 -- the bound by how far it lies above the number, and how far below

@@ -5,7 +5,7 @@ use Rattle.model.specs.declared.Chart.{Chart}
 use Rattle.model.specs.declared.Record.{Record}
 use Rattle.model.specs.declared.Record.the-variants.{Message, Time}
 use Rattle.chart_value.specs.View.{codeOf, chartOf}
-use Rattle.stepping.specs.View.{planChart, Compiled}
+use Rattle.layout.specs.View.{planChart, Compiled}
 use Rattle.plan.specs.declared.Plan.{Plan}
 
 -- a record's message as a number; 0 for a record of time

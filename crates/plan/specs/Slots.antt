@@ -4,7 +4,7 @@ use mathlib.Core.List.{List}
 use Prim.Native.Nat.{ℕ, _*_, _/_, _%_, _<_}
 use lib.ListN.{getD}
 use Rattle.bitset.specs.Set.{contains}
-use Rattle.stepping.specs.View.{bias}
+use Rattle.layout.specs.View.{bias}
 
 abbrev pub spread : ℕ
 spread = 0x9E37_79B1

@@ -9,7 +9,7 @@ use Rattle.model.specs.declared.Left.the-variants.{Clock, Difference}
 use Rattle.model.specs.declared.Relation.{Relation}
 use Rattle.model.specs.declared.Relation.the-variants.{Less, AtMost, Equal, AtLeast, More}
 use Rattle.model.specs.Chart.{mostClocks, termAt}
-use Rattle.stepping.specs.View.{secondPlace, upperPlace, boundPlace, bias}
+use Rattle.layout.specs.View.{secondPlace, upperPlace, boundPlace, bias}
 
 -- the sides on which a relation bounds the difference: 1 above, 2 below, 3 both
 abbrev pub sidesOf : Relation → ℕ

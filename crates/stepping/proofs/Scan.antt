@@ -18,14 +18,14 @@ use Rattle.rounds.specs.Machine.{Monitor as AbstractMonitor, Step, stuck, ready
 use Rattle.base.proofs.Bools.{split, and-left}
 use Rattle.base.proofs.Facts.{found, first-some}
 use Rattle.rounds.proofs.Machine.{for-some}
-use Rattle.stepping.specs.declared.Head.{Head}
-use Rattle.stepping.specs.declared.Sought.{Sought}
-use Rattle.stepping.specs.declared.Sought.the-variants.{Ready as ReadyAt, Unready, Foreign}
-use Rattle.stepping.specs.Monitors.{monitorAt}
-use Rattle.stepping.specs.View.{planChart, Compiled, recordOf}
-use Rattle.stepping.specs.Parts.{readyBy, soughtBy, takenAt}
+use Rattle.layout.specs.declared.Head.{Head}
+use Rattle.firing.specs.declared.Sought.{Sought}
+use Rattle.firing.specs.declared.Sought.the-variants.{Ready as ReadyAt, Unready, Foreign}
+use Rattle.stepping.specs.Monitors.{monitorAt, recordOf}
+use Rattle.layout.specs.View.{planChart, Compiled}
+use Rattle.firing.specs.Parts.{readyBy, soughtBy, takenAt}
 use Rattle.base.proofs.Loops.{one-passes}
-use Rattle.stepping.proofs.Ready.{first-same, ready-same}
+use Rattle.firing.proofs.Ready.{first-same, ready-same}
 
 -- the ready region that has the message, and whether some region has it
 abbrev theReady : List ℕ → List ℕ → ℕ → ℕ → ℕ → Option ℕ

@@ -10,7 +10,8 @@ use Rattle.model.specs.Chart.{mostClocks}
 use Rattle.model.specs.Monitor.{zeroMonitor}
 use Rattle.rounds.specs.Tally.{freshTally}
 use Rattle.rounds.specs.Machine.{fresh}
-use Rattle.stepping.specs.Monitors.{momentsOf, monitorAt}
+use Rattle.firing.specs.Places.{momentsOf}
+use Rattle.stepping.specs.Monitors.{monitorAt}
 
 zero-moments : (k : ℕ) → momentsOf (zeroMonitor .at .resets) k ≡ 0
 zero-moments k = by (decLt k mostClocks)

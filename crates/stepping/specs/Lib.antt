@@ -1,4 +1,2 @@
 pub mod Answers
 pub mod Monitors
-pub mod View
-pub mod Parts

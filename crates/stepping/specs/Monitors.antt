@@ -1,25 +1,14 @@
--- What a stored monitor and the result of a feed show of the theory's.
-use mathlib.Core.List.{List}
+-- What a stored monitor, a record and the result of a feed show of the theory's.
 use Prim.Native.Nat.{ℕ}
-use lib.ListN.{getD}
-use Rattle.bitset.specs.Set.{contains}
-use Rattle.model.specs.declared.Moment.{Moment}
-use Rattle.model.specs.declared.Place.{Place}
 use Rattle.model.specs.declared.Break.{Break}
 use Rattle.model.specs.declared.Tally.{Tally}
 use Rattle.model.specs.declared.Monitor.{Monitor}
+use Rattle.rounds.specs.Rows.{LogRecord}
 use Rattle.rounds.specs.Tally.{Break as AbstractBreak, Tally as AbstractTally}
-use Rattle.rounds.specs.Machine.{Place as AbstractPlace, Monitor as AbstractMonitor, Step as AbstractStep}
+use Rattle.rounds.specs.Machine.{Monitor as AbstractMonitor, Step as AbstractStep}
+use Rattle.firing.specs.Places.{placeAt}
 use Rattle.stepping.specs.declared.Step.{Step}
 use Rattle.stepping.specs.Answers.{answerOf}
-
--- each clock's reset moment
-abbrev pub momentsOf : List Moment → ℕ → ℕ
-momentsOf l c = getD l c (record { 0 = 0 }) .0
-
--- a stored place
-abbrev pub placeAt : Place → AbstractPlace
-placeAt p = record { fired = contains (p .fired); clocks = momentsOf (p .resets) }
 
 -- a stored break and a stored tally
 abbrev pub breakAt : Break → AbstractBreak
@@ -41,3 +30,7 @@ monitorAt m = record { at = placeAt (m .at); tally = tallyAt (m .tally) }
 -- an answer with the monitor after it
 abbrev pub stepOf : Step → AbstractStep
 stepOf s = record { answer = answerOf (s .answer); next = monitorAt (s .next) }
+
+-- a record by its code, 0 where only time passes, and its time
+abbrev pub recordOf : ℕ → ℕ → LogRecord
+recordOf code t = record { time = t; code = code }

@@ -5,7 +5,7 @@ use native.Mathlib.Omega.{arith}
 use borrow.Author.Needs.{needs}
 use lib.ListN.{length}
 use Rattle.model.specs.declared.Moment.{Moment}
-use Rattle.stepping.specs.View.{planChart}
+use Rattle.layout.specs.View.{planChart}
 use Rattle.log_reader.proofs.Places.{taken-past}
 use Rattle.judge.proofs.Fed.{code-of, fit-here, fed-none, fed-bad, fed-broken}
 use Rattle.judge.proofs.Going.{slot-covers, Going, going-start, some-left, going-end, taken-later, taken-few, taken-one, going-on}

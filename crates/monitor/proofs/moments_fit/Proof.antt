@@ -5,7 +5,7 @@ use native.Mathlib.Omega.{arith}
 use borrow.Author.Needs.{needs}
 use lib.Dec.{eqb, leb, ltb}
 use Rattle.model.specs.Chart.{mostClocks}
-use Rattle.stepping.specs.Monitors.{momentsOf}
+use Rattle.firing.specs.Places.{momentsOf}
 use Rattle.monitor.specs.Fit.{momentsFit}
 use Rattle.base.proofs.Joins.{AllSoFar, all-start, all-next, all-below}
 use Rattle.monitor.proofs.moments_fit.Statement.{statement}
