@@ -16,11 +16,12 @@ use lib.ListN.{length, getD, List·getD-eq-default}
 use Rattle.bitset.specs.Set.{contains, isSubset, within}
 use Rattle.bitset.proofs.Laws.{within-true, lt-within, member-lt, members-subset, contains-below}
 use Rattle.model.specs.declared.Moment.{Moment}
+use Rattle.model.specs.declared.Place.{Place}
 use Rattle.model.specs.declared.Monitor.{Monitor}
 use Rattle.model.specs.Chart.{mostClocks}
 use Rattle.base.specs.Lists.{allBelow, first}
 use Rattle.rounds.specs.Chart.{Chart as Abstract, Accepted}
-use Rattle.rounds.specs.Rows.{plain, Ready}
+use Rattle.rounds.specs.Rows.{plain, Ready, Full}
 use Rattle.rounds.specs.Feeds.{mostRecords, noReadyRegion, conditionFails}
 use Rattle.rounds.specs.Machine.{full, readyPlain, Fit}
 use Rattle.base.proofs.Bools.{split, clash, and-both, and-left, and-right, or-left, or-right, either}
@@ -33,7 +34,7 @@ use Rattle.stepping.specs.Monitors.{monitorAt}
 use Rattle.layout.specs.View.{planChart, Compiled}
 use Rattle.firing.specs.Parts.{readyBy, foundOf}
 use Rattle.firing.proofs.Ready.{lt-two-pow, subset-all, found-plain}
-use Rattle.monitor.specs.Fit.{closedUpward, isNone, restsUnlessBroken, momentsFit, breakFits, countsFit, fits}
+use Rattle.monitor.specs.Fit.{closedUpward, isNone, restsUnlessBroken, momentsFit, breakFits, countsFit, placeFits, fits}
 
 -- a set whose members are below n is a number below 2 ^ n
 members-within : (n s : ℕ) → ((i : ℕ) → So (contains s i) → i < n) → within n s ≡ true
@@ -43,14 +44,23 @@ members-within n s h =
     let q : bitAnd s (2 ^ n - 1) ≡ s = eqb-true _ _ e in
     lt-within n s (subst (λ (x : ℕ). x < 2 ^ n) q (lt-of-le-of-lt (and-le-r s (2 ^ n - 1)) (ones-lt n)))
 
-module _ (C : Abstract) (A : Accepted C) (m : Monitor) where
-  abbrev fired : ℕ
-  fired = m .at .fired
+-- what a place that fits at moment t has, with the record of a break, or 0
+pub record FitPlace (C : Abstract) (x : Place) (t b : ℕ) : Type 0 where
+  pub closed : (i a : ℕ) → So (contains (x .fired) i) → So (C .above a i) → So (contains (x .fired) a)
+  pub within : (i : ℕ) → So (contains (x .fired) i) → i < C .regions
+  pub unfinished : ¬ Full C (contains (x .fired))
+  pub settled : b ≡ 0 → (j : ℕ) → So (plain C j) → ¬ Ready C (contains (x .fired)) j
+  pub moments : (k : ℕ) → momentsOf (x .resets) k ≤ t
+  pub unused : (k : ℕ) → C .clocks ≤ k → momentsOf (x .resets) k ≡ 0
 
-  beyond : length (m .at .resets) ≡ mostClocks → (k : ℕ) → mostClocks ≤ k → momentsOf (m .at .resets) k ≡ 0
+module _ (C : Abstract) (A : Accepted C) (x : Place) (t b : ℕ) where
+  abbrev fired : ℕ
+  fired = x .fired
+
+  beyond : length (x .resets) ≡ mostClocks → (k : ℕ) → mostClocks ≤ k → momentsOf (x .resets) k ≡ 0
   beyond size k h =
-      let l : length (m .at .resets) ≤ k = omega arith in
-      ap (λ (x : Moment). x .0) (List·getD-eq-default (m .at .resets) (record { 0 = 0 }) l)
+      let l : length (x .resets) ≤ k = omega arith in
+      ap (λ (x : Moment). x .0) (List·getD-eq-default (x .resets) (record { 0 = 0 }) l)
 
   -- each clause
   closed-of : So (closedUpward C fired) → So (within (C .regions) fired) → (i a : ℕ) → So (contains fired i) → So (C .above a i) → So (contains fired a)
@@ -68,42 +78,71 @@ module _ (C : Abstract) (A : Accepted C) (m : Monitor) where
         | inr p ↦ rw p
       ])
 
-  rests-of : So (restsUnlessBroken C fired (m .tally .broken .at)) → m .tally .broken .at ≡ 0 → (j : ℕ) → So (plain C j) → ¬ Ready C (contains fired) j
+  rests-of : So (restsUnlessBroken C fired b) → b ≡ 0 → (j : ℕ) → So (plain C j) → ¬ Ready C (contains fired) j
   unfolding restsUnlessBroken
-  rests-of e b = plain-none C A (contains fired) (none-of (readyPlain C (contains fired)) (rw b at e))
+  rests-of e z = plain-none C A (contains fired) (none-of (readyPlain C (contains fired)) (rw z at e))
     where
       none-of : (o : Option ℕ) → So (isNone o) → o ≡ none
       none-of none e = refl
       none-of (some i) e = clash e refl
 
-  of-rests : (m .tally .broken .at ≡ 0 → (j : ℕ) → So (plain C j) → ¬ Ready C (contains fired) j) → So (restsUnlessBroken C fired (m .tally .broken .at))
+  of-rests : (b ≡ 0 → (j : ℕ) → So (plain C j) → ¬ Ready C (contains fired) j) → So (restsUnlessBroken C fired b)
   unfolding restsUnlessBroken
-  of-rests f = elim (split (eqb (m .tally .broken .at) 0)) [
+  of-rests f = elim (split (eqb b 0)) [
     | inl e ↦ rw (e, plain-is-none C A (contains fired) (f (eqb-true _ _ e)))
     | inr e ↦ rw e
   ]
 
-  moments-of : length (m .at .resets) ≡ mostClocks → So (momentsFit (C .clocks) (m .at .resets) (m .tally .now .0)) → (k : ℕ) → (momentsOf (m .at .resets) k ≤ m .tally .now .0) × (C .clocks ≤ k → momentsOf (m .at .resets) k ≡ 0)
+  moments-of : length (x .resets) ≡ mostClocks → So (momentsFit (C .clocks) (x .resets) t) → (k : ℕ) → (momentsOf (x .resets) k ≤ t) × (C .clocks ≤ k → momentsOf (x .resets) k ≡ 0)
   unfolding momentsFit
   moments-of size e k = by (decLt k mostClocks)
     where
-      by : Dec (k < mostClocks) → (momentsOf (m .at .resets) k ≤ m .tally .now .0) × (C .clocks ≤ k → momentsOf (m .at .resets) k ≡ 0)
+      by : Dec (k < mostClocks) → (momentsOf (x .resets) k ≤ t) × (C .clocks ≤ k → momentsOf (x .resets) k ≡ 0)
       by (yes l) =
-          let f = all-at mostClocks (λ k. leb (momentsOf (m .at .resets) k) (m .tally .now .0) && (ltb k (C .clocks) || eqb (momentsOf (m .at .resets) k) 0)) e k l in (
-            leb-true _ _ (and-left (leb (momentsOf (m .at .resets) k) (m .tally .now .0)) _ f),
-            λ h. eqb-true _ _ (rw (le-ltb k (C .clocks) h) at (and-right (leb (momentsOf (m .at .resets) k) (m .tally .now .0)) (ltb k (C .clocks) || eqb (momentsOf (m .at .resets) k) 0) f)),
+          let f = all-at mostClocks (λ k. leb (momentsOf (x .resets) k) t && (ltb k (C .clocks) || eqb (momentsOf (x .resets) k) 0)) e k l in (
+            leb-true _ _ (and-left (leb (momentsOf (x .resets) k) t) _ f),
+            λ h. eqb-true _ _ (rw (le-ltb k (C .clocks) h) at (and-right (leb (momentsOf (x .resets) k) t) (ltb k (C .clocks) || eqb (momentsOf (x .resets) k) 0) f)),
           )
       by (no l) = let z = beyond size k (omega arith) in (omega arith, λ h. z)
 
-  of-moments : ((k : ℕ) → momentsOf (m .at .resets) k ≤ m .tally .now .0) → ((k : ℕ) → C .clocks ≤ k → momentsOf (m .at .resets) k ≡ 0) → So (momentsFit (C .clocks) (m .at .resets) (m .tally .now .0))
+  of-moments : ((k : ℕ) → momentsOf (x .resets) k ≤ t) → ((k : ℕ) → C .clocks ≤ k → momentsOf (x .resets) k ≡ 0) → So (momentsFit (C .clocks) (x .resets) t)
   unfolding momentsFit
   of-moments f g =
       all-of mostClocks _ (λ k l. and-both (le-leb _ _ (f k)) (by k (decLt k (C .clocks))))
     where
-      by : (k : ℕ) → Dec (k < C .clocks) → So (ltb k (C .clocks) || eqb (momentsOf (m .at .resets) k) 0)
+      by : (k : ℕ) → Dec (k < C .clocks) → So (ltb k (C .clocks) || eqb (momentsOf (x .resets) k) 0)
       by k (yes h) = or-left _ (lt-ltb k (C .clocks) h)
       by k (no h) = let q : C .clocks ≤ k = omega arith in or-right (ltb k (C .clocks)) (eq-eqb _ _ (g k q))
 
+  pub place-of : length (x .resets) ≡ mostClocks → So (placeFits C x t b) → FitPlace C x t b
+  unfolding placeFits
+  place-of size e =
+      let e₁ = and-right (closedUpward C fired) _ e in
+      let e₂ = and-right (within (C .regions) fired) _ e₁ in
+      let e₃ = and-right (not (full C (contains fired))) _ e₂ in
+      let w = and-left (within (C .regions) fired) _ e₁ in
+      let ms = moments-of size (and-right (restsUnlessBroken C fired b) _ e₃) in
+      record {
+        closed = closed-of (and-left (closedUpward C fired) _ e) w;
+        within = λ i p. member-lt (C .regions) fired i (within-true _ _ w) p;
+        unfinished = full-false C (contains fired) (not-true _ (and-left (not (full C (contains fired))) _ e₂));
+        settled = rests-of (and-left (restsUnlessBroken C fired b) _ e₃);
+        moments = λ k. ms k .0;
+        unused = λ k. ms k .1;
+      }
+
+  pub of-place : FitPlace C x t b → So (placeFits C x t b)
+  unfolding placeFits
+  of-place F =
+      and-both (of-closed (F .closed))
+      (and-both (members-within (C .regions) fired (F .within))
+      (and-both (not-full (full C (contains fired)) refl) (and-both (of-rests (F .settled)) (of-moments (F .moments) (F .unused)))))
+    where
+      not-full : (d : Bool) → full C (contains fired) ≡ d → So (not d)
+      not-full true e = absurd (F .unfinished (full-true C (contains fired) e))
+      not-full false e = refl
+
+module _ (C : Abstract) (A : Accepted C) (m : Monitor) where
   Breaks : Type 0
   Breaks = ((m .tally .broken .at ≡ 0) × (m .tally .broken .reason ≡ 0))
       ⊎ ((1 ≤ m .tally .broken .at) × (m .tally .broken .at ≤ m .tally .records) × ((m .tally .broken .reason ≡ noReadyRegion) ⊎ (m .tally .broken .reason ≡ conditionFails)))
@@ -137,39 +176,33 @@ module _ (C : Abstract) (A : Accepted C) (m : Monitor) where
   fit-of : length (m .at .resets) ≡ mostClocks → So (fits C m) → Fit C (monitorAt m)
   unfolding fits countsFit Breaks
   fit-of size e =
-      let e₁ = and-right (closedUpward C fired) _ e in
-      let e₂ = and-right (within (C .regions) fired) _ e₁ in
-      let e₃ = and-right (not (full C (contains fired))) _ e₂ in
-      let e₄ = and-right (restsUnlessBroken C fired (m .tally .broken .at)) _ e₃ in
-      let e₅ = and-right (momentsFit (C .clocks) (m .at .resets) (m .tally .now .0)) _ e₄ in
-      let counts = and-left (leb (m .tally .records) mostRecords && leb (m .tally .kept + m .tally .dropped) (m .tally .records)) _ e₅ in
-      let w = and-left (within (C .regions) fired) _ e₁ in
-      let ms = moments-of size (and-left (momentsFit (C .clocks) (m .at .resets) (m .tally .now .0)) _ e₄) in
+      let P = place-of C A (m .at) (m .tally .now .0) (m .tally .broken .at) size (and-left (placeFits C (m .at) (m .tally .now .0) (m .tally .broken .at)) _ e) in
+      let t = and-right (placeFits C (m .at) (m .tally .now .0) (m .tally .broken .at)) _ e in
+      let counts = and-left (leb (m .tally .records) mostRecords && leb (m .tally .kept + m .tally .dropped) (m .tally .records)) _ t in
       record {
-        closed = closed-of (and-left (closedUpward C fired) _ e) w;
-        within = λ i p. member-lt (C .regions) fired i (within-true _ _ w) p;
-        unfinished = full-false C (contains fired) (not-true _ (and-left (not (full C (contains fired))) _ e₂));
-        settled = rests-of (and-left (restsUnlessBroken C fired (m .tally .broken .at)) _ e₃);
-        moments = λ k. ms k .0;
-        unused = λ k. ms k .1;
+        closed = P .closed;
+        within = P .within;
+        unfinished = P .unfinished;
+        settled = P .settled;
+        moments = P .moments;
+        unused = P .unused;
         few = leb-true _ _ (and-left (leb (m .tally .records) mostRecords) _ counts);
         counts = leb-true _ _ (and-right (leb (m .tally .records) mostRecords) _ counts);
-        break-fits = break-of (and-right (leb (m .tally .records) mostRecords && leb (m .tally .kept + m .tally .dropped) (m .tally .records)) _ e₅);
+        break-fits = break-of (and-right (leb (m .tally .records) mostRecords && leb (m .tally .kept + m .tally .dropped) (m .tally .records)) _ t);
       }
 
   pub of-fit : Fit C (monitorAt m) → So (fits C m)
   unfolding fits countsFit Breaks
   of-fit F =
-      and-both (of-closed (F .closed))
-      (and-both (members-within (C .regions) fired (F .within))
-      (and-both (not-full (full C (contains fired)) refl)
-      (and-both (of-rests (F .settled))
-      (and-both (of-moments (F .moments) (F .unused))
-      (and-both (and-both (le-leb _ _ (F .few)) (le-leb _ _ (F .counts))) (of-break (F .break-fits)))))))
-    where
-      not-full : (b : Bool) → full C (contains fired) ≡ b → So (not b)
-      not-full true e = absurd (F .unfinished (full-true C (contains fired) e))
-      not-full false e = refl
+      and-both (of-place C A (m .at) (m .tally .now .0) (m .tally .broken .at) (record {
+        closed = F .closed;
+        within = F .within;
+        unfinished = F .unfinished;
+        settled = F .settled;
+        moments = F .moments;
+        unused = F .unused;
+      }))
+      (and-both (and-both (le-leb _ _ (F .few)) (le-leb _ _ (F .counts))) (of-break (F .break-fits)))
 
   -- what the test promises
   pub fit-exactly : length (m .at .resets) ≡ mostClocks → (r : Bool) → r ≡ fits C m → (r ≡ true) ↔ Fit C (monitorAt m)
@@ -179,31 +212,37 @@ all-same : (n : ℕ) (s t : ℕ → Bool) → ((i : ℕ) → i < n → s i ≡ t
 all-same zero s t h = refl
 all-same (suc n) s t h = ap₂ _&&_ (all-same n s t (λ i l. h i (omega arith))) (h n (omega arith))
 
-module _ {h : Head} {keys above resets terms : List ℕ} (K : Compiled h keys above resets terms) (m : Monitor) where
+module _ {h : Head} {keys above resets terms : List ℕ} (K : Compiled h keys above resets terms) where
   abbrev compiled : Abstract
   compiled = planChart h keys above resets terms
 
-  closed-same : allBelow (h .count) (λ i. not (contains (m .at .fired) i) || isSubset (getD above i 0) (m .at .fired)) ≡ closedUpward compiled (m .at .fired)
+  closed-same : (f : ℕ) → allBelow (h .count) (λ i. not (contains f i) || isSubset (getD above i 0) f) ≡ closedUpward compiled f
   unfolding closedUpward
-  closed-same =
+  closed-same f =
       all-same (h .count) _ _
-      (λ i l. ap (λ (b : Bool). not (contains (m .at .fired) i) || b)
-      (subset-all (h .count) (getD above i 0) (m .at .fired) (λ a p. omega (arith, K .accepted .downward a i p))))
+      (λ i l. ap (λ (b : Bool). not (contains f i) || b)
+      (subset-all (h .count) (getD above i 0) f (λ a p. omega (arith, K .accepted .downward a i p))))
 
-  -- the tests joined as the code joins them
-  pub tested : (closed set all rests moments counts break : Bool) (o : Found)
-      → closed ≡ allBelow (h .count) (λ i. not (contains (m .at .fired) i) || isSubset (getD above i 0) (m .at .fired))
-      → set ≡ within (h .count) (m .at .fired)
-      → all ≡ allBelow (h .count) (contains (m .at .fired))
-      → foundOf o ≡ first (h .count) (λ i. contains (h .plain) i && readyBy above (m .at .fired) i) → rests ≡ isNone (foundOf o)
-      → moments ≡ momentsFit (h .clocks) (m .at .resets) (m .tally .now .0) → counts ≡ countsFit (m .tally)
+  -- the tests of a place joined as the code joins them
+  pub tested : (x : Place) (t b : ℕ) (closed set all rests moments : Bool) (o : Found)
+      → closed ≡ allBelow (h .count) (λ i. not (contains (x .fired) i) || isSubset (getD above i 0) (x .fired))
+      → set ≡ within (h .count) (x .fired)
+      → all ≡ allBelow (h .count) (contains (x .fired))
+      → foundOf o ≡ first (h .count) (λ i. contains (h .plain) i && readyBy above (x .fired) i) → rests ≡ isNone (foundOf o)
+      → moments ≡ momentsFit (h .clocks) (x .resets) t
+      → (closed && (set && (not all && ((not (eqb b 0) || rests) && moments)))) ≡ placeFits compiled x t b
+  unfolding placeFits full restsUnlessBroken
+  tested x t b closed set all rests moments o e₁ e₂ e₃ f e₄ e₅ =
+      let n = found-plain K (x .fired) o refl f in
+      λ i. (e₁ ∙ closed-same (x .fired)) i && (e₂ i && (not (e₃ i) && ((not (eqb b 0) || (e₄ ∙ ap isNone (sym n)) i) && e₅ i)))
+
+  -- what `is_fit` promises, from the tests of the place and of the tally
+  pub fit-test : (m : Monitor) → length (m .at .resets) ≡ mostClocks → (place counts break : Bool)
+      → place ≡ placeFits compiled (m .at) (m .tally .now .0) (m .tally .broken .at) → counts ≡ countsFit (m .tally)
       → break ≡ breakFits (m .tally .records) (m .tally .broken)
-      → (closed && (set && (not all && ((not (eqb (m .tally .broken .at) 0) || rests) && (moments && (counts && break)))))) ≡ fits compiled m
-  unfolding fits full restsUnlessBroken
-  tested closed set all rests moments counts break o e₁ e₂ e₃ f e₄ e₅ e₆ e₇ =
-      let n = found-plain K (m .at .fired) o refl f in
-      λ i. (e₁ ∙ closed-same) i && (e₂ i && (not (e₃ i) && ((not (eqb (m .tally .broken .at) 0) || (e₄ ∙ ap isNone (sym n)) i) && (e₅ i && (e₆ i && e₇ i)))))
-
-  -- what `is_fit` promises, from the test alone
-  pub fit-test : length (m .at .resets) ≡ mostClocks → (r : Bool) → r ≡ fits compiled m → (r ≡ fits compiled m) × ((r ≡ true) ↔ Fit compiled (monitorAt m))
-  fit-test size r e = (e, fit-exactly compiled (K .accepted) m size r e)
+      → ((place && (counts && break)) ≡ fits compiled m) × (((place && (counts && break)) ≡ true) ↔ Fit compiled (monitorAt m))
+  unfolding fits
+  fit-test m size place counts break e₁ e₂ e₃ = (same, fit-exactly compiled (K .accepted) m size _ same)
+    where
+      same : (place && (counts && break)) ≡ fits compiled m
+      same = λ i. e₁ i && (e₂ i && e₃ i)

@@ -6,6 +6,7 @@ use Prim.Native.Nat.{ℕ, _+_}
 use lib.Dec.{eqb, leb, ltb}
 use Rattle.bitset.specs.Set.{contains, within}
 use Rattle.model.specs.declared.Moment.{Moment}
+use Rattle.model.specs.declared.Place.{Place}
 use Rattle.model.specs.declared.Break.{Break}
 use Rattle.model.specs.declared.Tally.{Tally}
 use Rattle.model.specs.declared.Monitor.{Monitor}
@@ -45,13 +46,18 @@ breakFits records b =
 unfoldable pub countsFit : Tally → Bool
 countsFit x = leb (x .records) mostRecords && leb (x .kept + x .dropped) (x .records)
 
+-- the place fits at moment t, with the record of a break, or 0
+unfoldable pub placeFits : Abstract → Place → ℕ → ℕ → Bool
+placeFits C p t break =
+    closedUpward C (p .fired)
+    -- no bit is set beyond the regions
+    && (within (C .regions) (p .fired)
+    -- some region is not fired
+    && (not (full C (contains (p .fired)))
+    && (restsUnlessBroken C (p .fired) break && momentsFit (C .clocks) (p .resets) t)))
+
+-- the place, and then the tally
 unfoldable pub fits : Abstract → Monitor → Bool
 fits C m =
-    closedUpward C (m .at .fired)
-    -- no bit is set beyond the regions
-    && (within (C .regions) (m .at .fired)
-    -- some region is not fired
-    && (not (full C (contains (m .at .fired)))
-    && (restsUnlessBroken C (m .at .fired) (m .tally .broken .at)
-    && (momentsFit (C .clocks) (m .at .resets) (m .tally .now .0)
-    && (countsFit (m .tally) && breakFits (m .tally .records) (m .tally .broken))))))
+    placeFits C (m .at) (m .tally .now .0) (m .tally .broken .at)
+    && (countsFit (m .tally) && breakFits (m .tally .records) (m .tally .broken))

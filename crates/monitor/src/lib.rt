@@ -9,6 +9,7 @@ use model::MOST_RECORDS;
 use model::MOST_REGIONS;
 use model::Moment;
 use model::Monitor;
+use model::Place;
 use model::Record;
 use model::Tally;
 use stepping::Answer;
@@ -19,7 +20,8 @@ use stepping::Step;
 ghost use mathlib.Core.Path.{_≡_};
 ghost use mathlib.Core.Bool.{true, not, _||_};
 ghost use mathlib.Core.Logic.{_↔_};
-ghost use Prim.Native.Nat.{_≤_, _<_};
+ghost use mathlib.Core.List.{List};
+ghost use Prim.Native.Nat.{ℕ, _≤_, _<_};
 ghost use lib.ListN.{length, getD};
 ghost use Rattle.bitset.specs.Set.{contains, isSubset};
 ghost use Rattle.model.specs.Chart.{mostRegions, mostClocks};
@@ -29,7 +31,7 @@ ghost use Rattle.stepping.specs.Monitors.{monitorAt, stepOf};
 ghost use Rattle.layout.specs.View.{planChart, Compiled};
 ghost use Rattle.firing.specs.Parts.{foundOf};
 ghost use Rattle.stepping.specs.Answers.{HandsBack};
-ghost use Rattle.monitor.specs.Fit.{isNone, momentsFit, breakFits, countsFit, fits};
+ghost use Rattle.monitor.specs.Fit.{isNone, momentsFit, breakFits, countsFit, placeFits, fits};
 ghost use Rattle.monitor.specs.Feed.{Stored, MadeOf, refuse, feedOf};
 ghost use Rattle.chart_value.specs.Records.{logRecord};
 
@@ -104,7 +106,25 @@ fn is_nothing(f: Found) -> bool
     }
 }
 
-// Whether the monitor is fit for the compiled chart.
+// Whether a place fits the compiled chart at moment t; a plain region may be ready at the place of a break, at a record
+// that is not 0.
+pub fn place_fits(h: Head, above: &[u32; MOST_REGIONS], p: Place, t: Moment, broken: u32) -> bool
+    requires { ⌜ h .count ≤ mostRegions ⌝ }
+    ensures test { λ r. ⌜ ((keys resets terms : List ℕ) → Compiled h keys (now (above .entry)) resets terms
+        → r ≡ placeFits (planChart h keys (now (above .entry)) resets terms) p (t .0) broken) ⌝ }
+    ensures places { λ r. ⌜ length (p .resets) ≡ mostClocks ⌝ }
+{
+    let fired = p.fired;
+    let moments = p.resets;
+    let count = h.count;
+    let rests = is_nothing(firing::ready_plain(h.plain, above, fired));
+    let settled = (broken != 0) | rests;
+    let set = bitset::within(count as u32, fired)
+        & (!firing::all_fired(count, fired) & (settled & moments_fit(h.clocks, moments, t)));
+    closed_upward(above, count, fired) & set
+}
+
+// Whether the monitor is fit for the compiled chart: its place and its tally.
 pub fn is_fit<'a>(
     h: Head,
     keys: &'a [u64; MOST_REGIONS],
@@ -121,17 +141,9 @@ pub fn is_fit<'a>(
         (monitorAt m)) ⌝ }
 {
     let at = m.at;
-    let fired = at.fired;
-    let moments = at.resets;
     let tally = m.tally;
-    let count = h.count;
-    let rests = is_nothing(firing::ready_plain(h.plain, above, fired));
-    let settled = (tally.broken.at != 0) | rests;
-    let counted = counts_fit(tally) & break_fits(tally.records, tally.broken);
-    let set = bitset::within(count as u32, fired)
-        & (!firing::all_fired(count, fired)
-            & (settled & (moments_fit(h.clocks, moments, tally.now) & counted)));
-    closed_upward(above, count, fired) & set
+    let placed = place_fits(h, above, at, tally.now, tally.broken.at);
+    placed & (counts_fit(tally) & break_fits(tally.records, tally.broken))
 }
 
 // A fresh monitor for the chart: nothing fired, all else zero.

@@ -24,7 +24,7 @@ use Rattle.runs.specs.Taken.{Taken, statusOf, Acceptable}
 use Rattle.runs.proofs.Demand2.{demand-2}
 use Rattle.stepping.specs.Monitors.{monitorAt}
 use Rattle.chart_value.specs.Records.{logRecord}
-use Rattle.monitor.specs.Fit.{closedUpward, restsUnlessBroken, momentsFit, countsFit, breakFits, fits}
+use Rattle.monitor.specs.Fit.{closedUpward, restsUnlessBroken, momentsFit, countsFit, breakFits, placeFits, fits}
 use Rattle.monitor.specs.Runs.{RunOver}
 use Rattle.monitor.proofs.Fitness.{of-fit, fit-exactly}
 use Rattle.monitor.proofs.Runs.{feeding}
@@ -60,19 +60,19 @@ fit : (m : Monitor) → length (m .at .resets) ≡ 8 → fits U m ≡ true → F
 fit m p q = fit-exactly U accepted-u m p true (sym q) .0 refl
 
 unfit : FeedsAs valueU (stored 7 0 3 0 0) (undo 100) (refused 21) (stored 7 0 3 0 0)
-unfolding computing fits closedUpward restsUnlessBroken momentsFit countsFit breakFits
+unfolding computing fits placeFits closedUpward restsUnlessBroken momentsFit countsFit breakFits
 unfit = cases.unfit given-u (λ F. clash (of-fit U accepted-u (stored 7 0 3 0 0) F) refl)
 
 broken-again : FeedsAs valueU (stored 1 110 2 2 1) (undo 120) (toldBroken 2 1) (stored 1 110 2 2 1)
-unfolding computing fits closedUpward restsUnlessBroken momentsFit countsFit breakFits
+unfolding computing fits placeFits closedUpward restsUnlessBroken momentsFit countsFit breakFits
 broken-again = cases.broken-again given-u (fit (stored 1 110 2 2 1) refl refl) (λ z. omega (arith, z))
 
 time-falls : FeedsAs valueU (stored 0 100 1 0 0) (undo 99) (refused 22) (stored 0 100 1 0 0)
-unfolding computing fits closedUpward restsUnlessBroken momentsFit countsFit breakFits
+unfolding computing fits placeFits closedUpward restsUnlessBroken momentsFit countsFit breakFits
 time-falls = cases.time-falls given-u (fit (stored 0 100 1 0 0) refl refl) refl (omega arith)
 
 too-many : FeedsAs valueU (stored 0 100 1000000 0 0) (undo 100) (refused 23) (stored 0 100 1000000 0 0)
-unfolding computing fits closedUpward restsUnlessBroken momentsFit countsFit breakFits
+unfolding computing fits placeFits closedUpward restsUnlessBroken momentsFit countsFit breakFits
 too-many = cases.too-many given-u (fit (stored 0 100 1000000 0 0) refl refl) refl (omega arith) (omega arith)
 
 -- undo, fed to a fresh monitor: the monitor of a list of one feed
