@@ -19,7 +19,8 @@ use Rattle.rounds.specs.Demand3.{Demand3, Meaning}
 use Rattle.runs.specs.Demand2.{Demand2}
 use Rattle.stepping.specs.declared.Answer.{Answer}
 use Rattle.stepping.specs.Answers.{answerOf}
-use Rattle.stepping.specs.Monitors.{monitorAt}
+use Rattle.stepping.specs.declared.Step.{Step}
+use Rattle.stepping.specs.Monitors.{monitorAt, stepOf}
 use Rattle.log_reader.specs.declared.Next.{Next}
 use Rattle.log_reader.specs.Record as found
 use Rattle.log_reader.specs.Records.{recordsIn}
@@ -76,8 +77,10 @@ pub record Claims : Type 0 where
   -- and these are the records that are fed from its bytes
   pub walked : (log : List ℕ) {es : Snoc Record} {at last : ℕ} → Walk log es at last → FindsAs log at (found.end at)
       → recordsIn log ≡ es
-  -- the view through which feeding's promise speaks shows every field of the monitor, and fixes it
+  -- the view through which feeding's promise speaks shows every field of the monitor, and fixes it; a step's answer and
+  -- monitor are shown likewise
   pub views : (m : Monitor) → Views m
+  pub steps : (r : Step) → (stepOf r .answer ≡ answerOf (r .answer)) × (stepOf r .next ≡ monitorAt (r .next))
   pub view-tells : ViewTells
   -- the examples X3 to X11, X13 and X14
   pub examples-said : AllSaid examples
