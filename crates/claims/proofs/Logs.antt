@@ -13,6 +13,7 @@ use lib.ListN.{length, getD}
 use Rattle.model.specs.declared.Chart.{Chart}
 use Rattle.model.specs.declared.Moment.{Moment}
 use Rattle.model.specs.declared.Record.{Record}
+use Rattle.wire.proofs.Past.{inside}
 use Rattle.chart_value.specs.Given.{Given}
 use Rattle.chart_value.specs.View.{chartOf}
 use Rattle.chart_value.specs.WellFormed.{wellFormed}
@@ -47,12 +48,12 @@ finds-as s at = elim (split (leb (length s) at)) [
   | inl a ↦ rw a (ends (leb-true _ _ a))
   | inr a ↦ elim (split (eqb (getD s at 0) messageByte)) [
     | inl b ↦ elim (split (ltb (length s - at) messageSize)) [
-      | inl k ↦ rw (a, b, k) (message-cut (leb-false _ _ a) (eqb-true _ _ b) (omega (arith, leb-false (length s) at a, ltb-true (length s - at) messageSize k)))
+      | inl k ↦ rw (a, b, k) (message-cut (eqb-true _ _ b) (omega (arith, leb-false (length s) at a, ltb-true (length s - at) messageSize k)))
       | inr k ↦ rw (a, b, k) (message (eqb-true _ _ b) (omega (arith, leb-false (length s) at a, ltb-false (length s - at) messageSize k)))
     ]
     | inr b ↦ elim (split (eqb (getD s at 0) timeByte)) [
       | inl t ↦ elim (split (ltb (length s - at) timeSize)) [
-        | inl k ↦ rw (a, b, t, k) (time-cut (leb-false _ _ a) (eqb-true _ _ t) (omega (arith, leb-false (length s) at a, ltb-true (length s - at) timeSize k)))
+        | inl k ↦ rw (a, b, t, k) (time-cut (eqb-true _ _ t) (omega (arith, leb-false (length s) at a, ltb-true (length s - at) timeSize k)))
         | inr k ↦ rw (a, b, t, k) (time (eqb-true _ _ t) (omega (arith, leb-false (length s) at a, ltb-false (length s - at) timeSize k)))
       ]
       | inr t ↦ rw (a, b, t) (unknown (leb-false _ _ a) (eqb-false _ _ b) (eqb-false _ _ t))
@@ -63,9 +64,11 @@ finds-as s at = elim (split (leb (length s) at)) [
 finds-next : (s : List ℕ) (at : ℕ) (x : found.Said) → FindsAs s at x → (n : Next) × (nextAt s at ≡ n) × (x ≡ said at n)
 finds-next s at x (ends h) = (next.End, rw (le-leb _ _ h), refl)
 finds-next s at x (unknown h a b) = (next.Refused UnknownByte, rw (lt-leb _ _ h, ne-eqb _ _ a, ne-eqb _ _ b), refl)
-finds-next s at x (message-cut h a l) =
+finds-next s at x (message-cut a l) =
+    let h : at < length s = inside s at (λ z. omega (arith, z, a)) in
     (next.Refused CutShort, rw (lt-leb _ _ h, eq-eqb _ _ a, lt-ltb (length s - at) messageSize (omega (arith, h, l))), refl)
-finds-next s at x (time-cut h a l) =
+finds-next s at x (time-cut a l) =
+    let h : at < length s = inside s at (λ z. omega (arith, z, a)) in
     (next.Refused CutShort, rw (lt-leb _ _ h, ne-eqb (getD s at 0) messageByte (λ z. omega (arith, z, a)), eq-eqb _ _ a, lt-ltb (length s - at) timeSize (omega (arith, h, l))), refl)
 finds-next s at x (message a l) =
     (next.Taken (messageAt s at) (at + messageSize), rw (lt-leb (length s) at (omega (arith, l)), eq-eqb _ _ a, le-ltb (length s - at) messageSize (omega (arith, l))), refl)
