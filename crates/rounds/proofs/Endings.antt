@@ -3,21 +3,21 @@
 -- Assumes nothing.
 use mathlib.Core.Path.{_≡_, refl, sym, ap, _∙_, subst}
 use mathlib.Core.Logic.{inl, inr}
-use mathlib.Core.Bool.{cond}
+use mathlib.Core.Bool.{false, cond, true≢false}
 use mathlib.Core.Option.{some}
 use Prim.Native.Nat.{ℕ}
 use native.Mathlib.Omega.{arith}
 use Rattle.base.specs.Lists.{Snoc, _▸_, size}
 use Rattle.rounds.specs.Chart.{Chart, Accepted}
 use Rattle.rounds.specs.Rows.{LogRecord, Row, stands, chartMessage, chartMessages, resetMoment, Lawful, NoRow, Full, LawfulButLast, firstFailing}
-use Rattle.rounds.specs.Feeds.{noReadyRegion, conditionFails, Outcome, kept, dropped, broken, Ends, complete, unplaced-main, unplaced-prechart, fails-hot, fails-cold, Answer, entered, moved, quiet, Onward, completes-prechart, fires, stays}
+use Rattle.rounds.specs.Feeds.{noReadyRegion, conditionFails, Outcome, kept, dropped, broken, Ends, complete, unplaced-main, unplaced-prechart, fails-hot, fails-cold, Answer, entered, moved, quiet, Onward, completes-prechart, fires, stays, isKept}
 use Rattle.rounds.specs.Machine.{Place, Move, place, Monitor, Step, prechartDone, full, goOn, keepRound, dropRound, breakRound, conclude, accept}
 use Rattle.base.proofs.Bools.{split}
-use Rattle.base.proofs.Facts.{some-same}
+use Rattle.base.proofs.Facts.{none-some, some-same}
 use Rattle.rounds.proofs.Machine.{full-true, full-false, done-true, done-false, done-is, done-is-not}
 use Rattle.rounds.proofs.Moments.{chartMessages-skip}
-use Rattle.rounds.proofs.Rows.{lawful-after, one-row, one-row-waived}
-use Rattle.rounds.proofs.Rounds.{placeOf, Means, unplaced, failed, grown, move-means}
+use Rattle.rounds.proofs.Rows.{lawful-after, lawful-waived, one-row, one-row-waived}
+use Rattle.rounds.proofs.Rounds.{placeOf, all-hold, Means, unplaced, failed, grown, move-means}
 
 -- from one row to another there is one answer
 pub onward-same : {C : Chart} {q r : Row} {a b : Answer} → Onward C q r a → Onward C q r b → a ≡ b
@@ -31,36 +31,58 @@ onward-same (stays p) (completes-prechart h k) = absurd (h (rw (← p) at k))
 onward-same {q} {r} (stays p) (fires lt f) = absurd (omega (arith, ap size p))
 onward-same (stays p) (stays p′) = refl
 
--- the stretch s, opened at o, with its lawful row q, and one more record e
+-- the stretch s, opened at o, and one more record e
+module _ (C : Chart) (A : Accepted C) (o : ℕ) (s : Snoc LogRecord) (e : LogRecord) where
+  -- no row is lawful if none is with the conditions at e waived,
+  pub none-placed : ((r : Row) → ¬ LawfulButLast C o s e r) → NoRow C o (s ▸ e)
+  unfolding NoRow
+  none-placed W r L = W r (lawful-waived C o s e r L)
+
+  -- nor if in that row a condition fails: it would be the lawful one, in which all hold
+  pub none-holds : (r : Row) (i : ℕ) → LawfulButLast C o s e r → firstFailing C o (chartMessages C (s ▸ e)) r ≡ some i → NoRow C o (s ▸ e)
+  unfolding NoRow Lawful
+  none-holds r i W f r′ L =
+      let w : r′ ≡ r = one-row-waived C A o s e r′ r (lawful-waived C o s e r′ L) W in
+      none-some (all-hold C o (chartMessages C (s ▸ e)) r (rw w at (L .placed))) f
+
+  -- a stretch that ends and is not kept has no lawful row
+  pub unlawful : {x : Outcome} → Ends C o s e x → isKept x ≡ false → NoRow C o (s ▸ e)
+  unlawful (complete r L F) k = absurd (true≢false k)
+  unlawful (unplaced-main q W L h) k = none-placed W
+  unlawful (unplaced-prechart q W L h) k = none-placed W
+  unlawful (fails-hot r i W f h) k = none-holds r i W f
+  unlawful (fails-cold r i W f h) k = none-holds r i W f
+
+-- the same, with the lawful row q of s
 module _ (C : Chart) (A : Accepted C) (o : ℕ) (s : Snoc LogRecord) (e : LogRecord) (q : Row) (lawful : Lawful C o s q) where
   -- the three ways to end, each with its outcome
   data Way (x : Outcome) : Type 0 where
     whole : (r : Row) → Lawful C o (s ▸ e) r → Full C (stands r) → x ≡ kept → Way x
-    unfit : NoRow C o (s ▸ e) → ((r : Row) → ¬ LawfulButLast C o s e r)
+    unfit : ((r : Row) → ¬ LawfulButLast C o s e r)
         → x ≡ cond (prechartDone C (stands q)) (broken noReadyRegion) dropped → Way x
-    untrue : (r : Row) (i : ℕ) → NoRow C o (s ▸ e) → LawfulButLast C o s e r → firstFailing C o (chartMessages C (s ▸ e)) r ≡ some i
+    untrue : (r : Row) (i : ℕ) → LawfulButLast C o s e r → firstFailing C o (chartMessages C (s ▸ e)) r ≡ some i
         → x ≡ cond (C .hot i) (broken conditionFails) dropped → Way x
 
   way : {x : Outcome} → Ends C o s e x → Way x
   way (complete r L F) = whole r L F refl
-  way (unplaced-main p N W L h) = unfit N W (rw (one-row C A o s q p lawful L, done-is C (stands p) h))
-  way (unplaced-prechart p N W L h) = unfit N W (rw (one-row C A o s q p lawful L, done-is-not C (stands p) h))
-  way (fails-hot r i N W f h) = untrue r i N W f (rw h)
-  way (fails-cold r i N W f h) = untrue r i N W f (rw h)
+  way (unplaced-main p W L h) = unfit W (rw (one-row C A o s q p lawful L, done-is C (stands p) h))
+  way (unplaced-prechart p W L h) = unfit W (rw (one-row C A o s q p lawful L, done-is-not C (stands p) h))
+  way (fails-hot r i W f h) = untrue r i W f (rw h)
+  way (fails-cold r i W f h) = untrue r i W f (rw h)
 
   -- two ways to end have one outcome, since no stretch has two rows
   same-way : {x y : Outcome} → Way x → Way y → x ≡ y
   unfolding NoRow
   same-way (whole r L F p) (whole r′ L′ F′ p′) = p ∙ sym p′
-  same-way (whole r L F p) (unfit N W p′) = absurd (N r L)
-  same-way (whole r L F p) (untrue r′ i N W f p′) = absurd (N r L)
-  same-way (unfit N W p) (whole r′ L′ F′ p′) = absurd (N r′ L′)
-  same-way (unfit N W p) (unfit N′ W′ p′) = p ∙ sym p′
-  same-way (unfit N W p) (untrue r′ i N′ W′ f p′) = absurd (W r′ W′)
-  same-way (untrue r i N W f p) (whole r′ L′ F′ p′) = absurd (N r′ L′)
-  same-way (untrue r i N W f p) (unfit N′ W′ p′) = absurd (W′ r W)
-  same-way (untrue r i N W f p) (untrue r′ i′ N′ W′ f′ p′) =
-      let w : r ≡ r′ = one-row-waived C A o s e q lawful N r r′ W W′ in
+  same-way (whole r L F p) (unfit W p′) = absurd (none-placed C A o s e W r L)
+  same-way (whole r L F p) (untrue r′ i W f p′) = absurd (none-holds C A o s e r′ i W f r L)
+  same-way (unfit W p) (whole r′ L′ F′ p′) = absurd (none-placed C A o s e W r′ L′)
+  same-way (unfit W p) (unfit W′ p′) = p ∙ sym p′
+  same-way (unfit W p) (untrue r′ i W′ f p′) = absurd (W r′ W′)
+  same-way (untrue r i W f p) (whole r′ L′ F′ p′) = absurd (none-holds C A o s e r i W f r′ L′)
+  same-way (untrue r i W f p) (unfit W′ p′) = absurd (W′ r W)
+  same-way (untrue r i W f p) (untrue r′ i′ W′ f′ p′) =
+      let w : r ≡ r′ = one-row-waived C A o s e r r′ W W′ in
       let z : i ≡ i′ = some-same (rw w at f) f′ in
       p ∙ rw z (sym p′)
 
@@ -70,8 +92,8 @@ module _ (C : Chart) (A : Accepted C) (o : ℕ) (s : Snoc LogRecord) (e : LogRec
   way-ended : {X : Type 0} {x : Outcome} → Way x → (r : Row) → Lawful C o (s ▸ e) r → ¬ Full C (stands r) → X
   unfolding NoRow
   way-ended (whole r L F p) r′ L′ h = absurd (h (rw (one-row C A o (s ▸ e) r r′ L L′) at F))
-  way-ended (unfit N W p) r′ L′ h = absurd (N r′ L′)
-  way-ended (untrue r i N W f p) r′ L′ h = absurd (N r′ L′)
+  way-ended (unfit W p) r′ L′ h = absurd (none-placed C A o s e W r′ L′)
+  way-ended (untrue r i W f p) r′ L′ h = absurd (none-holds C A o s e r i W f r′ L′)
 
   -- a stretch that ends does not run on
   pub ended : {X : Type 0} {x : Outcome} → Ends C o s e x → (r : Row) → Lawful C o (s ▸ e) r → ¬ Full C (stands r) → X
@@ -88,13 +110,13 @@ module _ (C : Chart) (A : Accepted C) (o : ℕ) (s : Snoc LogRecord) (e : LogRec
   -- by what the move means, case by case
   comes-move : (m : Monitor) (v : Move) → m .at .fired ≡ stands q → Means C o s q e v → Comes m (conclude C m e v)
   unfolding conclude placeOf
-  comes-move m v at (unplaced N W) = elim (split (prechartDone C (stands q))) [
-    | inl t ↦ rw (ap (prechartDone C) at ∙ t) (breaks noReadyRegion (m .at) (unplaced-main q N W lawful (done-true C (stands q) t)))
-    | inr t ↦ rw (ap (prechartDone C) at ∙ t) (drops (unplaced-prechart q N W lawful (done-false C (stands q) t)))
+  comes-move m v at (unplaced W) = elim (split (prechartDone C (stands q))) [
+    | inl t ↦ rw (ap (prechartDone C) at ∙ t) (breaks noReadyRegion (m .at) (unplaced-main q W lawful (done-true C (stands q) t)))
+    | inr t ↦ rw (ap (prechartDone C) at ∙ t) (drops (unplaced-prechart q W lawful (done-false C (stands q) t)))
   ]
-  comes-move m v at (failed p i r N W f) = elim (split (C .hot i)) [
-    | inl t ↦ rw t (breaks conditionFails (placeOf C o (chartMessages C (s ▸ e)) p) (fails-hot r i N W f t))
-    | inr t ↦ rw t (drops (fails-cold r i N W f t))
+  comes-move m v at (failed p i r W f) = elim (split (C .hot i)) [
+    | inl t ↦ rw t (breaks conditionFails (placeOf C o (chartMessages C (s ▸ e)) p) (fails-hot r i W f t))
+    | inr t ↦ rw t (drops (fails-cold r i W f t))
   ]
   comes-move m v at (grown r L lt) = elim (split (full C (stands r))) [
     | inl t ↦ rw t (keeps (complete r L (full-true C (stands r) t)))

@@ -8,12 +8,12 @@ use Prim.Native.Nat.{ℕ}
 use Rattle.base.specs.Lists.{Snoc, _▸_}
 use Rattle.rounds.specs.Chart.{Chart, Accepted}
 use Rattle.rounds.specs.Rows.{LogRecord, Row, stands, Lawful, NoRow, Full}
-use Rattle.rounds.specs.Feeds.{refusal, kept, dropped, broken, unended, Ends, complete, unplaced-main, unplaced-prechart, fails-hot, fails-cold, Answer, toldKept, Onward, completes-prechart, fires, stays, saysRunsOn, saysDroppedOrBroken, Exactly}
+use Rattle.rounds.specs.Feeds.{refusal, kept, unended, Ends, complete, Answer, toldKept, Onward, completes-prechart, fires, stays, saysRunsOn, saysDroppedOrBroken, Exactly}
 use Rattle.rounds.specs.Machine.{Monitor, Step, goOn, keepRound, dropRound, breakRound, feed, after}
 use Rattle.rounds.specs.Demand3.{Unbroken, AtLast, Agrees, Meaning}
 use Rattle.base.proofs.Bools.{clash}
 use Rattle.rounds.proofs.Rows.{one-row}
-use Rattle.rounds.proofs.Endings.{Comes, on, keeps, drops, breaks}
+use Rattle.rounds.proofs.Endings.{unlawful, Comes, on, keeps, drops, breaks}
 use Rattle.rounds.proofs.Feeds.{feed-unbroken, comes-unbroken, agrees}
 
 module _ (C : Chart) (A : Accepted C) where
@@ -26,14 +26,6 @@ module _ (C : Chart) (A : Accepted C) where
 
     kept-row : Ends C o s e kept → (r : Row) × Lawful C o (s ▸ e) r × Full C (stands r)
     kept-row (complete r L F) = (r, L, F)
-
-    dropped-none : Ends C o s e dropped → NoRow C o (s ▸ e)
-    dropped-none (unplaced-prechart p N W L d) = N
-    dropped-none (fails-cold r i N W f d) = N
-
-    broken-none : {k : ℕ} → Ends C o s e (broken k) → NoRow C o (s ▸ e)
-    broken-none (unplaced-main p N W L d) = N
-    broken-none (fails-hot r i N W f d) = N
 
     lost : (a : Answer) → So (saysDroppedOrBroken a) → saysRunsOn a ≡ false → NoRow C o (s ▸ e) → Exactly C o s e a
     unfolding NoRow
@@ -60,8 +52,8 @@ module _ (C : Chart) (A : Accepted C) where
           );
           dropped-or-broken-exactly = (λ p. absurd (false≢true p), λ N. absurd (N (R .0) (R .1)));
         }
-    exact {m} (drops E) = lost (dropRound C m e .answer) refl refl (dropped-none E)
-    exact {m} (breaks k d E) = lost (breakRound C m e k d .answer) refl refl (broken-none E)
+    exact {m} (drops E) = lost (dropRound C m e .answer) refl refl (unlawful C A o s e E refl)
+    exact {m} (breaks k d E) = lost (breakRound C m e k d .answer) refl refl (unlawful C A o s e E refl)
 
   pub exactly : {fs : Snoc LogRecord} (M : Meaning C fs) (o : ℕ) (s : Snoc LogRecord) (e : LogRecord) → M .last ≡ unended o s
       → refusal (M .accepted) e ≡ none → Exactly C o s e (feed C (after C fs) e .answer)

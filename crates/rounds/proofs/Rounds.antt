@@ -1,6 +1,6 @@
 -- What the machine makes of one more chart message, after the lawful row of the stretch so far. Its settling is that of
--- rows, region by region; every lawful row for the longer stretch goes through the row before and the message's region;
--- so the machine's move says whether there is such a row. Assumes nothing.
+-- rows, region by region; every row for the longer stretch goes through the row before and the message's region; so the
+-- machine's move says whether there is such a row. Assumes nothing.
 use mathlib.Core.Path.{_≡_, refl, sym, ap, _∙_}
 use mathlib.Core.Logic.{inl, inr}
 use mathlib.Core.Bool.{Bool, false, cond, So}
@@ -11,22 +11,18 @@ use lib.Dec.{ltb}
 use borrow.Author.Tests.{lt-ltb}
 use Rattle.base.specs.Lists.{Snoc, ε, _▸_, size, each, EachIn}
 use Rattle.rounds.specs.Chart.{Chart, Accepted}
-use Rattle.rounds.specs.Rows.{LogRecord, Row, stands, chartMessage, chartMessages, messageRegions, Ready, values, momentOf, resetMoment, holds, Placed, Lawful, NoRow, waived, LawfulButLast, firstFailing}
+use Rattle.rounds.specs.Rows.{LogRecord, Row, stands, chartMessage, chartMessages, messageRegions, Ready, values, momentOf, resetMoment, holds, Placed, Lawful, waived, LawfulButLast, firstFailing}
 use Rattle.rounds.specs.Machine.{Place, Move, stuck, fails, rests, readyPlain, readyFor, unfired, fire, settle, place}
-use Rattle.base.proofs.Bools.{split, clash, or-left, or-right}
-use Rattle.base.proofs.Facts.{found, none-some, some-same}
+use Rattle.base.proofs.Bools.{split, clash, or-left}
+use Rattle.base.proofs.Facts.{found, none-some}
 use Rattle.rounds.proofs.Machine.{plain-some, plain-none, for-some, has-message, place-stuck, place-fails, place-fires}
 use Rattle.rounds.proofs.Moments.{chartMessages-take, messageRegions-take, messageRegions-skip, momentOf-last, resetMoment-earlier, holds-earlier, retest}
-use Rattle.rounds.proofs.Settling.{RowMove, failsAt, restsAt, settleRow, Plains, stop, more, Result, resting, failing, free, placed-plain, reaches, settling, plains-placed, plains-messages}
-use Rattle.rounds.proofs.Rows.{codes, as-many, strict-early, waived-early, Through, through, one-row}
+use Rattle.rounds.proofs.Settling.{RowMove, failsAt, restsAt, settleRow, Plains, stop, more, Result, resting, failing, free, placed-plain, settling, plains-placed, plains-messages}
+use Rattle.rounds.proofs.Rows.{codes, as-many, placed-waived, waived-early, through, one-row}
 
 -- the place that a row shows
 unfoldable pub placeOf : Chart → ℕ → Snoc LogRecord → Row → Place
 placeOf C o l r = record { fired = stands r; clocks = resetMoment C o l r }
-
--- coming to rest is no failing
-rest-fail : {X : Type 0} {r q : Row} {i : ℕ} → restsAt r ≡ failsAt q i → X
-rest-fail p = absurd (let z : _≡_ {A = ℕ} 0 1 = cc in omega arith)
 
 -- a row's settling, as the machine's move
 asMove : Chart → ℕ → Snoc LogRecord → RowMove → Move
@@ -65,7 +61,7 @@ module _ (C : Chart) (o : ℕ) (l : Snoc LogRecord) (t : ℕ) where
 
 -- which condition of a row fails first
 module _ (C : Chart) (o : ℕ) (l : Snoc LogRecord) where
-  all-hold : (r : Row) → EachIn (Placed C (holds C o l)) r → firstFailing C o l r ≡ none
+  pub all-hold : (r : Row) → EachIn (Placed C (holds C o l)) r → firstFailing C o l r ≡ none
   unfolding firstFailing
   all-hold ε P = refl
   all-hold (p ▸ i) P = rw (all-hold p (P .0), P .1 .condition)
@@ -86,8 +82,8 @@ longer C ok (more w e t) = omega (arith, longer C ok w)
 
 -- what the machine's move on the record e means, after the row q of s
 pub data Means (C : Chart) (o : ℕ) (s : Snoc LogRecord) (q : Row) (e : LogRecord) : Move → Type 0 where
-  unplaced : NoRow C o (s ▸ e) → ((r : Row) → ¬ LawfulButLast C o s e r) → Means C o s q e stuck
-  failed : (p : Row) (i : ℕ) (r : Row) → NoRow C o (s ▸ e) → LawfulButLast C o s e r
+  unplaced : ((r : Row) → ¬ LawfulButLast C o s e r) → Means C o s q e stuck
+  failed : (p : Row) (i : ℕ) (r : Row) → LawfulButLast C o s e r
       → firstFailing C o (chartMessages C (s ▸ e)) r ≡ some i
       → Means C o s q e (fails i (placeOf C o (chartMessages C (s ▸ e)) p))
   grown : (r : Row) → Lawful C o (s ▸ e) r → size q < size r → Means C o s q e (rests (placeOf C o (chartMessages C (s ▸ e)) r))
@@ -136,11 +132,6 @@ module _ (C : Chart) (A : Accepted C) (o : ℕ) (s : Snoc LogRecord) (e : LogRec
   waived-last p i h = or-left {x = ltb (size (chartMessages C s)) (size (messageRegions C (p ▸ i)))} (strict p i)
       (lt-ltb (size (chartMessages C s)) (size (messageRegions C (p ▸ i))) (omega arith))
 
-  strict-loose : (p : Row) → EachIn (Placed C strict) p → EachIn (Placed C loose) p
-  unfolding waived
-  strict-loose p P = retest C strict loose (size (messageRegions C p))
-      (λ r i h t. or-right (ltb (size (chartMessages C s)) (size (messageRegions C (r ▸ i)))) t) p (omega arith) P
-
   -- the next plain region belongs to e too
   plain-last : {ok : Row → ℕ → Bool} {b r : Row} {i : ℕ} → OfLast b → Plains C ok b r → readyPlain C (stands r) ≡ some i → OfLast (r ▸ i)
   unfolding OfLast
@@ -153,16 +144,16 @@ module _ (C : Chart) (A : Accepted C) (o : ℕ) (s : Snoc LogRecord) (e : LogRec
 
   -- the row p is lawful as far as it goes, its next region i could stand, and its condition fails
   fails-here : (p : Row) (i : ℕ) → EachIn (Placed C strict) p → Placed C loose p i → strict p i ≡ false
-      → each (C .key) (messageRegions C (p ▸ i)) ≡ codes l → OfLast (p ▸ i) → NoRow C o (s ▸ e)
+      → each (C .key) (messageRegions C (p ▸ i)) ≡ codes l → OfLast (p ▸ i)
       → Means C o s q e (fails i (placeOf C o l p))
   unfolding LawfulButLast
-  fails-here p i P N t c h none-there =
+  fails-here p i P N t c h =
       let W : (r : Row) × Plains C loose (p ▸ i) r × (readyPlain C (stands r) ≡ none)
       = rests-loose (p ▸ i) h (settling C A loose (p ▸ i)) in
-      failed p i (W .0) none-there
+      failed p i (W .0)
       (record {
         one-for-one = rw (plains-messages C A loose (W .1)) c;
-        placed = plains-placed C A loose (W .1) (strict-loose p P, N);
+        placed = plains-placed C A loose (W .1) (placed-waived C o s e p P, N);
         settled = plain-none C A (stands (W .0)) (W .2);
       })
       (fails-still C o l loose (W .1) (fails-last C o l p i (all-hold C o l p P) t))
@@ -186,29 +177,20 @@ module _ (C : Chart) (A : Accepted C) (o : ℕ) (s : Snoc LogRecord) (e : LogRec
     unfolding Lawful
     codes-m = rw (messageRegions-take C q m (has-message C e m chart key-m), chartMessages-take C s e chart, key-m, lawful .one-for-one)
 
-    -- a lawful row has m next, and is what settling gives
-    lawful-settles : (r : Row) → Lawful C o (s ▸ e) r → So (strict q m) × (settleRow C strict (free C (q ▸ m)) (q ▸ m) ≡ restsAt r)
-    unfolding Lawful
-    lawful-settles r M =
-        let T : Through C A o s e chart q only strict r = through C A o s e chart q only strict r (strict-early C o s e chart) M in
-        let w : T .last ≡ m = some-same (T .fits) fits in
-        (rw w at (T .condition), reaches C A strict (rw w at (T .grows)) (T .at-rest))
-
-    means-settled : (v : RowMove) → settleRow C strict (free C (q ▸ m)) (q ▸ m) ≡ v → So (strict q m)
-        → Result C strict (q ▸ m) v → Means C o s q e (asMove C o l v)
-    unfolding asMove Lawful NoRow
-    means-settled v same t (resting {r} w n) = grown r
+    means-settled : (v : RowMove) → So (strict q m) → Result C strict (q ▸ m) v → Means C o s q e (asMove C o l v)
+    unfolding asMove Lawful
+    means-settled v t (resting {r} w n) = grown r
         (record {
           one-for-one = rw (plains-messages C A strict w) codes-m;
           placed = plains-placed C A strict w (placed-q, placed-m strict t);
           settled = plain-none C A (stands r) n;
         })
         (omega (arith, longer C strict w))
-    means-settled v same t (failing {r} {i} w f u) =
+    means-settled v t (failing {r} {i} w f u) =
         fails-here r i (plains-placed C A strict w (placed-q, placed-m strict t))
         (placed-plain C A loose r i f (waived-last r i (plain-last last-m w f))) u
         (rw (messageRegions-skip C r i (plain-some C A (stands r) i f .is-plain), plains-messages C A strict w) codes-m)
-        (plain-last last-m w f) (λ r′ M. rest-fail (sym (lawful-settles r′ M .1) ∙ same))
+        (plain-last last-m w f)
 
     place-settles : So (strict q m) → place C (placeOf C o l q) e ≡ asMove C o l (settleRow C strict (free C (q ▸ m)) (q ▸ m))
     unfolding free placeOf
@@ -217,19 +199,18 @@ module _ (C : Chart) (A : Accepted C) (o : ℕ) (s : Snoc LogRecord) (e : LogRec
         ∙ settle-is C o l (e .time) A (unfired C (stands (q ▸ m))) (q ▸ m) (now (q ▸ m) last-m)
 
     means-for : Means C o s q e (place C (placeOf C o l q) e)
-    unfolding placeOf NoRow
+    unfolding placeOf
     means-for = elim (split (strict q m)) [
-      | inl t ↦ rw (place-settles t) (means-settled (settleRow C strict (free C (q ▸ m)) (q ▸ m)) refl t (settling C A strict (q ▸ m)))
+      | inl t ↦ rw (place-settles t) (means-settled (settleRow C strict (free C (q ▸ m)) (q ▸ m)) t (settling C A strict (q ▸ m)))
       | inr t ↦ rw (place-fails C (placeOf C o l q) e m fits (sym (tests-same C o l (e .time) q m (now (q ▸ m) last-m)) ∙ t))
-          (fails-here q m placed-q (placed-m loose (waived-last q m last-m)) t codes-m last-m (λ r M. clash (lawful-settles r M .0) t))
+          (fails-here q m placed-q (placed-m loose (waived-last q m last-m)) t codes-m last-m)
     ]
 
   -- the machine's move on a chart message, after the lawful row of the stretch so far
   pub move-means : Means C o s q e (place C (placeOf C o (chartMessages C s) q) e)
-  unfolding NoRow Lawful LawfulButLast placeOf
+  unfolding LawfulButLast placeOf
   move-means = rw (← place-q) (elim (found (readyFor C (stands q) e)) [
     | inl n ↦ rw (place-stuck C (placeOf C o l q) e n) (unplaced
-        (λ r M. none-some n (through C A o s e chart q only strict r (strict-early C o s e chart) M .fits))
         (λ r M. none-some n (through C A o s e chart q only loose r (waived-early C o s e chart) M .fits)))
     | inr f ↦ means-for (f .0) (f .1)
   ])

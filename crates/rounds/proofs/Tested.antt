@@ -1,4 +1,5 @@
--- Rows that are written out: one that passes a test is lawful, and the machine's move says where no row is.
+-- Rows that are written out: one that passes a test is lawful, and the machine's move says where no region has the
+-- message.
 -- Assumes nothing.
 use mathlib.Core.Path.{_≡_}
 use mathlib.Core.Logic.{inl, inr}
@@ -10,13 +11,13 @@ use lib.Dec.{ltb, leb}
 use borrow.Author.Tests.{ltb-true, leb-true}
 use Rattle.base.specs.Lists.{Snoc, ε, _▸_, each, EachIn, onFound}
 use Rattle.rounds.specs.Chart.{Chart, Accepted}
-use Rattle.rounds.specs.Rows.{LogRecord, Row, stands, chartMessage, chartMessages, plain, messageRegions, Ready, holds, Placed, LawfulIf, Lawful, NoRow, waived, LawfulButLast}
-use Rattle.rounds.specs.Machine.{Place, Move, stuck, fails, ready, readyPlain, place}
+use Rattle.rounds.specs.Rows.{LogRecord, Row, stands, chartMessage, chartMessages, plain, messageRegions, Ready, holds, Placed, LawfulIf, Lawful, waived, LawfulButLast}
+use Rattle.rounds.specs.Machine.{Move, stuck, ready, readyPlain, place}
 use Rattle.base.proofs.Bools.{and-left, and-right}
 use Rattle.base.proofs.Facts.{found}
 use Rattle.rounds.proofs.Machine.{ready-true, plain-some, plain-none}
 use Rattle.rounds.proofs.Rows.{codes}
-use Rattle.rounds.proofs.Rounds.{placeOf, Means, unplaced, failed, move-means}
+use Rattle.rounds.proofs.Rounds.{placeOf, Means, unplaced, move-means}
 
 module _ (C : Chart) (ok : Row → ℕ → Bool) where
   -- if a plain region could stand after p, region i is plain and not higher than the lowest such
@@ -89,16 +90,9 @@ module _ (C : Chart) (A : Accepted C) (o : ℕ) (s : Snoc LogRecord) (e : LogRec
   means : {v : Move} → move ≡ v → Means C o s q e v
   means p = rw p at (move-means C A o s e chart q lawful)
 
-  none-unplaced : Means C o s q e stuck → NoRow C o (s ▸ e) × ((r : Row) → ¬ LawfulButLast C o s e r)
-  none-unplaced (unplaced N W) = (N, W)
+  none-unplaced : Means C o s q e stuck → (r : Row) → ¬ LawfulButLast C o s e r
+  none-unplaced (unplaced W) = W
 
-  none-failed : {i : ℕ} {p : Place} → Means C o s q e (fails i p) → NoRow C o (s ▸ e)
-  none-failed (failed p i r N W f) = N
-
-  -- no region has the message: no row, with or without the conditions at e
-  pub no-region : move ≡ stuck → NoRow C o (s ▸ e) × ((r : Row) → ¬ LawfulButLast C o s e r)
+  -- no region has the message: no row, even with the conditions at e waived
+  pub no-region : move ≡ stuck → (r : Row) → ¬ LawfulButLast C o s e r
   no-region p = none-unplaced (means p)
-
-  -- a condition fails: no row
-  pub no-row : {i : ℕ} {p : Place} → move ≡ fails i p → NoRow C o (s ▸ e)
-  no-row h = none-failed (means h)

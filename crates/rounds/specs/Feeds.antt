@@ -65,15 +65,16 @@ module _ (C : Chart) where
   pub data Ends (o : ℕ) (s : Snoc LogRecord) (e : LogRecord) : Outcome → Type 0 where
     -- W17: some lawful row has all regions
     complete : (r : Row) → Lawful C o (s ▸ e) r → Full C (stands r) → Ends o s e kept
-    -- W19: no row, not even with the last conditions waived; the row q before the record says which phase it was
-    unplaced-main : (q : Row) → NoRow C o (s ▸ e) → ((r : Row) → ¬ LawfulButLast C o s e r)
+    -- W19: no row, even with the last conditions waived; the row q before the record says which phase it was
+    unplaced-main : (q : Row) → ((r : Row) → ¬ LawfulButLast C o s e r)
         → Lawful C o s q → PrechartDone C (stands q) → Ends o s e (broken noReadyRegion)
-    unplaced-prechart : (q : Row) → NoRow C o (s ▸ e) → ((r : Row) → ¬ LawfulButLast C o s e r)
+    unplaced-prechart : (q : Row) → ((r : Row) → ¬ LawfulButLast C o s e r)
         → Lawful C o s q → ¬ PrechartDone C (stands q) → Ends o s e dropped
-    -- W20: only with those waived is there a row; the leftmost condition that fails in it is hot or cold
-    fails-hot : (r : Row) (i : ℕ) → NoRow C o (s ▸ e) → LawfulButLast C o s e r
+    -- W20: the row with those waived; the leftmost condition that fails in it is hot or cold. In these four no row is
+    -- lawful: that follows, and `Exactly.dropped-or-broken-exactly` claims it.
+    fails-hot : (r : Row) (i : ℕ) → LawfulButLast C o s e r
         → firstFailing C o (chartMessages C (s ▸ e)) r ≡ some i → So (C .hot i) → Ends o s e (broken conditionFails)
-    fails-cold : (r : Row) (i : ℕ) → NoRow C o (s ▸ e) → LawfulButLast C o s e r
+    fails-cold : (r : Row) (i : ℕ) → LawfulButLast C o s e r
         → firstFailing C o (chartMessages C (s ▸ e)) r ≡ some i → C .hot i ≡ false → Ends o s e dropped
 
 -- N9, T27: what a feed is answered

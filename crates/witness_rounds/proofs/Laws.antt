@@ -24,7 +24,7 @@ use Rattle.rounds.proofs.Fitness.{after-fit}
 use Rattle.runs.specs.Paper.{Config, initial, reset, shift, add, wait, successor, Next, AtRest, configAt}
 use Rattle.runs.specs.Taken.{Status, Unmatched, Turn, Taken, passes, moves, enters, keeps, fails-cold, fails-hot, unmatched-prechart, unmatched-main, caseOf, statusOf, Acceptable}
 use Rattle.runs.proofs.Steps.{opening-config, of-unmatched, failure-of, of-failure}
-use Rattle.runs.proofs.Turns.{turn-of, terminates-fails, blocked-fails}
+use Rattle.runs.proofs.Turns.{turn-of, fails-chart, terminates-fails, blocked-fails}
 use Rattle.runs.proofs.Taking.{given}
 use Rattle.witness_rounds.specs.Rounds.{configOf, statusAs}
 
@@ -130,14 +130,16 @@ module _ (C : Chart) (A : Accepted C) (fs : Snoc LogRecord) (e : LogRecord) wher
         → caseOf C T ≡ caseFor (unplaceable (place C (m .at) e)) a
     unfolding caseFor unplaceable Unmatched configAt
     numbered (passes h) = refl
-    numbered (moves h z M nf k) = refl
-    numbered (enters h z M nf k d) = refl
-    numbered (keeps h z M f) = refl
-    numbered (fails-cold h i y T t) =
+    numbered (moves z M nf k) = refl
+    numbered (enters z M nf k d) = refl
+    numbered (keeps z M f) = refl
+    numbered (fails-cold i y T t) =
         let F = terminates-fails C (statusOf C m) e at-rest T t .0 in
+        let h = fails-chart C (statusOf C m) e at-rest F in
         rw (of-failure C A (m .at) e (m .tally .now) (P .fit .moments) (P .forward) h i F .1)
-    numbered (fails-hot h i y T b) =
-        let F = blocked-fails C (statusOf C m) e at-rest h T b .0 in
+    numbered (fails-hot i y T b) =
+        let F = blocked-fails C (statusOf C m) e at-rest T b .0 in
+        let h = fails-chart C (statusOf C m) e at-rest F in
         rw (of-failure C A (m .at) e (m .tally .now) (P .fit .moments) (P .forward) h i F .1)
     numbered (unmatched-prechart h U n) = rw (of-unmatched C A (m .at) e U)
     numbered (unmatched-main h U d) = rw (of-unmatched C A (m .at) e U)

@@ -5,9 +5,10 @@ use Rattle.chart_reader.specs.Read.{readChart, acceptedAs}
 use Rattle.chart_value.proofs.Shown.{shown-of}
 use Rattle.base.specs.Lists.{Snoc, ε, _▸_}
 use Rattle.rounds.specs.Chart.{Accepted}
-use Rattle.rounds.specs.Rows.{LogRecord, stands, Lawful, NoRow, Full, LawfulButLast}
-use Rattle.rounds.specs.Feeds.{conditionFails, complete, fails-cold, fails-hot, toldKept, toldDropped, toldBroken}
-use Rattle.rounds.proofs.Tested.{lawful-tested, waived-tested, no-row}
+use Rattle.rounds.specs.Rows.{LogRecord, stands, Lawful, Full, LawfulButLast}
+use Rattle.rounds.specs.Feeds.{conditionFails, dropped, broken, Ends, complete, fails-cold, fails-hot, toldKept, toldDropped, toldBroken}
+use Rattle.rounds.proofs.Endings.{unlawful}
+use Rattle.rounds.proofs.Tested.{lawful-tested, waived-tested}
 use Rattle.rounds.proofs.Machine.{full-true}
 use Rattle.chart_value.specs.Records.{logRecord, logged}
 use Rattle.claims.specs.Examples.{chartU}
@@ -77,16 +78,16 @@ dropped-a =
     let s : Snoc LogRecord = logged (droppedA .before) in
     let e : LogRecord = logRecord (droppedA .last) in
     let Q : Lawful A 0 s (droppedA .row) = lawful-tested A accepted-a 0 s (droppedA .row) refl refl refl in
-    let N : NoRow A 0 (s ▸ e) = no-row A accepted-a 0 s e (droppedA .row) Q refl {i = 2} refl in
     let W : LawfulButLast A 0 s e (droppedA .whole)
     = waived-tested A accepted-a 0 s e (droppedA .whole) refl refl refl in
+    let E : Ends A 0 s e dropped = fails-cold (droppedA .whole) 2 W refl refl in
     record {
       chart-read = refl;
       log-read = refl;
       judged = refl;
       row-before = Q;
-      row-with = (N, W, refl);
-      ends = fails-cold (droppedA .whole) 2 N W refl refl;
+      row-with = (unlawful A accepted-a 0 s e E refl, W, refl);
+      ends = E;
       taken = taken-anew A accepted-a s e 4 toldDropped refl refl refl refl;
     }
 
@@ -96,16 +97,16 @@ broken-a =
     let s : Snoc LogRecord = logged (brokenA .before) in
     let e : LogRecord = logRecord (brokenA .last) in
     let Q : Lawful A 0 s (brokenA .row) = lawful-tested A accepted-a 0 s (brokenA .row) refl refl refl in
-    let N : NoRow A 0 (s ▸ e) = no-row A accepted-a 0 s e (brokenA .row) Q refl {i = 4} refl in
     let W : LawfulButLast A 0 s e (brokenA .whole)
     = waived-tested A accepted-a 0 s e (brokenA .whole) refl refl refl in
+    let E : Ends A 0 s e (broken conditionFails) = fails-hot (brokenA .whole) 4 W refl refl in
     record {
       chart-read = refl;
       log-read = refl;
       judged = refl;
       row-before = Q;
-      row-with = (N, W, refl);
-      ends = fails-hot (brokenA .whole) 4 N W refl refl;
+      row-with = (unlawful A accepted-a 0 s e E refl, W, refl);
+      ends = E;
       taken = taken-at A accepted-a s e 5 (ε ▸ 0 ▸ 1 ▸ 2 ▸ 3) (31 ∷ 21 ∷ [])
           (toldBroken 3 conditionFails) refl refl refl refl refl;
     }
@@ -133,16 +134,16 @@ dropped-b =
     let s : Snoc LogRecord = logged (droppedB .before) in
     let e : LogRecord = logRecord (droppedB .last) in
     let Q : Lawful B 0 s (droppedB .row) = lawful-tested B accepted-b 0 s (droppedB .row) refl refl refl in
-    let N : NoRow B 0 (s ▸ e) = no-row B accepted-b 0 s e (droppedB .row) Q refl {i = 2} refl in
     let W : LawfulButLast B 0 s e (droppedB .whole)
     = waived-tested B accepted-b 0 s e (droppedB .whole) refl refl refl in
+    let E : Ends B 0 s e dropped = fails-cold (droppedB .whole) 2 W refl refl in
     record {
       chart-read = refl;
       log-read = refl;
       judged = refl;
       row-before = Q;
-      row-with = (N, W, refl);
-      ends = fails-cold (droppedB .whole) 2 N W refl refl;
+      row-with = (unlawful B accepted-b 0 s e E refl, W, refl);
+      ends = E;
       taken = taken-anew B accepted-b s e 4 toldDropped refl refl refl refl;
     }
 
@@ -152,16 +153,16 @@ broken-b =
     let s : Snoc LogRecord = logged (brokenB .before) in
     let e : LogRecord = logRecord (brokenB .last) in
     let Q : Lawful B 0 s (brokenB .row) = lawful-tested B accepted-b 0 s (brokenB .row) refl refl refl in
-    let N : NoRow B 0 (s ▸ e) = no-row B accepted-b 0 s e (brokenB .row) Q refl {i = 3} refl in
     let W : LawfulButLast B 0 s e (brokenB .whole)
     = waived-tested B accepted-b 0 s e (brokenB .whole) refl refl refl in
+    let E : Ends B 0 s e (broken conditionFails) = fails-hot (brokenB .whole) 3 W refl refl in
     record {
       chart-read = refl;
       log-read = refl;
       judged = refl;
       row-before = Q;
-      row-with = (N, W, refl);
-      ends = fails-hot (brokenB .whole) 3 N W refl refl;
+      row-with = (unlawful B accepted-b 0 s e E refl, W, refl);
+      ends = E;
       taken = taken-at B accepted-b s e 5 (ε ▸ 0 ▸ 2 ▸ 1) (20 ∷ [])
           (toldBroken 2 conditionFails) refl refl refl refl refl;
     }

@@ -6,9 +6,10 @@ use mathlib.Core.List.{[], _∷_}
 use Prim.Native.Nat.{ℕ}
 use native.Mathlib.Omega.{arith}
 use Rattle.base.specs.Lists.{Snoc, ε, _▸_}
-use Rattle.rounds.specs.Rows.{LogRecord, Row, stands, plain, Lawful, NoRow, LawfulButLast, PrechartDone}
+use Rattle.rounds.specs.Rows.{LogRecord, Row, stands, plain, Lawful, LawfulButLast, PrechartDone}
 use Rattle.rounds.specs.Feeds.{timeFalls, noReadyRegion, dropped, broken, behindBreak, Ends, unplaced-main, unplaced-prechart, refused, toldDropped, toldBroken, entered, moved, quiet, Onward, completes-prechart, fires, stays, refuses, runs-on, ends, again, Fed, none-yet, one-more}
 use Rattle.rounds.specs.Machine.{after}
+use Rattle.rounds.proofs.Endings.{unlawful}
 use Rattle.rounds.proofs.Tested.{lawful-tested, no-region}
 use Rattle.rounds.proofs.Machine.{full-false, done-true, done-false}
 use Rattle.runs.specs.Paper.{Config, Letter, message, silent, delay, initial, Advance, wait, successor, Prompt, begins, settles, Over, spelled}
@@ -37,7 +38,7 @@ module _ (o : ℕ) where
   unfolding computing
   row-undo = lawful-tested U accepted-u o undone (ε ▸ 0) refl refl refl
 
-  no-second : NoRow U o (undone ▸ second) × ((r : Row) → ¬ LawfulButLast U o undone second r)
+  no-second : (r : Row) → ¬ LawfulButLast U o undone second r
   unfolding computing
   no-second = no-region U accepted-u o undone second (ε ▸ 0) row-undo refl refl
 
@@ -51,16 +52,18 @@ unfolding computing
 done = done-true U (stands (ε ▸ 0)) refl
 
 breaks : (o : ℕ) → Ends U o undone second (broken noReadyRegion)
-breaks o = unplaced-main (ε ▸ 0) (no-second o .0) (no-second o .1) (row-undo o) done
+breaks o = unplaced-main (ε ▸ 0) (no-second o) (row-undo o) done
 
 pub unplaced-in-prechart : Unplaced U ε (headings 5) dropped
 unfolding computing
 unplaced-in-prechart =
-    let N = no-region U accepted-u 0 ε (logRecord (headings 5)) ε (row-empty 0) refl refl in
-    (N .0, N .1, unplaced-prechart ε (N .0) (N .1) (row-empty 0) not-done)
+    let e : LogRecord = logRecord (headings 5) in
+    let W : (r : Row) → ¬ LawfulButLast U 0 ε e r = no-region U accepted-u 0 ε e ε (row-empty 0) refl refl in
+    let E : Ends U 0 ε e dropped = unplaced-prechart ε W (row-empty 0) not-done in
+    (unlawful U accepted-u 0 ε e E refl, W, E)
 
 pub unplaced-in-main : Unplaced U (ε ▸ undo 100) (undo 110) (broken noReadyRegion)
-unplaced-in-main = (no-second 0 .0, no-second 0 .1, breaks 0)
+unplaced-in-main = (unlawful U accepted-u 0 undone second (breaks 0) refl, no-second 0, breaks 0)
 
 pub row-entered : Onward U ε (ε ▸ 0) entered
 row-entered = completes-prechart not-done done
