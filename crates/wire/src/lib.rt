@@ -29,7 +29,8 @@ fn wide32(x: u16) -> u32
     x as u32
 }
 
-fn wide64(x: u32) -> u64
+// The same number in 64 bits.
+pub fn wide64(x: u32) -> u64
     ensures { λ r. ⌜ (r ≡ x) × (r < 0x1_0000_0000) ⌝ }
 {
     x as u64
