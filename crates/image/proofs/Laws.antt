@@ -1,41 +1,15 @@
--- Numbers in bytes give the numbers back, and so does a monitor's image. Assumes nothing.
+-- A monitor's image gives the monitor back. Assumes nothing.
 use mathlib.Core.Path.{_≡_, refl, ap, _∙_}
 use mathlib.Core.List.{List, [], _∷_, _++_}
-use Prim.Native.Nat.{ℕ, _+_, _*_, _/_, _%_, _≤_, _<_, _^_}
+use Prim.Native.Nat.{ℕ, _≤_, _<_, _^_}
 use native.Mathlib.Omega.{arith}
 use lib.ListN.{length, drop}
-use lib.Seq.{sets-eq}
-use Rattle.wire.proofs.Past.{past32}
 use Rattle.model.specs.declared.Moment.{Moment}
 use Rattle.model.specs.declared.Monitor.{Monitor}
 use Rattle.firing.specs.Places.{momentsOf}
-use Rattle.text.specs.Text.{Wrote}
-use Rattle.text.proofs.Laws.{spelled}
-use Rattle.image.specs.Image.{wordBytes, longBytes, word64, monitorSize, monitorBytes, monitorIn}
-
--- four bytes that are those of x
-pub word-of : {l m : List ℕ} {i j a b c d : ℕ} (x : ℕ) → Wrote l i (a ∷ b ∷ c ∷ d ∷ []) m j
-    → a ≡ x / 0x100_0000 % 256 → b ≡ x / 0x1_0000 % 256 → c ≡ x / 0x100 % 256 → d ≡ x % 256 → Wrote l i (wordBytes x) m j
-word-of {l} {m} {i} {j} {a} {b} {c} {d} x w p q r s = spelled (cc) w
-
-pub past64 : (s : List ℕ) (i : ℕ) → length s ≤ i → word64 s i ≡ 0
-past64 s i h = rw (past32 s i h, past32 s (i + 4) (omega arith))
-
--- a number of 32 bits, put together from its bytes
-pub word-told : (x : ℕ) → x < 2 ^ 32 → (x / 0x100_0000 % 256 * 256 + x / 0x1_0000 % 256) * 65536 + (x / 0x100 % 256 * 256 + x % 256) ≡ x
-word-told x h =
-    let a : x ≡ x / 0x100 * 256 + x % 256 = omega arith in
-    let b : x / 0x100 ≡ x / 0x1_0000 * 256 + x / 0x100 % 256 = omega arith in
-    let c : x / 0x1_0000 ≡ x / 0x100_0000 * 256 + x / 0x1_0000 % 256 = omega arith in
-    let d : x / 0x100_0000 % 256 ≡ x / 0x100_0000 = omega arith in
-    omega arith
-
--- and one of 64
-pub long-told : (x : ℕ) (rest : List ℕ) → x < 2 ^ 64 → word64 (longBytes x ++ rest) 0 ≡ x
-long-told x rest h =
-    let a : x / 0x1_0000_0000 < 2 ^ 32 = omega arith in
-    let b : x % 0x1_0000_0000 < 2 ^ 32 = omega arith in
-    rw (word-told (x / 0x1_0000_0000) a, word-told (x % 0x1_0000_0000) b) (omega arith)
+use Rattle.wire.specs.Writing.{Wrote}
+use Rattle.wire.proofs.Writing.{word-told, at-start}
+use Rattle.image.specs.Image.{monitorSize, monitorBytes, monitorIn}
 
 -- what the types say of a monitor's numbers
 pub record Small (m : Monitor) : Type 0 where
@@ -85,12 +59,6 @@ monitor-told m rest s =
       word-told (m .tally .broken .at) (s .break),
       eight r (s .places),
     )
-
--- what was written at the start of a buffer with room for it
-pub at-start : {l t n : List ℕ} {j : ℕ} → Wrote l 0 t n j → length t ≤ length l → n ≡ t ++ drop (length t) l
-at-start {l} {t} {n} {j} w h =
-    let p : 0 + length t ≡ length t = omega arith in
-    w .bytes ∙ sets-eq t l 0 (omega arith) ∙ ap (λ (k : ℕ). t ++ drop k l) p
 
 pub monitor-length : (m : Monitor) → length (monitorBytes m) ≡ monitorSize
 unfolding monitorBytes

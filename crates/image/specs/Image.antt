@@ -1,28 +1,18 @@
 -- V1, V2: a monitor's image. Four bytes for each number, one for the reason; the most significant byte first (N3).
-use Prim.Native.Nat.{ℕ, _+_, _*_, _/_, _%_}
+use Prim.Native.Nat.{ℕ}
 use mathlib.Core.List.{List, [], _∷_, _++_}
 use lib.ListN.{getD}
 use Rattle.wire.specs.Bytes.{word32}
+use Rattle.wire.specs.Writing.{wordBytes}
 use Rattle.model.specs.declared.Moment.{Moment}
 use Rattle.model.specs.declared.Tally.{Tally}
 use Rattle.model.specs.declared.Monitor.{Monitor}
 use Rattle.firing.specs.Places.{momentsOf}
 
--- a number in four bytes
-abbrev pub wordBytes : ℕ → List ℕ
-wordBytes x = x / 0x100_0000 % 256 ∷ x / 0x1_0000 % 256 ∷ x / 0x100 % 256 ∷ x % 256 ∷ []
-
 -- numbers one after the other
 abbrev pub wordsBytes : List ℕ → List ℕ
 wordsBytes [] = []
 wordsBytes (x ∷ xs) = wordBytes x ++ wordsBytes xs
-
--- a number in eight bytes, and such a number in a list of bytes
-abbrev pub longBytes : ℕ → List ℕ
-longBytes x = wordsBytes (x / 0x1_0000_0000 ∷ x % 0x1_0000_0000 ∷ [])
-
-abbrev pub word64 : List ℕ → ℕ → ℕ
-word64 s i = word32 s i * 0x1_0000_0000 + word32 s (i + 4)
 
 abbrev pub monitorSize : ℕ
 monitorSize = 57

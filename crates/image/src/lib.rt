@@ -7,45 +7,24 @@ use model::Place;
 use model::Tally;
 ghost use mathlib.Core.Path.{_≡_};
 ghost use mathlib.Core.List.{_∷_, []};
-ghost use Prim.Native.Nat.{_+_, _≤_, _%_};
+ghost use Prim.Native.Nat.{_+_, _≤_};
 ghost use lib.ListN.{length};
-ghost use Rattle.text.specs.Text.{Wrote};
-ghost use Rattle.image.specs.Image.{wordBytes, wordsBytes, longBytes, word64, monitorSize, momentNumbers};
-ghost use Rattle.image.specs.Image.{tallyBytes, monitorBytes, momentIn, momentsIn, tallyIn, monitorIn};
+ghost use Rattle.wire.specs.Writing.{Wrote};
+ghost use Rattle.image.specs.Image.{wordsBytes, monitorSize, momentNumbers, tallyBytes, monitorBytes};
+ghost use Rattle.image.specs.Image.{momentIn, momentsIn, tallyIn, monitorIn};
 
 // The bytes of a monitor.
 pub const MONITOR_SIZE: usize = 57;
-
-// The weight of the upper four of eight bytes.
-const LONG_HALF: u64 = 0x1_0000_0000;
-
-// The least significant byte.
-fn byte_of(x: u32) -> u8
-    ensures { λ r. ⌜ r ≡ x % 256 ⌝ }
-{
-    (x % 0x100) as u8
-}
-
-// A number in four bytes.
-fn put_word32(out: &mut [u8], at: usize, x: u32) -> usize
-    requires { ⌜ at + 4 ≤ length (now out) ⌝ }
-    ensures { λ r. ⌜ Wrote (now (out .entry)) at (wordBytes x) (now (out .exit)) r ⌝ }
-{
-    let second = text::put_byte(out, at, byte_of(x / 0x100_0000));
-    let third = text::put_byte(out, second, byte_of(x / 0x1_0000));
-    let fourth = text::put_byte(out, third, byte_of(x / 0x100));
-    text::put_byte(out, fourth, byte_of(x))
-}
 
 // Four numbers one after the other.
 fn put_four(out: &mut [u8], at: usize, a: u32, b: u32, c: u32, d: u32) -> usize
     requires { ⌜ at + 16 ≤ length (now out) ⌝ }
     ensures { λ r. ⌜ Wrote (now (out .entry)) at (wordsBytes (a ∷ b ∷ c ∷ d ∷ [])) (now (out .exit)) r ⌝ }
 {
-    let second = put_word32(out, at, a);
-    let third = put_word32(out, second, b);
-    let fourth = put_word32(out, third, c);
-    put_word32(out, fourth, d)
+    let second = wire::put_word32(out, at, a);
+    let third = wire::put_word32(out, second, b);
+    let fourth = wire::put_word32(out, third, c);
+    wire::put_word32(out, fourth, d)
 }
 
 // The eight reset moments.
@@ -71,8 +50,8 @@ fn put_tally(out: &mut [u8], at: usize, x: Tally) -> usize
     ensures { λ r. ⌜ Wrote (now (out .entry)) at (tallyBytes x) (now (out .exit)) r ⌝ }
 {
     let second = put_four(out, at, x.now.0, x.records, x.kept, x.dropped);
-    let third = put_word32(out, second, x.broken.at);
-    text::put_byte(out, third, x.broken.reason)
+    let third = wire::put_word32(out, second, x.broken.at);
+    wire::put_byte(out, third, x.broken.reason)
 }
 
 // The monitor at the start of the buffer: read from there it is the same.
@@ -84,38 +63,9 @@ pub fn put_monitor(out: &mut [u8], m: Monitor) -> usize
     let at = m.at;
     let resets = at.resets;
     let tally = m.tally;
-    let second = put_word32(out, 0, at.fired);
+    let second = wire::put_word32(out, 0, at.fired);
     let third = put_moments(out, second, resets);
     put_tally(out, third, tally)
-}
-
-// A number in eight bytes.
-pub fn put_word64(out: &mut [u8], at: usize, x: u64) -> usize
-    requires { ⌜ at + 8 ≤ length (now out) ⌝ }
-    ensures { λ r. ⌜ Wrote (now (out .entry)) at (longBytes x) (now (out .exit)) r ⌝ }
-{
-    let second = put_word32(out, at, (x / LONG_HALF) as u32);
-    put_word32(out, second, (x % LONG_HALF) as u32)
-}
-
-// The same number in 64 bits.
-fn wide(x: u32) -> u64
-    ensures { λ r. ⌜ (r ≡ x) × (r + 1 ≤ 0x1_0000_0000) ⌝ }
-{
-    x as u64
-}
-
-// A number read from eight bytes; a byte past the end reads as 0.
-pub fn word64_at(bytes: &[u8], at: usize) -> u64
-    ensures value { λ r. ⌜ r ≡ word64 (now (bytes .entry)) at ⌝ }
-    ensures unchanged { λ r. ⌜ now (bytes .exit) ≡ now (bytes .entry) ⌝ }
-{
-    if at < bytes.len() {
-        let high = wide(wire::word32_at(bytes, at));
-        let low = wide(wire::word32_at(bytes, at + 4));
-        return high * LONG_HALF + low;
-    }
-    0
 }
 
 // The moment in four bytes.

@@ -143,12 +143,6 @@ const IN_PRECHART: u8 = 1;
 
 const OWED: u8 = 2;
 
-fn wide(x: u32) -> u64
-    ensures { λ r. ⌜ (r ≡ x) × (r < 0x1_0000_0000) ⌝ }
-{
-    x as u64
-}
-
 // The code of the record at a place, from its bytes: the label, then source and destination. A record taken apart again
 // would be stored and loaded in pieces, which costs more than all else that is done for it.
 fn code_at(log: &[u8], at: usize) -> u64
@@ -157,7 +151,7 @@ fn code_at(log: &[u8], at: usize) -> u64
 {
     if wire::byte_at(log, at) == MESSAGE {
         let word = wire::word32_at(log, at + 1);
-        return wide(word % HALF * HALF + word / HALF) + 1;
+        return wire::wide64(word % HALF * HALF + word / HALF) + 1;
     }
     0
 }

@@ -3,7 +3,7 @@ use judge::Verdict;
 ghost use mathlib.Core.Path.{_≡_};
 ghost use Prim.Native.Nat.{_+_, _≤_};
 ghost use lib.ListN.{length};
-ghost use Rattle.text.specs.Text.{Wrote};
+ghost use Rattle.wire.specs.Writing.{Wrote};
 ghost use Rattle.listing.specs.Listing.{listingOf, listed, room, verdictLines, refusalLine};
 ghost use Rattle.listing.specs.Parts.{fieldText, threeFields, partText};
 
@@ -27,7 +27,7 @@ fn put_field(out: &mut [u8], at: usize, n: u64, end: u8) -> usize
     ensures short { λ r. ⌜ r ≤ at + 21 ⌝ }
 {
     let next = text::put_decimal(out, at, n);
-    text::put_byte(out, next, end)
+    wire::put_byte(out, next, end)
 }
 
 fn put_three(out: &mut [u8], at: usize, x: u64, y: u64, z: u64, end: u8) -> usize
@@ -46,7 +46,7 @@ fn put_verdict(out: &mut [u8], v: Verdict) -> usize
     ensures text { λ r. ⌜ Wrote (now (out .entry)) 0 (verdictLines v) (now (out .exit)) r ⌝ }
     ensures short { λ r. ⌜ r ≤ room ⌝ }
 {
-    let first = text::put_bytes(out, 0, b"STANDING KEPT DROPPED RECORDS BREAK REASON\n");
+    let first = wire::put_bytes(out, 0, b"STANDING KEPT DROPPED RECORDS BREAK REASON\n");
     let second = put_three(
         out,
         first,
@@ -72,9 +72,9 @@ fn put_part(out: &mut [u8], part: Part) -> usize
     ensures short { λ r. ⌜ r ≤ 14 ⌝ }
 {
     match part {
-        Part::Input => text::put_bytes(out, 0, b"refused input "),
-        Part::Chart => text::put_bytes(out, 0, b"refused chart "),
-        Part::Log => text::put_bytes(out, 0, b"refused log "),
+        Part::Input => wire::put_bytes(out, 0, b"refused input "),
+        Part::Chart => wire::put_bytes(out, 0, b"refused chart "),
+        Part::Log => wire::put_bytes(out, 0, b"refused log "),
     }
 }
 
@@ -85,7 +85,7 @@ fn put_refusal(out: &mut [u8], part: Part, number: u8, offset: usize) -> usize
 {
     let first = put_part(out, part);
     let second = put_field(out, first, number as u64, b' ');
-    let third = text::put_bytes(out, second, b"at ");
+    let third = wire::put_bytes(out, second, b"at ");
     put_field(out, third, offset as u64, b'\n')
 }
 

@@ -17,8 +17,10 @@ use Rattle.chart_value.proofs.Sound.{sound}
 use Rattle.chart_reader.specs.Read.{Said, acceptedAs, readChart}
 use Rattle.chart_reader.proofs.Ends.{Reads, accepts, refuses, reads}
 use Rattle.chart_value.specs.WellFormed.{wellFormed}
-use Rattle.image.specs.Image.{monitorSize, longBytes, word64}
-use Rattle.image.proofs.Laws.{long-told}
+use Rattle.wire.specs.Bytes.{word64}
+use Rattle.wire.specs.Writing.{longBytes}
+use Rattle.image.specs.Image.{monitorSize}
+use Rattle.wire.proofs.Writing.{long-told}
 use Rattle.live.specs.Live.{headSize, lengthIn, chartPart, chartIn, isFramed, isLive}
 
 pub too-few : (l : List ℕ) → length l < headSize → chartIn l ≡ zeroChart

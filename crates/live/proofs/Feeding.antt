@@ -30,9 +30,10 @@ use Rattle.stepping.specs.Monitors.{monitorAt, stepOf}
 use Rattle.monitor.specs.Feed.{feedOf, refuse}
 use Rattle.chart_value.specs.Records.{logRecord}
 use Rattle.chart_value.specs.WellFormed.{wellFormed}
-use Rattle.text.specs.Text.{Wrote}
+use Rattle.wire.specs.Writing.{Wrote}
 use Rattle.image.specs.Image.{monitorSize, monitorBytes, monitorIn}
-use Rattle.image.proofs.Laws.{at-start, monitor-length}
+use Rattle.wire.proofs.Writing.{at-start}
+use Rattle.image.proofs.Laws.{monitor-length}
 use Rattle.live.specs.Live.{chartIn, isBroken, bytesFed, FedBy, Fed}
 use Rattle.live.proofs.Charts.{same-chart, live-exact, zero-refused}
 

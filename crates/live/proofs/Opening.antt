@@ -15,10 +15,10 @@ use Rattle.chart_reader.specs.declared.ChartAnswer.{ChartAnswer}
 use Rattle.chart_reader.specs.declared.ChartAnswer.the-variants.{Accepted, Refused}
 use Rattle.chart_reader.specs.declared.ChartRead.{ChartRead}
 use Rattle.chart_reader.specs.Read.{Said, said, numberOf, offsetOf, readChart}
-use Rattle.text.specs.Text.{Wrote}
-use Rattle.text.proofs.Laws.{then, spelled}
-use Rattle.image.specs.Image.{monitorSize, monitorBytes, monitorIn, longBytes}
-use Rattle.image.proofs.Laws.{at-start, monitor-length}
+use Rattle.wire.specs.Writing.{Wrote, longBytes}
+use Rattle.wire.proofs.Writing.{then, spelled, at-start}
+use Rattle.image.specs.Image.{monitorSize, monitorBytes, monitorIn}
+use Rattle.image.proofs.Laws.{monitor-length}
 use Rattle.live.specs.declared.Opened.{Opened}
 use Rattle.live.specs.Live.{headSize, largest, liveSize, freshBytes, tooShort, openedBy, openedOf, bytesOpened, Holds}
 use Rattle.live.proofs.Charts.{chart-behind}

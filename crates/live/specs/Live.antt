@@ -22,7 +22,9 @@ use Rattle.stepping.specs.Monitors.{monitorAt, stepOf}
 use Rattle.monitor.specs.Fit.{fits}
 use Rattle.monitor.specs.Feed.{feedOf}
 use Rattle.judge.specs.Judge.{verdictOf, zeroVerdict}
-use Rattle.image.specs.Image.{monitorSize, monitorBytes, monitorIn, longBytes, word64}
+use Rattle.wire.specs.Bytes.{word64}
+use Rattle.wire.specs.Writing.{longBytes}
+use Rattle.image.specs.Image.{monitorSize, monitorBytes, monitorIn}
 use Rattle.live.specs.declared.Opened.{Opened}
 use Rattle.live.specs.declared.LiveVerdict.{LiveVerdict}
 

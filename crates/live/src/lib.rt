@@ -9,7 +9,7 @@ use stepping::FeedRefusal;
 ghost use mathlib.Core.Path.{_≡_};
 ghost use Prim.Native.Nat.{_+_, _≤_};
 ghost use lib.ListN.{length};
-ghost use Rattle.text.specs.Text.{Wrote};
+ghost use Rattle.wire.specs.Writing.{Wrote};
 ghost use Rattle.base.specs.Lists.{ε};
 ghost use Rattle.stepping.specs.Answers.{feedRefusalNumber, isRefused};
 ghost use Rattle.judge.specs.Judge.{zeroVerdict};
@@ -55,8 +55,8 @@ fn put_fresh(live: &mut [u8], chart: &[u8]) -> usize
     ensures { λ r. ⌜ Wrote (now (live .entry)) 0 (freshBytes (now (chart .entry))) (now (live .exit)) r ⌝ }
 {
     let second = image::put_monitor(live, model::zero_monitor());
-    let third = image::put_word64(live, second, chart.len() as u64);
-    text::put_bytes(live, third, chart)
+    let third = wire::put_word64(live, second, chart.len() as u64);
+    wire::put_bytes(live, third, chart)
 }
 
 // A live monitor for the chart, where the buffer has room for it.
@@ -97,7 +97,7 @@ fn chart_in(live: &[u8]) -> Chart
         return model::zero_chart();
     }
     let rest = live.len() - HEAD_SIZE;
-    let n = image::word64_at(live, image::MONITOR_SIZE);
+    let n = wire::word64_at(live, image::MONITOR_SIZE);
     if (rest as u64) < n {
         return model::zero_chart();
     }

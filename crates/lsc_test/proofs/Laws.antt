@@ -15,7 +15,7 @@ use Rattle.monitor.specs.Feed.{madeNumber, MadeOf}
 use Rattle.monitor.specs.declared.Made.{Made}
 use Rattle.chart_value.specs.WellFormed.{wellFormed}
 use Rattle.chart_image.specs.ChartImage.{chartValue}
-use Rattle.text.specs.Text.{Wrote}
+use Rattle.wire.specs.Writing.{Wrote}
 use Rattle.image.specs.Image.{monitorSize, monitorBytes, monitorIn}
 use Rattle.live.specs.Live.{tooShort, FedBy}
 use Rattle.live.proofs.Charts.{zero-refused}

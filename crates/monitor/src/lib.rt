@@ -21,7 +21,7 @@ ghost use mathlib.Core.Path.{_≡_};
 ghost use mathlib.Core.Bool.{true, not, _||_};
 ghost use mathlib.Core.Logic.{_↔_};
 ghost use mathlib.Core.List.{List};
-ghost use Prim.Native.Nat.{ℕ, _≤_, _<_};
+ghost use Prim.Native.Nat.{ℕ, _≤_};
 ghost use lib.ListN.{length, getD};
 ghost use Rattle.bitset.specs.Set.{contains, isSubset};
 ghost use Rattle.model.specs.Chart.{mostRegions, mostClocks};
@@ -75,17 +75,12 @@ fn moments_fit(clocks: usize, resets: [Moment; CLOCK_PLACES], now: Moment) -> bo
     ok
 }
 
-fn wide(x: u32) -> u64
-    ensures { λ r. ⌜ (r ≡ x) × (r < 0x1_0000_0000) ⌝ }
-{
-    x as u64
-}
-
 // Records is not above 1,000,000, and the sum of kept and dropped is not above records.
 fn counts_fit(x: Tally) -> bool
     ensures { λ r. ⌜ r ≡ countsFit x ⌝ }
 {
-    (x.records <= MOST_RECORDS) & (wide(x.kept) + wide(x.dropped) <= wide(x.records))
+    (x.records <= MOST_RECORDS)
+        & (wire::wide64(x.kept) + wire::wide64(x.dropped) <= wire::wide64(x.records))
 }
 
 // Break and reason are 0 and 0, or the break is 1 to records and the reason 1 or 2.

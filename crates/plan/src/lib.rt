@@ -73,13 +73,6 @@ fn wide16(x: u16) -> u64
     x as u64
 }
 
-fn wide32(x: u32) -> u64
-    ensures value { λ r. ⌜ r ≡ x ⌝ }
-    ensures bound { λ r. ⌜ r < 0x1_0000_0000 ⌝ }
-{
-    x as u64
-}
-
 // One number for a message; it is never 0.
 pub fn code_of(m: Message) -> u64
     ensures { λ r. ⌜ r ≡ codeOf m ⌝ }
@@ -210,9 +203,9 @@ fn biased_number(n: u32) -> u64
     ensures bound { λ r. ⌜ (0 < r) × (r < 0x2_0000_0000) ⌝ }
 {
     if n < SIGN {
-        return BIAS + wide32(n);
+        return BIAS + wire::wide64(n);
     }
-    wide32(n)
+    wire::wide64(n)
 }
 
 // 1 where the bound lies above the number.

@@ -1,44 +1,14 @@
--- Texts put one after the other. Assumes nothing.
-use mathlib.Core.Path.{_≡_, refl, sym, ap, _∙_, subst}
+-- The decimal digits of a number. Assumes nothing.
+use mathlib.Core.Path.{_≡_, refl, ap, _∙_}
 use mathlib.Core.Bool.{Bool, true, false, cond}
 use mathlib.Core.List.{List, [], _∷_, _++_}
 use Prim.Native.Nat.{ℕ, zero, suc, _+_, _-_, _/_, _%_, _*_, _^_, _≤_, _<_}
-use native.Mathlib.Nat.{add-zero, add-suc, suc-add, pow-suc}
-use native.Mathlib.Numerals.{add-one}
+use native.Mathlib.Nat.{pow-suc}
 use native.Mathlib.Omega.{arith}
 use borrow.Author.Tests.{ltb-true, ltb-false, lt-ltb, le-ltb}
-use lib.ListN.{length, getD, set, take, length-append, length-set}
-use lib.Seq.{sets, take-suc}
+use lib.ListN.{length, getD, length-append}
 use lib.Dec.{ltb}
-use Rattle.text.specs.Text.{Wrote, Spells, digitsOf, spelt}
-
-pub sets-append : (l : List ℕ) (i : ℕ) (t u : List ℕ) → sets l i (t ++ u) ≡ sets (sets l i t) (i + length t) u
-sets-append l i [] u = ap (λ (k : ℕ). sets l k u) (sym (add-zero i))
-sets-append l i (a ∷ t) u =
-    sets-append (set l i a) (suc i) t u
-    ∙ ap (λ (k : ℕ). sets (sets (set l i a) (suc i) t) k u) (suc-add i (length t) ∙ sym (add-suc i (length t)))
-
--- one text after another
-pub then : {l t m u k : List ℕ} {i j n : ℕ} → Wrote l i t m j → Wrote m j u k n → Wrote l i (t ++ u) k n
-then {l} {t} {m} {u} {k} {i} {j} {n} a b = record {
-  place = omega (arith, a .place, b .place, length-append t u);
-  bytes = b .bytes ∙ ap (λ (x : List ℕ). sets x j u) (a .bytes) ∙ ap (λ (x : ℕ). sets (sets l i t) x u) (a .place) ∙ sym (sets-append l i t u);
-  size = b .size ∙ a .size;
-}
-
-pub nothing : (l : List ℕ) (i j : ℕ) → j ≡ i → Wrote l i [] l j
-nothing l i j e = record { place = e ∙ sym (add-zero i); bytes = refl; size = refl }
-
-pub one : (l : List ℕ) (i a j : ℕ) → j ≡ i + 1 → Wrote l i (a ∷ []) (set l i a) j
-one l i a j e = record { place = e; bytes = refl; size = length-set l i a }
-
--- the same text, written otherwise
-pub spelled : {l t u m : List ℕ} {i j : ℕ} → t ≡ u → Wrote l i t m j → Wrote l i u m j
-spelled {l} {t} {u} {m} {i} {j} e w = subst (λ (x : List ℕ). Wrote l i x m j) e w
-
--- one byte more of a text
-pub take-more : (s : List ℕ) (i : ℕ) → i < length s → take i s ++ (getD s i 0 ∷ []) ≡ take (i + 1) s
-take-more s i h = sym (ap (λ (k : ℕ). take k s) (add-one i) ∙ take-suc s i 0 h)
+use Rattle.text.specs.Text.{Spells, digitsOf, spelt}
 
 pub digits-length : (k n : ℕ) → length (digitsOf k n) ≤ k
 unfolding digitsOf

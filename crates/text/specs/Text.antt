@@ -1,4 +1,4 @@
--- Text as a list of bytes, and a buffer in which it stands.
+-- Text as a list of bytes, and numbers in decimal.
 use Prim.Native.Char.{code}
 use Prim.Native.String as string
 use Prim.Native.String.{String}
@@ -7,7 +7,6 @@ use mathlib.Core.Path.{_≡_}
 use mathlib.Core.Bool.{cond}
 use mathlib.Core.List.{List, [], _∷_, _++_}
 use lib.ListN.{length, getD}
-use lib.Seq.{sets}
 use lib.Dec.{ltb}
 
 -- the bytes of a text in ASCII
@@ -41,9 +40,3 @@ pub record Spells (n : ℕ) (t : List ℕ) : Type 0 where
   pub number : spelt 0 t ≡ n
   pub no-leading-zero : 0 < n → digitZero < getD t 0 0
   pub lone-zero : n ≡ 0 → t ≡ digitZero ∷ []
-
--- a buffer l has become m: the text t stands in it from i on, every other byte is as it was, and j is just after t
-pub record Wrote (l : List ℕ) (i : ℕ) (t m : List ℕ) (j : ℕ) : Type 0 where
-  pub place : j ≡ i + length t
-  pub bytes : m ≡ sets l i t
-  pub size : length m ≡ length l

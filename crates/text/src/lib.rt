@@ -1,35 +1,14 @@
-// Text put into a buffer that the caller lends: bytes as they stand, and numbers in decimal.
+// Numbers in decimal, put into a buffer that the caller lends.
 ghost use mathlib.Core.Path.{_≡_};
-ghost use mathlib.Core.List.{_∷_, []};
 ghost use Prim.Native.Nat.{_+_, _<_, _≤_};
 ghost use lib.ListN.{length};
-ghost use Rattle.text.specs.Text.{Wrote, Spells, digitsOf, decimalOf};
+ghost use Rattle.wire.specs.Writing.{Wrote};
+ghost use Rattle.text.specs.Text.{Spells, digitsOf, decimalOf};
 
 // The digits of the largest u64.
 const MOST_DIGITS: usize = 20;
 
 const TEN: u64 = 10;
-
-pub fn put_byte(out: &mut [u8], at: usize, b: u8) -> usize
-    requires { ⌜ at < length (now out) ⌝ }
-    ensures { λ r. ⌜ Wrote (now (out .entry)) at (b ∷ []) (now (out .exit)) r ⌝ }
-{
-    out[at] = b;
-    at + 1
-}
-
-// A text as it stands.
-pub fn put_bytes(out: &mut [u8], at: usize, text: &[u8]) -> usize
-    requires { ⌜ at + length (now text) ≤ length (now out) ⌝ }
-    ensures { λ r. ⌜ Wrote (now (out .entry)) at (now (text .entry)) (now (out .exit)) r ⌝ }
-{
-    let mut i = 0;
-    while i < text.len() {
-        out[at + i] = text[i];
-        i += 1;
-    }
-    at + i
-}
 
 // A digit in ASCII.
 fn digit(d: u64) -> u8
@@ -48,10 +27,10 @@ fn put_digits(out: &mut [u8], at: usize, n: u64, places: usize) -> usize
         return at;
     }
     if n < TEN {
-        return put_byte(out, at, digit(n));
+        return wire::put_byte(out, at, digit(n));
     }
     let next = put_digits(out, at, n / TEN, places - 1);
-    put_byte(out, next, digit(n % TEN))
+    wire::put_byte(out, next, digit(n % TEN))
 }
 
 // A number in decimal: its digits spell it, and the first is no zero, unless it is 0 itself.

@@ -2,17 +2,27 @@
 use mathlib.Core.Path.{_≡_}
 use mathlib.Core.Logic.{_≢_}
 use mathlib.Core.List.{List}
-use Prim.Native.Nat.{ℕ, _+_, _≤_, _<_}
+use Prim.Native.Nat.{ℕ, _+_, _*_, _≤_, _<_}
 use native.Mathlib.Omega.{arith}
 use native.Mathlib.Decide.{decLt}
 use lib.ListN.{length, getD, List·getD-eq-default}
-use Rattle.wire.specs.Bytes.{word16, word32}
+use Rattle.wire.specs.Bytes.{word16, word32, word64}
 
-pub past16 : (s : List ℕ) (i : ℕ) → length s ≤ i → word16 s i ≡ 0
-past16 s i h = let k : length s ≤ i + 1 = omega arith in rw (List·getD-eq-default s 0 h, List·getD-eq-default s 0 k)
+abbrev Past : (List ℕ → ℕ → ℕ) → Type 0
+Past w = (s : List ℕ) (i : ℕ) → length s ≤ i → w s i ≡ 0
 
-pub past32 : (s : List ℕ) (i : ℕ) → length s ≤ i → word32 s i ≡ 0
-past32 s i h = rw (past16 s i h, past16 s (i + 2) (omega arith))
+-- a number of two halves that read as 0 there does too
+halves : (w : List ℕ → ℕ → ℕ) (weight n : ℕ) → Past w → Past (λ s i. w s i * weight + w s (i + n))
+halves w weight n z s i h = rw (z s i h, z s (i + n) (omega arith)) (omega arith)
+
+pub past16 : Past word16
+past16 = halves (λ s i. getD s i 0) 256 1 (λ s i h. List·getD-eq-default s 0 h)
+
+pub past32 : Past word32
+past32 = halves word16 65536 2 past16
+
+pub past64 : Past word64
+past64 = halves word32 0x1_0000_0000 4 past32
 
 pub inside : (s : List ℕ) (i : ℕ) → getD s i 0 ≢ 0 → i < length s
 inside s i h = elim (decLt i (length s)) [

@@ -1,5 +1,5 @@
 -- `image::put_four` meets its contract: four words, one after the other. Assumes nothing.
-use Rattle.text.proofs.Laws.{then}
+use Rattle.wire.proofs.Writing.{then}
 use borrow.Author.Needs.{needs}
 use Rattle.image.proofs.put_four.Statement.{statement}
 use Rattle.image.proofs.put_four.Tie as tie

@@ -1,5 +1,5 @@
 -- `image::put_moments` meets its contract: twice four words. Assumes nothing.
-use Rattle.text.proofs.Laws.{then}
+use Rattle.wire.proofs.Writing.{then}
 use borrow.Author.Needs.{needs}
 use Rattle.image.proofs.put_moments.Statement.{statement}
 use Rattle.image.proofs.put_moments.Tie as tie

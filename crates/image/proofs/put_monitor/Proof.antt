@@ -2,9 +2,9 @@
 -- Assumes nothing.
 use Rattle.image.proofs.Owned.{owned}
 use Rattle.image.proofs.Laws.{monitor-back}
-use Rattle.text.specs.Text.{Wrote}
+use Rattle.wire.specs.Writing.{Wrote}
 use Rattle.image.specs.Image.{monitorBytes}
-use Rattle.text.proofs.Laws.{then}
+use Rattle.wire.proofs.Writing.{then}
 use borrow.Author.Needs.{needs}
 use Rattle.image.proofs.put_monitor.Statement.{statement}
 use Rattle.image.proofs.put_monitor.Tie as tie

@@ -1,5 +1,5 @@
 -- `image::put_tally` meets its contract: five words and a byte. Assumes nothing.
-use Rattle.text.proofs.Laws.{then}
+use Rattle.wire.proofs.Writing.{then}
 use borrow.Author.Needs.{needs}
 use Rattle.image.proofs.put_tally.Statement.{statement}
 use Rattle.image.proofs.put_tally.Tie as tie

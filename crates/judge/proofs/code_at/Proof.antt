@@ -22,14 +22,14 @@ add-word32-at c = search needs
 word32-at-requires : tie.Need-word32-at-requires
 word32-at-requires c κs = search needs
 
-mul-wide : tie.Need-mul-wide
-mul-wide c = search needs
+mul-wide64 : tie.Need-mul-wide64
+mul-wide64 c = search needs
 
-add-wide : tie.Need-add-wide
-add-wide c = search needs
+add-wide64 : tie.Need-add-wide64
+add-wide64 c = search needs
 
-wide-requires : tie.Need-wide-requires
-wide-requires c κs = search needs
+wide64-requires : tie.Need-wide64-requires
+wide64-requires c κs = search needs
 
 add-result : tie.Need-add-result
 add-result c = search needs
@@ -40,7 +40,7 @@ returns c =
     let i = c .before .before .before .before .before .args .at in
     let z : i + 1 + 2 ≡ i + 3 = omega arith in
     let t = turned (c .before .word32-at .result) (word16 s (i + 1)) (word16 s (i + 1 + 2)) (c .before .word32-at .ensures .0) (c .before .word32-at .ensures .1 .1) in
-    rw (eq-eqb _ _ (sym (c .before .before .before .byte-at .ensures .0) ∙ c .before .before .if1 .taken), c .wide .ensures .0, t, z)
+    rw (eq-eqb _ _ (sym (c .before .before .before .byte-at .ensures .0) ∙ c .before .before .if1 .taken), c .wide64 .ensures .0, t, z)
 
 returns-2 : tie.Need-returns-2
 returns-2 c = rw (ne-eqb _ _ (λ e. c .if1 .left (c .before .byte-at .ensures .0 ∙ e)))
@@ -52,9 +52,9 @@ code-at-spec =
     byte-at-requires
     add-word32-at
     word32-at-requires
-    mul-wide
-    add-wide
-    wide-requires
+    mul-wide64
+    add-wide64
+    wide64-requires
     add-result
     returns
     returns-2)

@@ -1,5 +1,6 @@
 use native.Mathlib.Omega.{arith}
-use Rattle.text.proofs.Laws.{then, digits-length}
+use Rattle.wire.proofs.Writing.{then}
+use Rattle.text.proofs.Laws.{digits-length}
 use borrow.Author.Needs.{needs}
 use Rattle.listing.proofs.put_field.Statement.{statement}
 use Rattle.listing.proofs.put_field.Tie as tie

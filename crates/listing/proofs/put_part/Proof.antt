@@ -2,7 +2,7 @@ use native.Mathlib.Omega.{arith}
 use mathlib.Core.Path.{sym, ap}
 use Rattle.text.specs.Text.{bytesOf}
 use Rattle.listing.specs.Parts.{partText}
-use Rattle.text.proofs.Laws.{spelled}
+use Rattle.wire.proofs.Writing.{spelled}
 use borrow.Author.Needs.{needs}
 use Rattle.listing.proofs.put_part.Statement.{statement}
 use Rattle.listing.proofs.put_part.Tie as tie

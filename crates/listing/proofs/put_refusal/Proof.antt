@@ -1,7 +1,7 @@
 use native.Mathlib.Omega.{arith}
 use Rattle.text.specs.Text.{bytesOf}
 use Rattle.listing.proofs.Laws.{refusal-joined}
-use Rattle.text.proofs.Laws.{then, spelled}
+use Rattle.wire.proofs.Writing.{then, spelled}
 use borrow.Author.Needs.{needs}
 use Rattle.listing.proofs.put_refusal.Statement.{statement}
 use Rattle.listing.proofs.put_refusal.Tie as tie

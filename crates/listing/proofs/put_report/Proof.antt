@@ -4,8 +4,8 @@ use mathlib.Core.List.{List, _++_}
 use Prim.Native.Nat.{ℕ, _+_, _≤_}
 use lib.ListN.{length, drop}
 use lib.Seq.{sets-eq}
-use Rattle.text.specs.Text.{Wrote}
-use Rattle.text.proofs.Laws.{spelled}
+use Rattle.wire.specs.Writing.{Wrote}
+use Rattle.wire.proofs.Writing.{spelled}
 use Rattle.listing.specs.Listing.{listingOf, listed, room}
 use borrow.Author.Needs.{needs}
 use Rattle.listing.proofs.put_report.Statement.{statement}

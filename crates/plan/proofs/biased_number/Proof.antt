@@ -5,21 +5,21 @@ use borrow.Author.Needs.{needs}
 use Rattle.plan.proofs.biased_number.Statement.{statement}
 use Rattle.plan.proofs.biased_number.Tie as tie
 
-wide32-requires : tie.Need-wide32-requires
-wide32-requires c κs = search needs
+wide64-requires : tie.Need-wide64-requires
+wide64-requires c κs = search needs
 
 add-result : tie.Need-add-result
 add-result c = search needs
 
 returns : tie.Need-returns
-returns c = (rw (lt-ltb _ _ (c .before .if1 .taken), c .wide32 .ensures .0), (omega arith, omega arith))
+returns c = (rw (lt-ltb _ _ (c .before .if1 .taken), c .wide64 .ensures .0), (omega arith, omega arith))
 
-wide32-requires-2 : tie.Need-wide32-requires-2
-wide32-requires-2 c κs = search needs
+wide64-requires-2 : tie.Need-wide64-requires-2
+wide64-requires-2 c κs = search needs
 
 returns-2 : tie.Need-returns-2
-returns-2 c = (rw (le-ltb _ _ (c .before .if1 .left)) (c .wide322 .ensures .0), (omega arith, omega arith))
+returns-2 c = (rw (le-ltb _ _ (c .before .if1 .left)) (c .wide642 .ensures .0), (omega arith, omega arith))
 
 pub biased-number-spec : {M : Type 1} → statement M
 biased-number-spec =
-    tie.close (tie.spec wide32-requires add-result returns wide32-requires-2 returns-2)
+    tie.close (tie.spec wide64-requires add-result returns wide64-requires-2 returns-2)

@@ -1,8 +1,8 @@
--- `image::put_word64` meets its contract: two words. Assumes nothing.
-use Rattle.text.proofs.Laws.{then}
+-- `wire::put_word64` meets its contract: two words. Assumes nothing.
+use Rattle.wire.proofs.Writing.{then}
 use borrow.Author.Needs.{needs}
-use Rattle.image.proofs.put_word64.Statement.{statement}
-use Rattle.image.proofs.put_word64.Tie as tie
+use Rattle.wire.proofs.put_word64.Statement.{statement}
+use Rattle.wire.proofs.put_word64.Tie as tie
 
 cast-put-word32 : tie.Need-cast-put-word32
 cast-put-word32 c = search needs
@@ -20,7 +20,9 @@ same-length : tie.Need-same-length
 same-length c = search needs
 
 returns : tie.Need-returns
-returns c = then (c .before .before .before .before .before .before .put-word32 .ensures) (c .before .before .put-word322 .ensures)
+returns c =
+    let second = c .before .before in
+    then (second .before .before .before .before .put-word32 .ensures) (second .put-word322 .ensures)
 
 pub put-word64-spec : {M : Type 1} → statement M
 put-word64-spec =

@@ -1,0 +1,72 @@
+-- Texts put one after the other, and numbers that their bytes give back. Assumes nothing.
+use mathlib.Core.Path.{_≡_, refl, sym, ap, _∙_, subst}
+use mathlib.Core.List.{List, [], _∷_, _++_}
+use Prim.Native.Nat.{ℕ, suc, _+_, _*_, _/_, _%_, _^_, _≤_, _<_}
+use native.Mathlib.Nat.{add-zero, add-suc, suc-add}
+use native.Mathlib.Numerals.{add-one}
+use native.Mathlib.Omega.{arith}
+use lib.ListN.{length, getD, set, take, drop, length-append, length-set}
+use lib.Seq.{sets, sets-eq, take-suc}
+use Rattle.wire.specs.Bytes.{word64}
+use Rattle.wire.specs.Writing.{Wrote, wordBytes, longBytes}
+
+sets-append : (l : List ℕ) (i : ℕ) (t u : List ℕ) → sets l i (t ++ u) ≡ sets (sets l i t) (i + length t) u
+sets-append l i [] u = ap (λ (k : ℕ). sets l k u) (sym (add-zero i))
+sets-append l i (a ∷ t) u =
+    sets-append (set l i a) (suc i) t u
+    ∙ ap (λ (k : ℕ). sets (sets (set l i a) (suc i) t) k u) (suc-add i (length t) ∙ sym (add-suc i (length t)))
+
+-- one text after another
+pub then : {l t m u k : List ℕ} {i j n : ℕ} → Wrote l i t m j → Wrote m j u k n → Wrote l i (t ++ u) k n
+then {l} {t} {m} {u} {k} {i} {j} {n} a b = record {
+  place = omega (arith, a .place, b .place, length-append t u);
+  bytes =
+      b .bytes
+      ∙ ap (λ (x : List ℕ). sets x j u) (a .bytes)
+      ∙ ap (λ (x : ℕ). sets (sets l i t) x u) (a .place)
+      ∙ sym (sets-append l i t u);
+  size = b .size ∙ a .size;
+}
+
+pub nothing : (l : List ℕ) (i j : ℕ) → j ≡ i → Wrote l i [] l j
+nothing l i j e = record { place = e ∙ sym (add-zero i); bytes = refl; size = refl }
+
+pub one : (l : List ℕ) (i a j : ℕ) → j ≡ i + 1 → Wrote l i (a ∷ []) (set l i a) j
+one l i a j e = record { place = e; bytes = refl; size = length-set l i a }
+
+-- the same text, written otherwise
+pub spelled : {l t u m : List ℕ} {i j : ℕ} → t ≡ u → Wrote l i t m j → Wrote l i u m j
+spelled {l} {t} {u} {m} {i} {j} e w = subst (λ (x : List ℕ). Wrote l i x m j) e w
+
+-- one byte more of a text
+pub take-more : (s : List ℕ) (i : ℕ) → i < length s → take i s ++ (getD s i 0 ∷ []) ≡ take (i + 1) s
+take-more s i h = sym (ap (λ (k : ℕ). take k s) (add-one i) ∙ take-suc s i 0 h)
+
+-- what was written at the start of a buffer with room for it
+pub at-start : {l t n : List ℕ} {j : ℕ} → Wrote l 0 t n j → length t ≤ length l → n ≡ t ++ drop (length t) l
+at-start {l} {t} {n} {j} w h =
+    let p : 0 + length t ≡ length t = omega arith in
+    w .bytes ∙ sets-eq t l 0 (omega arith) ∙ ap (λ (k : ℕ). t ++ drop k l) p
+
+-- four bytes that are those of x
+pub word-of : {l m : List ℕ} {i j a b c d : ℕ} (x : ℕ) → Wrote l i (a ∷ b ∷ c ∷ d ∷ []) m j
+    → a ≡ x / 0x100_0000 % 256 → b ≡ x / 0x1_0000 % 256 → c ≡ x / 0x100 % 256 → d ≡ x % 256
+    → Wrote l i (wordBytes x) m j
+word-of {l} {m} {i} {j} {a} {b} {c} {d} x w p q r s = spelled (cc) w
+
+-- a number of 32 bits, put together from its bytes
+pub word-told : (x : ℕ) → x < 2 ^ 32
+    → (x / 0x100_0000 % 256 * 256 + x / 0x1_0000 % 256) * 65536 + (x / 0x100 % 256 * 256 + x % 256) ≡ x
+word-told x h =
+    let a : x ≡ x / 0x100 * 256 + x % 256 = omega arith in
+    let b : x / 0x100 ≡ x / 0x1_0000 * 256 + x / 0x100 % 256 = omega arith in
+    let c : x / 0x1_0000 ≡ x / 0x100_0000 * 256 + x / 0x1_0000 % 256 = omega arith in
+    let d : x / 0x100_0000 % 256 ≡ x / 0x100_0000 = omega arith in
+    omega arith
+
+-- and one of 64
+pub long-told : (x : ℕ) (rest : List ℕ) → x < 2 ^ 64 → word64 (longBytes x ++ rest) 0 ≡ x
+long-told x rest h =
+    let a : x / 0x1_0000_0000 < 2 ^ 32 = omega arith in
+    let b : x % 0x1_0000_0000 < 2 ^ 32 = omega arith in
+    rw (word-told (x / 0x1_0000_0000) a, word-told (x % 0x1_0000_0000) b) (omega arith)

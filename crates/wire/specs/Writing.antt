@@ -1,0 +1,20 @@
+-- A buffer in which bytes were put, and the bytes of numbers, most significant byte first (N3).
+use Prim.Native.Nat.{ℕ, _+_, _/_, _%_}
+use mathlib.Core.Path.{_≡_}
+use mathlib.Core.List.{List, [], _∷_, _++_}
+use lib.ListN.{length}
+use lib.Seq.{sets}
+
+-- a buffer l has become m: the text t stands in it from i on, every other byte is as it was, and j is just after t
+pub record Wrote (l : List ℕ) (i : ℕ) (t m : List ℕ) (j : ℕ) : Type 0 where
+  pub place : j ≡ i + length t
+  pub bytes : m ≡ sets l i t
+  pub size : length m ≡ length l
+
+-- a number in four bytes
+abbrev pub wordBytes : ℕ → List ℕ
+wordBytes x = x / 0x100_0000 % 256 ∷ x / 0x1_0000 % 256 ∷ x / 0x100 % 256 ∷ x % 256 ∷ []
+
+-- a number in eight bytes
+abbrev pub longBytes : ℕ → List ℕ
+longBytes x = wordBytes (x / 0x1_0000_0000) ++ wordBytes (x % 0x1_0000_0000)
