@@ -52,7 +52,7 @@ regionIn s at =
     record {
       event = eventIn s at;
       terms = termIn s (at + 10) ∷ termIn s (at + 18) ∷ termIn s (at + 26) ∷ termIn s (at + 34) ∷ [];
-      «term_count» = getD s (at + 7) 0;
+      count = getD s (at + 7) 0;
       hot = eqb (getD s (at + 5) 0) 1;
       resets = getD s (at + 6) 0;
     }

@@ -93,7 +93,7 @@ fn region_at(s: &[u8], at: usize) -> Region
     Region {
         event,
         terms,
-        term_count: wire::byte_at(s, at + 7),
+        count: wire::byte_at(s, at + 7),
         hot: wire::byte_at(s, at + 5) == 1,
         resets: wire::byte_at(s, at + 6),
     }

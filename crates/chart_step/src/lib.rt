@@ -45,7 +45,7 @@ pub struct Reading {
     pub headed: bool,
     pub main: bool,
     pub started: bool,
-    pub region_at: usize,
+    pub start: usize,
     pub touched: u16,
     pub region: Region,
     pub chart: Chart,
@@ -183,9 +183,9 @@ fn closing_fault(r: Reading) -> Fault
     ensures { λ o. ⌜ o ≡ closingFault r ⌝ }
 {
     let g = r.region;
-    let offset = r.region_at;
+    let offset = r.start;
     let bare = when(r.started & model::is_bare(g), Refusal::BareRegion, offset);
-    let hot = g.hot & (g.term_count == 0);
+    let hot = g.hot & (g.count == 0);
     or_else(bare, when(r.started & hot, Refusal::HotWithoutTerm, offset))
 }
 
@@ -235,7 +235,7 @@ fn begun(r: Reading, at: usize, e: Event) -> Reading
     let region = Region {
         event: e,
         terms: [zero; MOST_TERMS],
-        term_count: 0,
+        count: 0,
         hot: false,
         resets: 0,
     };
@@ -243,7 +243,7 @@ fn begun(r: Reading, at: usize, e: Event) -> Reading
         headed: r.headed,
         main: r.main,
         started: true,
-        region_at: at,
+        start: at,
         touched: r.touched | model::touched(e),
         region,
         chart,
@@ -301,7 +301,7 @@ fn with_term(r: Reading, left: Left, relation: u8, n: u32) -> Reading
 {
     let mut g = r.region;
     let mut out = r;
-    let i = g.term_count as usize;
+    let i = g.count as usize;
     let t = Term {
         left,
         relation: relation_of(relation),
@@ -309,7 +309,7 @@ fn with_term(r: Reading, left: Left, relation: u8, n: u32) -> Reading
     };
     if i < MOST_TERMS {
         g.terms[i] = t;
-        g.term_count = g.term_count + 1;
+        g.count = g.count + 1;
         out.region = g;
     }
     out
@@ -317,13 +317,13 @@ fn with_term(r: Reading, left: Left, relation: u8, n: u32) -> Reading
 
 fn term_fault(r: Reading, beyond: bool, at: usize, next: usize) -> Fault
     ensures { λ o. ⌜ o
-        ≡ firstFault (not (r .started)) Fault.Nothing beyond (leb mostTerms (r .region .«term_count»)) false false false
+        ≡ firstFault (not (r .started)) Fault.Nothing beyond (leb mostTerms (r .region .count)) false false false
         false at next ⌝ }
 {
     let mut k = no_fault();
     k.misplaced = !r.started;
     k.beyond = beyond;
-    k.full = MOST_TERMS <= r.region.term_count as usize;
+    k.full = MOST_TERMS <= r.region.count as usize;
     first_fault(Fault::Nothing, k, at, next)
 }
 

@@ -114,7 +114,7 @@ module _ (c : Chart) (w : WellFormed c) (numbers : (i j : ℕ) → i < mostRegio
       by (yes h) =
           let r : c .count ≤ mostRegions = w .room in
           let t = fits-at c w i h .terms in
-          let n : regionAt c i .«term_count» ≤ mostTerms = t .count in
+          let n : regionAt c i .count ≤ mostTerms = t .count in
           words-hold (regionAt c i) v (λ j. getD terms (i * mostTerms + j) 0) n (λ j l. words-in i j h l)
           (λ j l. word-holds (c .clocks) (termAt (regionAt c i) j) (w .clocks) (t .used j l) (numbers i j (omega arith) (omega arith)) v)
           ∙ ap (λ (b : Bool). conditionHolds (cond b (regionAt c i) zeroRegion) v) (sym (lt-ltb i (c .count) h))
@@ -127,34 +127,34 @@ module _ (c : Chart) (w : WellFormed c) (numbers : (i j : ℕ) → i < mostRegio
 
   -- a word that isn't 0 is a term's
   words-named : (k : ℕ) → ¬ (getD terms k 0 ≡ 0) → InChart (c .clocks) (getD terms k 0)
-  words-named k z = by (decLt k (c .count * mostTerms)) (decLt (k % mostTerms) (regionAt c (k / mostTerms) .«term_count»))
+  words-named k z = by (decLt k (c .count * mostTerms)) (decLt (k % mostTerms) (regionAt c (k / mostTerms) .count))
     where
-      by : Dec (k < c .count * mostTerms) → Dec (k % mostTerms < regionAt c (k / mostTerms) .«term_count») → InChart (c .clocks) (getD terms k 0)
+      by : Dec (k < c .count * mostTerms) → Dec (k % mostTerms < regionAt c (k / mostTerms) .count) → InChart (c .clocks) (getD terms k 0)
       by (no h) d = let l : c .count * mostTerms ≤ k = omega arith in absurd (z (F .is k ∙ rw (le-ltb k (c .count * mostTerms) l)))
       by (yes h) (no d) =
-          let l : regionAt c (k / mostTerms) .«term_count» ≤ k % mostTerms = omega arith in
-          absurd (z (F .is k ∙ rw (lt-ltb k (c .count * mostTerms) h, le-ltb (k % mostTerms) (regionAt c (k / mostTerms) .«term_count») l)))
+          let l : regionAt c (k / mostTerms) .count ≤ k % mostTerms = omega arith in
+          absurd (z (F .is k ∙ rw (lt-ltb k (c .count * mostTerms) h, le-ltb (k % mostTerms) (regionAt c (k / mostTerms) .count) l)))
       by (yes h) (yes d) =
           let r : c .count ≤ mostRegions = w .room in
           let i : k / mostTerms < c .count = omega arith in
           let t = fits-at c w (k / mostTerms) i .terms in
           let e : getD terms k 0 ≡ wordOf (termAt (regionAt c (k / mostTerms)) (k % mostTerms)) = F .is k
-          ∙ rw (lt-ltb k (c .count * mostTerms) h, lt-ltb (k % mostTerms) (regionAt c (k / mostTerms) .«term_count») d) in
+          ∙ rw (lt-ltb k (c .count * mostTerms) h, lt-ltb (k % mostTerms) (regionAt c (k / mostTerms) .count) d) in
           subst (InChart (c .clocks)) (sym e)
           (word-named (c .clocks) (termAt (regionAt c (k / mostTerms)) (k % mostTerms)) (w .clocks) (t .used (k % mostTerms) d)
           (numbers (k / mostTerms) (k % mostTerms) (omega arith) (omega arith)))
 
   words-end : (i j k : ℕ) → j ≤ k → k < mostTerms → getD terms (i * mostTerms + j) 0 ≡ 0 → getD terms (i * mostTerms + k) 0 ≡ 0
-  words-end i j k l m z = by (decLt i (c .count)) (decLt j (regionAt c i .«term_count»))
+  words-end i j k l m z = by (decLt i (c .count)) (decLt j (regionAt c i .count))
     where
-      by : Dec (i < c .count) → Dec (j < regionAt c i .«term_count») → getD terms (i * mostTerms + k) 0 ≡ 0
+      by : Dec (i < c .count) → Dec (j < regionAt c i .count) → getD terms (i * mostTerms + k) 0 ≡ 0
       by (no h) d = words-beyond i k (omega arith)
       by (yes h) (yes d) =
           absurd (word-is (termAt (regionAt c i) j)
-          (ap (λ (b : Bool). cond b (wordOf (termAt (regionAt c i) j)) 0) (sym (lt-ltb j (regionAt c i .«term_count») d)) ∙ sym (words-in i j h (omega arith)) ∙ z))
+          (ap (λ (b : Bool). cond b (wordOf (termAt (regionAt c i) j)) 0) (sym (lt-ltb j (regionAt c i .count) d)) ∙ sym (words-in i j h (omega arith)) ∙ z))
       by (yes h) (no d) =
-          let g : regionAt c i .«term_count» ≤ k = omega arith in
-          words-in i k h m ∙ ap (λ (b : Bool). cond b (wordOf (termAt (regionAt c i) k)) 0) (le-ltb k (regionAt c i .«term_count») g)
+          let g : regionAt c i .count ≤ k = omega arith in
+          words-in i k h m ∙ ap (λ (b : Bool). cond b (wordOf (termAt (regionAt c i) k)) 0) (le-ltb k (regionAt c i .count) g)
 
   pub words-are : Words (c .clocks) terms
   words-are = record { named = words-named; ends = words-end }

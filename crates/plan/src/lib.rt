@@ -289,7 +289,7 @@ fn word_at(g: Region, j: usize) -> u64
     requires { ⌜ j < mostTerms ⌝ }
     ensures { λ r. ⌜ r ≡ wordAt g j ⌝ }
 {
-    if j < g.term_count as usize {
+    if j < g.count as usize {
         return word_of(g.terms[j]);
     }
     0

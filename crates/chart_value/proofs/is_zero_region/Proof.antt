@@ -12,7 +12,7 @@ use Rattle.chart_value.proofs.is_zero_region.Statement.{statement}
 use Rattle.chart_value.proofs.is_zero_region.Tie as tie
 
 -- where no term is used, the terms fit exactly if all are zeros
-none-used : (g : Region) → g .«term_count» ≡ 0 → allBelow mostTerms (λ j. isZeroTerm (termAt g j)) ≡ termsFit 0 g
+none-used : (g : Region) → g .count ≡ 0 → allBelow mostTerms (λ j. isZeroTerm (termAt g j)) ≡ termsFit 0 g
 unfolding termsFit allBelow termPlaced
 none-used g e = rw e
 
@@ -34,7 +34,7 @@ returns : tie.Need-returns
 unfolding isZeroRegion
 returns c =
     let g = c .before .before .before .before .before .args .g in
-    rw (c .before .before .before .before .is-zero-event .ensures, c .before .before .before .terms-zero .ensures, where-zero (g .«term_count») (not (g .hot)) (eqb (g .resets) 0) _ _ (none-used g))
+    rw (c .before .before .before .before .is-zero-event .ensures, c .before .before .before .terms-zero .ensures, where-zero (g .count) (not (g .hot)) (eqb (g .resets) 0) _ _ (none-used g))
 
 pub is-zero-region-spec : {M : Type 1} → statement M
 is-zero-region-spec = tie.close (tie.spec is-zero-event-requires terms-zero-requires returns)

@@ -13,7 +13,7 @@ use Rattle.chart_value.proofs.term_placed.Reads as term-placed-reads
 
 abbrev Inv-loop : tie.InvT-loop
 Inv-loop clocks g count ok₀ j₀ ok j =
-    (j ≤ 4) × (ok ≡ allBelow j (λ k. termPlaced clocks (g .«term_count») k (termAt g k)))
+    (j ≤ 4) × (ok ≡ allBelow j (λ k. termPlaced clocks (g .count) k (termAt g k)))
 
 abbrev μ-loop : tie.MeasureT-loop
 μ-loop clocks g count ok₀ j₀ ok j = 4 - j
