@@ -1,5 +1,6 @@
 pub mod Bools
 pub mod Facts
 pub mod Table
+pub mod Filled
 pub mod Joins
 pub mod Loops

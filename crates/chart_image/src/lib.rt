@@ -140,7 +140,7 @@ fn is_image(s: &[u8]) -> bool
 
 // The 32 regions.
 fn regions_at(s: &[u8]) -> [Region; MOST_REGIONS]
-    ensures { λ r. ⌜ r ≡ regionsIn mostRegions (now (s .entry)) ⌝ }
+    ensures { λ r. ⌜ r ≡ regionsIn (now (s .entry)) ⌝ }
 {
     let zero = model::zero_region();
     let mut regions = [zero; MOST_REGIONS];

@@ -10,12 +10,12 @@ use lib.Dec.{eqb, ltb}
 use lib.ListN.{length, getD, set, length-set}
 use Rattle.bitset.specs.Set.{contains}
 use Rattle.bitset.proofs.Laws.{contains-empty}
+use Rattle.base.proofs.Filled.{Filled, filled-next}
 use Rattle.model.specs.declared.Chart.{Chart}
 use Rattle.model.specs.declared.Event.{Event}
 use Rattle.model.specs.declared.Event.the-variants.{Plain, Message}
 use Rattle.model.specs.declared.Region.{Region}
 use Rattle.model.specs.Chart.{zeroRegion, regionAt, termAt, isPlain, mostRegions, mostTerms}
-use Rattle.model.proofs.Filled.{Filled, filled-next}
 use Rattle.order.specs.Order.{aboveOf}
 use Rattle.order.proofs.Laws.{sets-beyond}
 use Rattle.condition.specs.Condition.{conditionHolds}
@@ -39,10 +39,10 @@ clipped {A} c f z e i = by (ltb i (c .count))
     by true = refl
     by false = e
 
-pub keys-show : (c : Chart) (keys : List ℕ) → Filled (λ i. keyOf (regionAt c i .event)) (c .count) keys → (i : ℕ) → getD keys i 0 ≡ chartOf c .key i
+pub keys-show : (c : Chart) (keys : List ℕ) → Filled 0 (λ i. keyOf (regionAt c i .event)) (c .count) keys → (i : ℕ) → getD keys i 0 ≡ chartOf c .key i
 keys-show c keys F i = F .is i ∙ clipped c (λ g. keyOf (g .event)) 0 refl i
 
-pub resets-show : (c : Chart) (resets : List ℕ) → Filled (λ i. regionAt c i .resets) (c .count) resets
+pub resets-show : (c : Chart) (resets : List ℕ) → Filled 0 (λ i. regionAt c i .resets) (c .count) resets
     → (i k : ℕ) → contains (getD resets i 0) k ≡ chartOf c .resets i k
 resets-show c resets F i k = ap (λ (s : ℕ). contains s k) (F .is i ∙ clipped c (λ g. g .resets) 0 refl i)
 
@@ -71,16 +71,16 @@ module _ (c : Chart) (i : ℕ) where
   abbrev words-of : ℕ → ℕ
   words-of k = wordAt (regionAt c (k / mostTerms)) (k % mostTerms)
 
-  one-word : (j k next : ℕ) {out : List ℕ} (v : ℕ) → j < mostTerms → k ≡ i * mostTerms + j → next ≡ k + 1 → Filled words-of k out → k < length out
-      → v ≡ wordAt (regionAt c i) j → Filled words-of next (set out k v)
+  one-word : (j k next : ℕ) {out : List ℕ} (v : ℕ) → j < mostTerms → k ≡ i * mostTerms + j → next ≡ k + 1 → Filled 0 words-of k out → k < length out
+      → v ≡ wordAt (regionAt c i) j → Filled 0 words-of next (set out k v)
   one-word j k next v h a b F l e =
       let d : k / mostTerms ≡ i = omega arith in
       let m : k % mostTerms ≡ j = omega arith in
       rw b (filled-next v F l (rw (d, m) e))
 
-  pub words-next : {out : List ℕ} (v₀ v₁ v₂ v₃ : ℕ) → Filled words-of (i * mostTerms) out → i * mostTerms + 3 < length out
+  pub words-next : {out : List ℕ} (v₀ v₁ v₂ v₃ : ℕ) → Filled 0 words-of (i * mostTerms) out → i * mostTerms + 3 < length out
       → v₀ ≡ wordAt (regionAt c i) 0 → v₁ ≡ wordAt (regionAt c i) 1 → v₂ ≡ wordAt (regionAt c i) 2 → v₃ ≡ wordAt (regionAt c i) 3
-      → Filled words-of ((i + 1) * mostTerms)
+      → Filled 0 words-of ((i + 1) * mostTerms)
       (set (set (set (set out (i * mostTerms) v₀) (i * mostTerms + 1) v₁) (i * mostTerms + 2) v₂) (i * mostTerms + 3) v₃)
   words-next {out} v₀ v₁ v₂ v₃ F l e₀ e₁ e₂ e₃ =
       let k = i * mostTerms in
@@ -93,7 +93,7 @@ module _ (c : Chart) (i : ℕ) where
       (simp length-set (omega arith)) e₃
 
 module _ (c : Chart) (w : WellFormed c) (numbers : (i j : ℕ) → i < mostRegions → j < mostTerms → termAt (regionAt c i) j .n < bias)
-    (terms : List ℕ) (F : Filled (λ k. wordAt (regionAt c (k / mostTerms)) (k % mostTerms)) (c .count * mostTerms) terms) where
+    (terms : List ℕ) (F : Filled 0 (λ k. wordAt (regionAt c (k / mostTerms)) (k % mostTerms)) (c .count * mostTerms) terms) where
   -- the words of region i
   words-in : (i j : ℕ) → i < c .count → j < mostTerms → getD terms (i * mostTerms + j) 0 ≡ wordAt (regionAt c i) j
   words-in i j h l =

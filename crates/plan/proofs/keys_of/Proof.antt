@@ -4,8 +4,8 @@ use mathlib.Core.Path.{_≡_}
 use lib.ListN.{length, length-set}
 use native.Mathlib.Omega.{arith}
 use borrow.Author.Needs.{needs}
+use Rattle.base.proofs.Filled.{Filled, filled-none, filled-next}
 use Rattle.model.specs.Chart.{mostRegions, regionAt}
-use Rattle.model.proofs.Filled.{Filled, filled-none, filled-next}
 use Rattle.chart_value.specs.View.{keyOf}
 use Rattle.chart_value.proofs.Facts.{wf-of}
 use Rattle.plan.proofs.Shows.{keys-show}
@@ -14,7 +14,7 @@ use Rattle.plan.proofs.keys_of.Tie as tie
 
 abbrev Inv-loop : tie.InvT-loop
 Inv-loop c count keys₀ i₀ keys i =
-    (c .count ≤ mostRegions) × (i ≤ c .count) × (length keys ≡ mostRegions) × Filled (λ k. keyOf (regionAt c k .event)) i keys
+    (c .count ≤ mostRegions) × (i ≤ c .count) × (length keys ≡ mostRegions) × Filled 0 (λ k. keyOf (regionAt c k .event)) i keys
 
 abbrev μ-loop : tie.MeasureT-loop
 μ-loop c count keys₀ i₀ keys i = mostRegions - i

@@ -4,8 +4,8 @@ use mathlib.Core.Path.{_≡_}
 use lib.ListN.{length, length-set}
 use native.Mathlib.Omega.{arith}
 use borrow.Author.Needs.{needs}
+use Rattle.base.proofs.Filled.{Filled, filled-none, filled-next}
 use Rattle.model.specs.Chart.{mostRegions, regionAt}
-use Rattle.model.proofs.Filled.{Filled, filled-none, filled-next}
 use Rattle.chart_value.proofs.Facts.{wf-of}
 use Rattle.plan.proofs.Shows.{resets-show}
 use Rattle.plan.proofs.resets_of.Statement.{statement}
@@ -13,7 +13,7 @@ use Rattle.plan.proofs.resets_of.Tie as tie
 
 abbrev Inv-loop : tie.InvT-loop
 Inv-loop c count resets₀ i₀ resets i =
-    (c .count ≤ mostRegions) × (i ≤ c .count) × (length resets ≡ mostRegions) × Filled (λ k. regionAt c k .resets) i resets
+    (c .count ≤ mostRegions) × (i ≤ c .count) × (length resets ≡ mostRegions) × Filled 0 (λ k. regionAt c k .resets) i resets
 
 abbrev μ-loop : tie.MeasureT-loop
 μ-loop c count resets₀ i₀ resets i = mostRegions - i

@@ -4,8 +4,8 @@ use mathlib.Core.Path.{_≡_}
 use lib.ListN.{length, length-set}
 use native.Mathlib.Omega.{arith}
 use borrow.Author.Needs.{needs}
+use Rattle.base.proofs.Filled.{Filled, filled-none}
 use Rattle.model.specs.Chart.{mostRegions, mostTerms, regionAt}
-use Rattle.model.proofs.Filled.{Filled, filled-none}
 use Rattle.chart_value.proofs.Facts.{wf-of}
 use Rattle.chart_value.proofs.Owned.{owned-at}
 use Rattle.plan.specs.Words.{wordAt}
@@ -16,7 +16,7 @@ use Rattle.plan.proofs.terms_of.Tie as tie
 abbrev Inv-loop : tie.InvT-loop
 Inv-loop c count terms₀ i₀ terms i =
     (c .count ≤ mostRegions) × (i ≤ c .count) × (length terms ≡ mostRegions * mostTerms)
-    × Filled (λ y. wordAt (regionAt c (y / mostTerms)) (y % mostTerms)) (i * mostTerms) terms
+    × Filled 0 (λ y. wordAt (regionAt c (y / mostTerms)) (y % mostTerms)) (i * mostTerms) terms
 
 abbrev μ-loop : tie.MeasureT-loop
 μ-loop c count terms₀ i₀ terms i = mostRegions - i
