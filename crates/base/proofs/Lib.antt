@@ -2,5 +2,4 @@ pub mod Bools
 pub mod Facts
 pub mod Table
 pub mod Filled
-pub mod Joins
 pub mod Loops

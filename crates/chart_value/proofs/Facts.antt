@@ -18,10 +18,10 @@ use Rattle.model.specs.declared.Left.the-variants.{Clock, Difference}
 use Rattle.model.specs.declared.Relation.{Relation}
 use Rattle.model.specs.declared.Relation.the-variants.{Less, AtMost, Equal, AtLeast, More}
 use Rattle.base.proofs.Bools.{both, and-both}
+use Rattle.base.proofs.Facts.{all-at, all-of}
 use Rattle.bitset.proofs.Laws.{within-true, lt-within}
 use Rattle.model.specs.Chart.{zeroTerm, zeroRegion, regionAt, termAt, isBare}
-use Rattle.chart_value.specs.WellFormed.{wellFormed, regionPlaced, placedAt, placeFits, regionFits, eventFits, termsFit, termPlaced, leftFits, isZeroTerm, isZeroRegion, isZeroLeft, isLess, isZeroEvent, allBelow}
-use Rattle.chart_value.proofs.All.{all-at, all-of}
+use Rattle.chart_value.specs.WellFormed.{wellFormed, regionPlaced, placedAt, placeFits, regionFits, eventFits, termsFit, termPlaced, leftFits, isZeroTerm, isZeroRegion, isZeroLeft, isLess, isZeroEvent}
 
 pub record Shape (c : Chart) : Type 0 where
   pub regions : length (c .regions) ≡ 32
@@ -137,7 +137,7 @@ zero-region g l e =
     same-region g zeroRegion (zero-event (g .event) (a .0)) ts n (not-true (g .hot) (d .0)) (eqb-true (g .resets) 0 (f .0))
 
 pub zero-is-zero : isZeroRegion zeroRegion ≡ true
-unfolding isZeroRegion isZeroTerm termsFit termPlaced allBelow
+unfolding isZeroRegion isZeroTerm termsFit termPlaced
 zero-is-zero = refl
 
 pub wf-of : (c : Chart) → wellFormed c ≡ true → WellFormed c

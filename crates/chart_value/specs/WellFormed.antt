@@ -5,6 +5,7 @@ use mathlib.Core.List.{List}
 use lib.ListN.{getD}
 use lib.Dec.{eqb, leb, ltb}
 use lib.Bits.{bitAnd}
+use Rattle.base.specs.Lists.{allBelow}
 use Rattle.bitset.specs.Set.{union, within}
 use Rattle.model.specs.declared.Chart.{Chart}
 use Rattle.model.specs.declared.Region.{Region}
@@ -17,11 +18,6 @@ use Rattle.model.specs.declared.Relation.{Relation}
 use Rattle.model.specs.declared.Relation.the-variants.{Less, AtMost, Equal, AtLeast, More}
 use Rattle.model.specs.Chart.{leastLines, mostLines, mostClocks, mostRegions, mostTerms, absentRegion, regionAt, termAt}
 use Rattle.model.specs.Chart.{isBare, touched}
-
--- the test holds of each number below n
-unfoldable pub allBelow : ℕ → (ℕ → Bool) → Bool
-allBelow zero p = true
-allBelow (suc n) p = allBelow n p && p n
 
 -- M3: zeros
 abbrev pub isZeroLeft : Left → Bool
