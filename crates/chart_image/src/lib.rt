@@ -8,7 +8,6 @@ use model::Region;
 use model::Term;
 ghost use mathlib.Core.Path.{_≡_};
 ghost use Prim.Native.Nat.{_+_, _≤_};
-ghost use Rattle.model.specs.Chart.{mostRegions};
 ghost use Rattle.chart_image.specs.ChartImage.{chartSize, leftOf, termIn, termFits, eventIn, regionIn, headFits};
 ghost use Rattle.chart_image.specs.ChartImage.{regionFits, regionsIn, isImage, chartValue};
 
