@@ -38,7 +38,7 @@ use Rattle.chart_step.specs.declared.Outcome.the-variants.{Going, Ended, Refuse
 use Rattle.chart_step.specs.declared.Refusal.{Refusal}
 use Rattle.chart_step.specs.declared.Refusal.the-variants.{CutShort, OutOfPlace, OutOfRange, NoRoom, BareRegion, HotWithoutTerm, HotInPrechart, NoneAbove, NoMainRegion}
 use Rattle.chart_step.proofs.Numbers.{refusal-nonzero}
-use Rattle.chart_step.specs.Reading.{stepOf, faultOf, decided, applied, outcomeOf, closingFault, closed, orElse, when, withTerm, relationOf, begunWith, withRegion, withMain, withHeading, withHot, withResets, outOfRange, noneAbove, noMainRegion}
+use Rattle.chart_step.specs.Reading.{stepOf, faultOf, decided, applied, outcomeOf, closingFault, closed, orElse, when, withTerm, relationOf, begunWith, withRegion, withMain, withHeading, outOfRange, noneAbove, noMainRegion}
 use Rattle.chart_reader.specs.Read.{Said, acceptedAs, refusedFor, readChart, readFrom, continueBy, advanceOf, advanceBy, startReading}
 use Rattle.chart_value.specs.WellFormed.{wellFormed, placeFits, regionFits, eventFits, leftFits, touchedBefore, isZeroRegion}
 use Rattle.bitset.specs.Set.{union, within}
@@ -290,10 +290,12 @@ grow r h (busy s c w t) f left e n room fits =
           t;
     })
 
--- 32: the region becomes hot
-heat : (r : Reading) → r .headed ≡ true → State r → not (r .started) ≡ false → not (r .main) ≡ false → Inv (withHot r)
-heat r h (idle s c t) f m = absurd (true≢false (sym (not-false _ f) ∙ s))
-heat r h (busy s c w t) f m =
+-- 32, 40: the region becomes hot, or has resets
+change : (r : Reading) (hot : Bool) (k : ℕ) → r .headed ≡ true → State r → not (r .started) ≡ false
+    → (Grows (r .chart) (r .main) (r .region) → ((not hot || r .main) ≡ true) × (k < 2 ^ r .chart .clocks))
+    → Inv (withRegion r (record { event = r .region .event; terms = r .region .terms; count = r .region .count; hot = hot; resets = k }))
+change r hot k h (idle s c t) f u = absurd (true≢false (sym (not-false _ f) ∙ s))
+change r hot k h (busy s c w t) f u =
     record {
       headed = h;
       state =
@@ -303,27 +305,8 @@ heat r h (busy s c w t) f m =
             event = w .event;
             size = w .size;
             terms = record { count = w .terms .count; used = w .terms .used; unused = w .terms .unused };
-            resets = w .resets;
-            hot = not-false _ m;
-          })
-          t;
-    }
-
--- 40: the region has resets
-reset : (r : Reading) → r .headed ≡ true → State r → not (r .started) ≡ false → (k : ℕ) → k < 2 ^ r .chart .clocks → Inv (withResets r k)
-reset r h (idle s c t) f k l = absurd (true≢false (sym (not-false _ f) ∙ s))
-reset r h (busy s c w t) f k l =
-    record {
-      headed = h;
-      state =
-          busy s c
-          (record {
-            room = w .room;
-            event = w .event;
-            size = w .size;
-            terms = record { count = w .terms .count; used = w .terms .used; unused = w .terms .unused };
-            resets = l;
-            hot = w .hot;
+            resets = u w .1;
+            hot = u w .0;
           })
           t;
     }
@@ -425,11 +408,12 @@ module _ (r : Reading) (h : r .headed ≡ true) (s : State r) (at next : ℕ) (m
   kept Hot e =
       let p = clear (not (r .started) || r .region .hot) OutOfPlace at _ e in
       let u = clear (not (r .main)) HotInPrechart at _ (p .1) in
-      heat r h s (neither (not (r .started)) _ (p .0) .0) (u .0)
+      change r true (r .region .resets) h s (neither (not (r .started)) _ (p .0) .0) (λ w. (not-false _ (u .0), w .resets))
   kept (Resets k) e =
       let p = clear (not (r .started) || not (eqb (r .region .resets) 0)) OutOfPlace at _ e in
       let u = clear (outOfRange (r .chart) (Resets k)) OutOfRange at _ (p .1) in
-      reset r h s (neither (not (r .started)) _ (p .0) .0) k (within-true _ _ (not-false _ (neither (eqb k 0) _ (u .0) .1)))
+      change r (r .region .hot) k h s (neither (not (r .started)) _ (p .0) .0)
+      (λ w. (w .hot, within-true _ _ (not-false _ (neither (eqb k 0) _ (u .0) .1))))
   kept Main e =
       let p = clear (not (r .headed) || r .main) OutOfPlace at _ e in
       let q = first-clear (closingFault r) _ (p .1) in
