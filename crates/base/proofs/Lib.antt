@@ -1,5 +1,5 @@
 pub mod Bools
 pub mod Facts
 pub mod Table
-pub mod Joins
+pub mod Filled
 pub mod Loops

@@ -1,11 +1,12 @@
 -- What a loop over the numbers below a bound keeps. Assumes nothing.
 use mathlib.Core.Path.{_≡_, refl}
 use mathlib.Core.Logic.{inl, inr}
-use mathlib.Core.Bool.{Bool, true, false, or-true}
+use mathlib.Core.Bool.{Bool, true, false, or-true, _&&_}
 use mathlib.Core.Option.{none, some}
 use Prim.Native.Nat.{ℕ, zero, suc, _+_, _≤_, _<_}
 use native.Mathlib.Decide.{decLt, ℕ-discrete}
 use native.Mathlib.Nat.{not-suc-le-zero}
+use native.Mathlib.Numerals.{add-one}
 use native.Mathlib.Omega.{arith}
 use Rattle.base.specs.Lists.{allBelow, someBelow, first}
 use Rattle.base.proofs.Bools.{split, clash}
@@ -50,3 +51,16 @@ one-passes t k (suc n) l h = elim (ℕ-discrete k n) [
 pub none-some : {t : ℕ → Bool} (n : ℕ) → SoFar t false n → someBelow n t ≡ false
 none-some zero S = refl
 none-some (suc n) S = rw (none-some n (record { is = λ j l. S .is j (omega arith) }), S .is n (omega arith))
+
+-- b: every number below k passes; such a loop runs to its end
+pub record AllSoFar (t : ℕ → Bool) (k : ℕ) (b : Bool) : Type 0 where
+  pub is : b ≡ allBelow k t
+
+pub all-start : {t : ℕ → Bool} → AllSoFar t 0 true
+all-start = record { is = refl }
+
+pub all-next : {t : ℕ → Bool} {k : ℕ} {b : Bool} {x : Bool} → AllSoFar t k b → x ≡ t k → AllSoFar t (k + 1) (b && x)
+all-next S h = record { is = rw (add-one, h, S .is) }
+
+pub all-below : {t : ℕ → Bool} {k : ℕ} {b : Bool} (n : ℕ) → AllSoFar t k b → k ≡ n → b ≡ allBelow n t
+all-below n S q = rw (← q) (S .is)

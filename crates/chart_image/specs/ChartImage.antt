@@ -1,11 +1,12 @@
 -- V15: a chart value as 1,348 bytes, four numbers and then the 32 places for regions.
-use Prim.Native.Nat.{ℕ, zero, suc, _+_, _*_}
+use Prim.Native.Nat.{ℕ, _+_, _*_}
 use mathlib.Core.Bool.{Bool, cond, _&&_, _||_}
-use mathlib.Core.List.{List, [], _∷_, _++_}
+use mathlib.Core.List.{List, [], _∷_}
 use lib.Dec.{eqb, leb}
 use lib.ListN.{length, getD}
 use Rattle.wire.specs.Bytes.{word16, word32}
 use Rattle.base.specs.Lists.{allBelow}
+use Rattle.base.specs.Table.{table}
 use Rattle.model.specs.declared.Event.{Event}
 use Rattle.model.specs.declared.Event.the-variants.{Plain, Message}
 use Rattle.model.specs.declared.Left.{Left}
@@ -52,7 +53,7 @@ regionIn s at =
     record {
       event = eventIn s at;
       terms = termIn s (at + 10) ∷ termIn s (at + 18) ∷ termIn s (at + 26) ∷ termIn s (at + 34) ∷ [];
-      «term_count» = getD s (at + 7) 0;
+      count = getD s (at + 7) 0;
       hot = eqb (getD s (at + 5) 0) 1;
       resets = getD s (at + 6) 0;
     }
@@ -66,10 +67,9 @@ abbrev pub regionFits : List ℕ → ℕ → Bool
 regionFits s at =
     headFits s at && (termFits s (at + 10) && (termFits s (at + 18) && (termFits s (at + 26) && termFits s (at + 34))))
 
--- the first n regions
-unfoldable pub regionsIn : ℕ → List ℕ → List Region
-regionsIn zero s = []
-regionsIn (suc n) s = regionsIn n s ++ (regionIn s (regionPlace n) ∷ [])
+-- the 32 regions
+unfoldable pub regionsIn : List ℕ → List Region
+regionsIn s = table mostRegions (λ i. regionIn s (regionPlace i))
 
 -- the bytes are an image: of this length, and each byte has a meaning
 unfoldable pub isImage : List ℕ → Bool
@@ -84,6 +84,6 @@ chartValue s =
       clocks = getD s 1 0;
       prechart = getD s 2 0;
       count = getD s 3 0;
-      regions = regionsIn mostRegions s;
+      regions = regionsIn s;
     })
     zeroChart

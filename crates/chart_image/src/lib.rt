@@ -8,7 +8,6 @@ use model::Region;
 use model::Term;
 ghost use mathlib.Core.Path.{_≡_};
 ghost use Prim.Native.Nat.{_+_, _≤_};
-ghost use Rattle.model.specs.Chart.{mostRegions};
 ghost use Rattle.chart_image.specs.ChartImage.{chartSize, leftOf, termIn, termFits, eventIn, regionIn, headFits};
 ghost use Rattle.chart_image.specs.ChartImage.{regionFits, regionsIn, isImage, chartValue};
 
@@ -93,7 +92,7 @@ fn region_at(s: &[u8], at: usize) -> Region
     Region {
         event,
         terms,
-        term_count: wire::byte_at(s, at + 7),
+        count: wire::byte_at(s, at + 7),
         hot: wire::byte_at(s, at + 5) == 1,
         resets: wire::byte_at(s, at + 6),
     }
@@ -140,7 +139,7 @@ fn is_image(s: &[u8]) -> bool
 
 // The 32 regions.
 fn regions_at(s: &[u8]) -> [Region; MOST_REGIONS]
-    ensures { λ r. ⌜ r ≡ regionsIn mostRegions (now (s .entry)) ⌝ }
+    ensures { λ r. ⌜ r ≡ regionsIn (now (s .entry)) ⌝ }
 {
     let zero = model::zero_region();
     let mut regions = [zero; MOST_REGIONS];

@@ -31,7 +31,7 @@ fn start() -> Reading
         headed: false,
         main: false,
         started: false,
-        region_at: 0,
+        start: 0,
         touched: 0,
         region,
         chart,

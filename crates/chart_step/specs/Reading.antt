@@ -70,8 +70,8 @@ outOfPlace r End = not (r .headed)
 -- R4: 6 and 7, what the region that is closed lacks, at the offset of its own command
 abbrev pub closingFault : Reading → Fault
 closingFault r =
-    orElse (when (r .started && isBare (r .region)) BareRegion (r .«region_at»))
-    (when (r .started && (r .region .hot && eqb (r .region .«term_count») 0)) HotWithoutTerm (r .«region_at»))
+    orElse (when (r .started && isBare (r .region)) BareRegion (r .start))
+    (when (r .started && (r .region .hot && eqb (r .region .count) 0)) HotWithoutTerm (r .start))
 
 -- R6: the commands that close a region
 abbrev pub closes : Reading → Command → Fault
@@ -102,8 +102,8 @@ abbrev pub noRoom : Reading → Command → Bool
 noRoom r (Heading l k) = false
 noRoom r (Message s d l) = leb mostRegions (closed r .count)
 noRoom r (Plain l) = leb mostRegions (closed r .count)
-noRoom r (ClockTerm k e n) = leb mostTerms (r .region .«term_count»)
-noRoom r (DifferenceTerm a b e n) = leb mostTerms (r .region .«term_count»)
+noRoom r (ClockTerm k e n) = leb mostTerms (r .region .count)
+noRoom r (DifferenceTerm a b e n) = leb mostTerms (r .region .count)
 noRoom r Hot = false
 noRoom r (Resets k) = false
 noRoom r Main = false
@@ -177,7 +177,7 @@ withHeading r l k =
       headed = true;
       main = r .main;
       started = r .started;
-      «region_at» = r .«region_at»;
+      start = r .start;
       touched = r .touched;
       region = r .region;
       chart =
@@ -197,9 +197,9 @@ begunWith r at e =
       headed = r .headed;
       main = r .main;
       started = true;
-      «region_at» = at;
+      start = at;
       touched = union (r .touched) (touched e);
-      region = record { event = e; terms = replicate mostTerms zeroTerm; «term_count» = 0; hot = false; resets = 0 };
+      region = record { event = e; terms = replicate mostTerms zeroTerm; count = 0; hot = false; resets = 0 };
       chart = closed r;
     }
 
@@ -209,7 +209,7 @@ withRegion r g =
       headed = r .headed;
       main = r .main;
       started = r .started;
-      «region_at» = r .«region_at»;
+      start = r .start;
       touched = r .touched;
       region = g;
       chart = r .chart;
@@ -221,12 +221,12 @@ relationOf b = cond (eqb b 0) Less (cond (eqb b 1) AtMost (cond (eqb b 2) Equal 
 
 abbrev pub withTerm : Reading → Left → ℕ → ℕ → Reading
 withTerm r left e n =
-    cond (ltb (r .region .«term_count») mostTerms)
+    cond (ltb (r .region .count) mostTerms)
     (withRegion r
     (record {
       event = r .region .event;
-      terms = set (r .region .terms) (r .region .«term_count») (record { left = left; relation = relationOf e; n = n });
-      «term_count» = r .region .«term_count» + 1;
+      terms = set (r .region .terms) (r .region .count) (record { left = left; relation = relationOf e; n = n });
+      count = r .region .count + 1;
       hot = r .region .hot;
       resets = r .region .resets;
     }))
@@ -238,7 +238,7 @@ withHot r =
     (record {
       event = r .region .event;
       terms = r .region .terms;
-      «term_count» = r .region .«term_count»;
+      count = r .region .count;
       hot = true;
       resets = r .region .resets;
     })
@@ -249,7 +249,7 @@ withResets r k =
     (record {
       event = r .region .event;
       terms = r .region .terms;
-      «term_count» = r .region .«term_count»;
+      count = r .region .count;
       hot = r .region .hot;
       resets = k;
     })
@@ -261,7 +261,7 @@ withChart r main c =
       headed = r .headed;
       main = main;
       started = false;
-      «region_at» = r .«region_at»;
+      start = r .start;
       touched = r .touched;
       region = r .region;
       chart = c;

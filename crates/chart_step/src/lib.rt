@@ -15,7 +15,7 @@ use model::Term;
 ghost use mathlib.Core.Path.{_≡_};
 ghost use mathlib.Core.Bool.{false, true, not};
 ghost use lib.Dec.{leb};
-ghost use Rattle.model.specs.Chart.{mostTerms};
+ghost use Rattle.model.specs.Chart.{mostRegions, mostTerms};
 ghost use Rattle.chart_step.specs.Refusal.{refusalNumber};
 ghost use Rattle.chart_step.specs.Reading.{when, orElse, closed, closingFault, firstFault, withHeading};
 ghost use Rattle.chart_step.specs.Reading.{begunWith, relationOf, withTerm, withHot, withResets, withMain};
@@ -45,7 +45,7 @@ pub struct Reading {
     pub headed: bool,
     pub main: bool,
     pub started: bool,
-    pub region_at: usize,
+    pub start: usize,
     pub touched: u16,
     pub region: Region,
     pub chart: Chart,
@@ -169,13 +169,21 @@ fn decide(f: Fault, r: Reading, s: Step) -> Step
     }
 }
 
-fn going(r: Reading, next: usize) -> Step
-    ensures { λ o. ⌜ o ≡ record { outcome = Outcome.Going next; reading = r } ⌝ }
+// The first fault that the checks found, else the reading that the command leaves.
+fn answer(r: Reading, closing: Fault, k: Checks, at: usize, next: usize, left: Reading) -> Step
+    ensures { λ o. ⌜ o
+        ≡ decided (firstFault (k .misplaced) closing (k .beyond) (k .full) (k .early) (k .alone) (k .empty)
+        (k .trailing) at next) r (record { outcome = Outcome.Going next; reading = left }) ⌝ }
 {
-    Step {
-        outcome: Outcome::Going(next),
-        reading: r,
-    }
+    let f = first_fault(closing, k, at, next);
+    decide(
+        f,
+        r,
+        Step {
+            outcome: Outcome::Going(next),
+            reading: left,
+        },
+    )
 }
 
 // What is wrong with the region last started, where one is: 6 and 7.
@@ -183,9 +191,9 @@ fn closing_fault(r: Reading) -> Fault
     ensures { λ o. ⌜ o ≡ closingFault r ⌝ }
 {
     let g = r.region;
-    let offset = r.region_at;
+    let offset = r.start;
     let bare = when(r.started & model::is_bare(g), Refusal::BareRegion, offset);
-    let hot = g.hot & (g.term_count == 0);
+    let hot = g.hot & (g.count == 0);
     or_else(bare, when(r.started & hot, Refusal::HotWithoutTerm, offset))
 }
 
@@ -222,8 +230,14 @@ fn heading_step(r: Reading, at: usize, next: usize, lines: u8, clocks: u8) -> St
     let mut k = no_fault();
     k.misplaced = r.headed;
     k.beyond = !((LEAST_LINES <= lines) & ((lines <= MOST_LINES) & (clocks <= MOST_CLOCKS)));
-    let f = first_fault(Fault::Nothing, k, at, next);
-    decide(f, r, going(with_heading(r, lines, clocks), next))
+    answer(
+        r,
+        Fault::Nothing,
+        k,
+        at,
+        next,
+        with_heading(r, lines, clocks),
+    )
 }
 
 // 20, 21: the region last started is closed, and another starts.
@@ -235,7 +249,7 @@ fn begun(r: Reading, at: usize, e: Event) -> Reading
     let region = Region {
         event: e,
         terms: [zero; MOST_TERMS],
-        term_count: 0,
+        count: 0,
         hot: false,
         resets: 0,
     };
@@ -243,43 +257,47 @@ fn begun(r: Reading, at: usize, e: Event) -> Reading
         headed: r.headed,
         main: r.main,
         started: true,
-        region_at: at,
+        start: at,
         touched: r.touched | model::touched(e),
         region,
         chart,
     }
 }
 
+fn region_step(r: Reading, at: usize, next: usize, e: Event, beyond: bool, alone: bool) -> Step
+    ensures { λ o. ⌜ o
+        ≡ decided (firstFault (not (r .headed)) (closingFault r) beyond (leb mostRegions (closed r .count)) false alone
+        false false at next) r (record { outcome = Outcome.Going next; reading = begunWith r at e }) ⌝ }
+{
+    let chart = close(r);
+    let mut k = no_fault();
+    k.misplaced = !r.headed;
+    k.beyond = beyond;
+    k.full = MOST_REGIONS <= chart.count as usize;
+    k.alone = alone;
+    answer(r, closing_fault(r), k, at, next, begun(r, at, e))
+}
+
 fn message_step(r: Reading, at: usize, next: usize, source: u8, destination: u8, label: u16) -> Step
     ensures { λ o. ⌜ o ≡ stepOf r at next false (Command.Message source destination label) ⌝ }
 {
-    let chart = close(r);
     let lines = r.chart.lines;
-    let mut k = no_fault();
-    k.misplaced = !r.headed;
-    k.beyond = (lines <= source) | ((lines <= destination) | (source == destination));
-    k.full = MOST_REGIONS <= chart.count as usize;
-    let f = first_fault(closing_fault(r), k, at, next);
+    let beyond = (lines <= source) | ((lines <= destination) | (source == destination));
     let m = Message {
         source,
         destination,
         label,
     };
-    decide(f, r, going(begun(r, at, Event::Message(m)), next))
+    region_step(r, at, next, Event::Message(m), beyond, false)
 }
 
 fn plain_step(r: Reading, at: usize, next: usize, lines: u16) -> Step
     ensures { λ o. ⌜ o ≡ stepOf r at next false (Command.Plain lines) ⌝ }
 {
-    let chart = close(r);
     let c = r.chart;
-    let mut k = no_fault();
-    k.misplaced = !r.headed;
-    k.beyond = (lines == 0) | !bitset::within(c.lines as u32, lines as u32);
-    k.full = MOST_REGIONS <= chart.count as usize;
-    k.alone = (!r.main | (c.prechart == 0)) & ((lines & r.touched) == 0);
-    let f = first_fault(closing_fault(r), k, at, next);
-    decide(f, r, going(begun(r, at, Event::Plain(lines)), next))
+    let beyond = (lines == 0) | !bitset::within(c.lines as u32, lines as u32);
+    let alone = (!r.main | (c.prechart == 0)) & ((lines & r.touched) == 0);
+    region_step(r, at, next, Event::Plain(lines), beyond, alone)
 }
 
 // A relation, by its code from 0 to 4.
@@ -301,7 +319,7 @@ fn with_term(r: Reading, left: Left, relation: u8, n: u32) -> Reading
 {
     let mut g = r.region;
     let mut out = r;
-    let i = g.term_count as usize;
+    let i = g.count as usize;
     let t = Term {
         left,
         relation: relation_of(relation),
@@ -309,34 +327,44 @@ fn with_term(r: Reading, left: Left, relation: u8, n: u32) -> Reading
     };
     if i < MOST_TERMS {
         g.terms[i] = t;
-        g.term_count = g.term_count + 1;
+        g.count = g.count + 1;
         out.region = g;
     }
     out
 }
 
-fn term_fault(r: Reading, beyond: bool, at: usize, next: usize) -> Fault
+fn term_step(
+    r: Reading,
+    at: usize,
+    next: usize,
+    left: Left,
+    relation: u8,
+    n: u32,
+    beyond: bool,
+) -> Step
     ensures { λ o. ⌜ o
-        ≡ firstFault (not (r .started)) Fault.Nothing beyond (leb mostTerms (r .region .«term_count»)) false false false
-        false at next ⌝ }
+        ≡ decided (firstFault (not (r .started)) Fault.Nothing beyond (leb mostTerms (r .region .count)) false false
+        false false at next) r (record { outcome = Outcome.Going next; reading = withTerm r left relation n }) ⌝ }
 {
     let mut k = no_fault();
     k.misplaced = !r.started;
     k.beyond = beyond;
-    k.full = MOST_TERMS <= r.region.term_count as usize;
-    first_fault(Fault::Nothing, k, at, next)
+    k.full = MOST_TERMS <= r.region.count as usize;
+    answer(
+        r,
+        Fault::Nothing,
+        k,
+        at,
+        next,
+        with_term(r, left, relation, n),
+    )
 }
 
 fn clock_term_step(r: Reading, at: usize, next: usize, clock: u8, relation: u8, n: u32) -> Step
     ensures { λ o. ⌜ o ≡ stepOf r at next false (Command.ClockTerm clock relation n) ⌝ }
 {
     let beyond = (r.chart.clocks <= clock) | (RELATIONS <= relation);
-    let f = term_fault(r, beyond, at, next);
-    decide(
-        f,
-        r,
-        going(with_term(r, Left::Clock(clock), relation, n), next),
-    )
+    term_step(r, at, next, Left::Clock(clock), relation, n, beyond)
 }
 
 fn difference_term_step(
@@ -352,12 +380,7 @@ fn difference_term_step(
 {
     let clocks = r.chart.clocks;
     let beyond = (clocks <= a) | ((clocks <= b) | ((a == b) | (RELATIONS <= relation)));
-    let f = term_fault(r, beyond, at, next);
-    decide(
-        f,
-        r,
-        going(with_term(r, Left::Difference(a, b), relation, n), next),
-    )
+    term_step(r, at, next, Left::Difference(a, b), relation, n, beyond)
 }
 
 // 32: the condition is hot.
@@ -375,8 +398,7 @@ fn hot_step(r: Reading, at: usize, next: usize) -> Step
     let mut k = no_fault();
     k.misplaced = !r.started | r.region.hot;
     k.early = !r.main;
-    let f = first_fault(Fault::Nothing, k, at, next);
-    decide(f, r, going(with_hot(r), next))
+    answer(r, Fault::Nothing, k, at, next, with_hot(r))
 }
 
 // 40: resets.
@@ -394,8 +416,7 @@ fn resets_step(r: Reading, at: usize, next: usize, clocks: u8) -> Step
     let mut k = no_fault();
     k.misplaced = !r.started | (r.region.resets != 0);
     k.beyond = (clocks == 0) | !bitset::within(r.chart.clocks as u32, clocks as u32);
-    let f = first_fault(Fault::Nothing, k, at, next);
-    decide(f, r, going(with_resets(r, clocks), next))
+    answer(r, Fault::Nothing, k, at, next, with_resets(r, clocks))
 }
 
 // The region last started is closed, and none is started.
@@ -423,8 +444,7 @@ fn main_chart_step(r: Reading, at: usize, next: usize) -> Step
 {
     let mut k = no_fault();
     k.misplaced = !r.headed | r.main;
-    let f = first_fault(closing_fault(r), k, at, next);
-    decide(f, r, going(with_main(r), next))
+    answer(r, closing_fault(r), k, at, next, with_main(r))
 }
 
 // 7F: the end.

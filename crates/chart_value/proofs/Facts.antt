@@ -18,10 +18,10 @@ use Rattle.model.specs.declared.Left.the-variants.{Clock, Difference}
 use Rattle.model.specs.declared.Relation.{Relation}
 use Rattle.model.specs.declared.Relation.the-variants.{Less, AtMost, Equal, AtLeast, More}
 use Rattle.base.proofs.Bools.{both, and-both}
+use Rattle.base.proofs.Facts.{all-at, all-of}
 use Rattle.bitset.proofs.Laws.{within-true, lt-within}
 use Rattle.model.specs.Chart.{zeroTerm, zeroRegion, regionAt, termAt, isBare}
-use Rattle.chart_value.specs.WellFormed.{wellFormed, regionPlaced, placedAt, placeFits, regionFits, eventFits, termsFit, termPlaced, leftFits, isZeroTerm, isZeroRegion, isZeroLeft, isLess, isZeroEvent, allBelow}
-use Rattle.chart_value.proofs.All.{all-at, all-of}
+use Rattle.chart_value.specs.WellFormed.{wellFormed, regionPlaced, placedAt, placeFits, regionFits, eventFits, termsFit, termPlaced, leftFits, isZeroTerm, isZeroRegion, isZeroLeft, isLess, isZeroEvent}
 
 pub record Shape (c : Chart) : Type 0 where
   pub regions : length (c .regions) ≡ 32
@@ -29,16 +29,16 @@ pub record Shape (c : Chart) : Type 0 where
 
 -- the terms of a region that is used, or of one that is being read
 pub record Terms (clocks : ℕ) (g : Region) : Type 0 where
-  pub count : g .«term_count» ≤ 4
-  pub used : (j : ℕ) → j < g .«term_count» → leftFits clocks (termAt g j .left) ≡ true
-  pub unused : (j : ℕ) → g .«term_count» ≤ j → j < 4 → termAt g j ≡ zeroTerm
+  pub count : g .count ≤ 4
+  pub used : (j : ℕ) → j < g .count → leftFits clocks (termAt g j .left) ≡ true
+  pub unused : (j : ℕ) → g .count ≤ j → j < 4 → termAt g j ≡ zeroTerm
 
 pub record Fits (lines clocks : ℕ) (main opening : Bool) (before : ℕ) (g : Region) : Type 0 where
   pub event : eventFits lines opening before (g .event) ≡ true
   pub terms : Terms clocks g
   pub resets : g .resets < 2 ^ clocks
   pub bare : isBare g ≡ false
-  pub hot : (not (g .hot) || (main && not (eqb (g .«term_count») 0))) ≡ true
+  pub hot : (not (g .hot) || (main && not (eqb (g .count) 0))) ≡ true
 
 pub record WellFormed (c : Chart) : Type 0 where
   pub low : 2 ≤ c .lines
@@ -54,9 +54,9 @@ abbrev pub withRegions : Chart → ℕ → List Region → Chart
 withRegions c n gs = record { lines = c .lines; clocks = c .clocks; prechart = c .prechart; count = n; regions = gs }
 
 -- records are equal by their fields
-pub same-region : (g h : Region) → g .event ≡ h .event → g .terms ≡ h .terms → g .«term_count» ≡ h .«term_count» → g .hot ≡ h .hot
+pub same-region : (g h : Region) → g .event ≡ h .event → g .terms ≡ h .terms → g .count ≡ h .count → g .hot ≡ h .hot
     → g .resets ≡ h .resets → g ≡ h
-same-region g h a b k d e = λ i. record { event = a i; terms = b i; «term_count» = k i; hot = d i; resets = e i }
+same-region g h a b k d e = λ i. record { event = a i; terms = b i; count = k i; hot = d i; resets = e i }
 
 pub same-chart : (c d : Chart) → c .lines ≡ d .lines → c .clocks ≡ d .clocks → c .prechart ≡ d .prechart → c .count ≡ d .count
     → c .regions ≡ d .regions → c ≡ d
@@ -88,20 +88,20 @@ terms-of : (clocks : ℕ) (g : Region) → termsFit clocks g ≡ true → Terms 
 unfolding termsFit termPlaced
 terms-of clocks g e =
     let a = both _ _ e in
-    let p : (j : ℕ) → j < 4 → cond (ltb j (g .«term_count»)) (leftFits clocks (termAt g j .left)) (isZeroTerm (termAt g j)) ≡ true =
-    all-at 4 (λ j. termPlaced clocks (g .«term_count») j (termAt g j)) (a .1) in
-    let n : g .«term_count» ≤ 4 = leb-true _ _ (a .0) in
+    let p : (j : ℕ) → j < 4 → cond (ltb j (g .count)) (leftFits clocks (termAt g j .left)) (isZeroTerm (termAt g j)) ≡ true =
+    all-at 4 (λ j. termPlaced clocks (g .count) j (termAt g j)) (a .1) in
+    let n : g .count ≤ 4 = leb-true _ _ (a .0) in
     record {
       count = n;
-      used = λ j h. rw (lt-ltb j (g .«term_count») h) at (p j (omega arith));
-      unused = λ j h k. zero-term (termAt g j) (rw (le-ltb j (g .«term_count») h) at (p j k));
+      used = λ j h. rw (lt-ltb j (g .count) h) at (p j (omega arith));
+      unused = λ j h k. zero-term (termAt g j) (rw (le-ltb j (g .count) h) at (p j k));
     }
 
 pub of-terms : (clocks : ℕ) (g : Region) → Terms clocks g → termsFit clocks g ≡ true
 unfolding termsFit termPlaced isZeroTerm
-of-terms clocks g t = and-both (le-leb _ _ (t .count)) (all-of 4 (λ j. termPlaced clocks (g .«term_count») j (termAt g j)) (λ j h. by j h (ltb j (g .«term_count»)) refl))
+of-terms clocks g t = and-both (le-leb _ _ (t .count)) (all-of 4 (λ j. termPlaced clocks (g .count) j (termAt g j)) (λ j h. by j h (ltb j (g .count)) refl))
   where
-    by : (j : ℕ) → j < 4 → (b : Bool) → ltb j (g .«term_count») ≡ b → cond b (leftFits clocks (termAt g j .left)) (isZeroTerm (termAt g j)) ≡ true
+    by : (j : ℕ) → j < 4 → (b : Bool) → ltb j (g .count) ≡ b → cond b (leftFits clocks (termAt g j .left)) (isZeroTerm (termAt g j)) ≡ true
     by j h true e = t .used j (ltb-true _ _ e)
     by j h false e = rw (t .unused j (ltb-false _ _ e) h) refl
 
@@ -130,14 +130,14 @@ zero-region g l e =
     let d = both _ _ (b .1) in
     let f = both _ _ (d .1) in
     let t = terms-of 0 g (f .1) in
-    let n : g .«term_count» ≡ 0 = eqb-true _ _ (b .0) in
+    let n : g .count ≡ 0 = eqb-true _ _ (b .0) in
     let ts : g .terms ≡ replicate 4 zeroTerm =
     ext-getD zeroTerm (g .terms) (replicate 4 zeroTerm) l
     (λ j h. t .unused j (omega arith) (omega arith) ∙ sym (getD-replicate 4 j zeroTerm zeroTerm (omega arith))) in
     same-region g zeroRegion (zero-event (g .event) (a .0)) ts n (not-true (g .hot) (d .0)) (eqb-true (g .resets) 0 (f .0))
 
 pub zero-is-zero : isZeroRegion zeroRegion ≡ true
-unfolding isZeroRegion isZeroTerm termsFit termPlaced allBelow
+unfolding isZeroRegion isZeroTerm termsFit termPlaced
 zero-is-zero = refl
 
 pub wf-of : (c : Chart) → wellFormed c ≡ true → WellFormed c

@@ -119,9 +119,9 @@ never-fire =
       clock-term = λ r at m k e n more f.
           let p = clear (not (r .started)) OutOfPlace at _ f in
           let u = clear (outOfRange (r .chart) (ClockTerm k e n)) OutOfRange at _ (p .1) in
-          leb-false _ _ (clear (leb mostTerms (r .region .«term_count»)) NoRoom at _ (u .1) .0);
+          leb-false _ _ (clear (leb mostTerms (r .region .count)) NoRoom at _ (u .1) .0);
       difference-term = λ r at m a b e n more f.
           let p = clear (not (r .started)) OutOfPlace at _ f in
           let u = clear (outOfRange (r .chart) (DifferenceTerm a b e n)) OutOfRange at _ (p .1) in
-          leb-false _ _ (clear (leb mostTerms (r .region .«term_count»)) NoRoom at _ (u .1) .0);
+          leb-false _ _ (clear (leb mostTerms (r .region .count)) NoRoom at _ (u .1) .0);
     }

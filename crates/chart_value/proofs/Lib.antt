@@ -1,4 +1,3 @@
-pub mod All
 pub mod Facts
 pub mod Owned
 pub mod Small

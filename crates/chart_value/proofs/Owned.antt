@@ -1,16 +1,14 @@
 -- What owning a chart says: the lengths of its arrays. Assumes nothing.
 use mathlib.Core.Path.{_≡_, sym, _∙_}
-use mathlib.Core.List.{List, [], _∷_, map}
-use Prim.Native.Nat.{ℕ, zero, suc, _<_}
+use mathlib.Core.List.{List, [], _∷_}
+use Prim.Native.Nat.{ℕ, _<_}
 use native.Mathlib.Omega.{arith}
-use lib.ListN.{length, getD, length-map}
+use lib.ListN.{length, length-map}
 use mir.Val.{Val}
-use base.Fml.{Fml}
-use denote.Shadow.{shadow}
 use denote.Laws.{Is}
-use denote.Array.{each}
 use denote.Struct.Declared.{row}
 use denote.Enum.Declared as enum
+use Rattle.model.proofs.Owned.{each-at}
 use Rattle.model.proofs.Chart as chart
 use Rattle.model.proofs.Region as region
 use Rattle.model.proofs.Event as event
@@ -22,14 +20,6 @@ use Rattle.model.specs.declared.Chart.{Chart}
 use Rattle.model.specs.declared.Region.{Region}
 use Rattle.model.specs.Chart.{zeroTerm, absentRegion, regionAt, termAt}
 use Rattle.chart_value.proofs.Facts.{Shape}
-
-each-at : (d e : Type 0) (to : e → d) (f : d → List Val → Fml) (xs : List e) (us : List Val) (i : ℕ) (z : e) → shadow (each d f (map to xs) us)
-    → i < length xs → (u : Val) × shadow (f (to (getD xs i z)) (u ∷ []))
-each-at d e to f [] [] i z s h = absurd (omega arith)
-each-at d e to f [] (u ∷ us) i z s h = absurd s
-each-at d e to f (x ∷ xs) [] i z s h = absurd s
-each-at d e to f (x ∷ xs) (u ∷ us) zero z s h = (u, s .0)
-each-at d e to f (x ∷ xs) (u ∷ us) (suc i) z s h = each-at d e to f xs us i z (s .1) (omega arith)
 
 -- the ranges of Rust's types that no other rule gives: labels in two bytes, the numbers of terms in four
 abbrev pub labelFits : Event → Type 0

@@ -94,12 +94,12 @@ relation-small More = refl
 -- the region read as far as its first j terms
 abbrev partly : Region → ℕ → Bool → ℕ → Region
 partly g j hot resets =
-    record { event = g .event; terms = firstOf zeroTerm zeroTerm 4 (g .terms) j; «term_count» = j; hot = hot; resets = resets }
+    record { event = g .event; terms = firstOf zeroTerm zeroTerm 4 (g .terms) j; count = j; hot = hot; resets = resets }
 
 -- the state after r in which the region g is the last started
 abbrev busy : Reading → ℕ → ℕ → Region → Reading
 busy r at l g =
-    record { headed = r .headed; main = r .main; started = true; «region_at» = at; touched = union (r .touched) l; region = g; chart = closed r }
+    record { headed = r .headed; main = r .main; started = true; start = at; touched = union (r .touched) l; region = g; chart = closed r }
 
 -- the parts of one region
 module _ (s : List ℕ) (x : Said) (clocks : ℕ) (r : Reading) (start l : ℕ) (same : closed r .clocks ≡ clocks) (g : Region) where
@@ -120,7 +120,7 @@ module _ (s : List ℕ) (x : Said) (clocks : ℕ) (r : Reading) (start l : ℕ) 
           record {
             event = g .event;
             terms = set (firstOf zeroTerm zeroTerm 4 (g .terms) j) j (record { left = left; relation = relation; n = t .n });
-            «term_count» = k;
+            count = k;
             hot = false;
             resets = 0;
           }
@@ -146,12 +146,12 @@ module _ (s : List ℕ) (x : Said) (clocks : ℕ) (r : Reading) (start l : ℕ) 
       (λ i. firstFault false Nothing (range i) (lt-leb 4 j h i) false false false false at at) _ (added j h (Difference a b) e)
 
   -- n terms from term j on
-  terms-read : Terms clocks g → (rest : List ℕ) (n j : ℕ) → j + n ≡ g .«term_count» → (at : ℕ) → drop at s ≡ termsBytes g n j rest
-      → ((at′ : ℕ) → drop at′ s ≡ rest → Gives s x at′ (busy r start l (partly g (g .«term_count») false 0)))
+  terms-read : Terms clocks g → (rest : List ℕ) (n j : ℕ) → j + n ≡ g .count → (at : ℕ) → drop at s ≡ termsBytes g n j rest
+      → ((at′ : ℕ) → drop at′ s ≡ rest → Gives s x at′ (busy r start l (partly g (g .count) false 0)))
       → Gives s x at (busy r start l (partly g j false 0))
   unfolding termsBytes
   terms-read t rest zero j e at d next =
-      let z : g .«term_count» ≡ j = omega arith in
+      let z : g .count ≡ j = omega arith in
       subst (λ (k : ℕ). Gives s x at (busy r start l (partly g k false 0))) z (next at d)
   terms-read t rest (suc n) j e at d next =
       let m = t .count in
@@ -179,11 +179,11 @@ module _ (s : List ℕ) (x : Said) (clocks : ℕ) (r : Reading) (start l : ℕ) 
 
 -- a region that fits, with all its terms read, is the region itself
 whole : (lines clocks : ℕ) (main opening : Bool) (before : ℕ) (g : Region) → Fits lines clocks main opening before g → length (g .terms) ≡ 4
-    → partly g (g .«term_count») (g .hot) (g .resets) ≡ g
+    → partly g (g .count) (g .hot) (g .resets) ≡ g
 whole lines clocks main opening before g f l =
     let t = f .terms in
-    same-region (partly g (g .«term_count») (g .hot) (g .resets)) g refl
-    (first-all zeroTerm zeroTerm 4 (g .terms) (g .«term_count») (t .count) l (λ j h k. t .unused j h k)) refl refl refl
+    same-region (partly g (g .count) (g .hot) (g .resets)) g refl
+    (first-all zeroTerm zeroTerm 4 (g .terms) (g .count) (t .count) l (λ j h k. t .unused j h k)) refl refl refl
 
 -- from the tests of the value to the reader's: not 9, not 7
 not-alone : (main : Bool) (p : ℕ) (z : Bool) → (not (not main || eqb p 0) || not z) ≡ true → ((not main || eqb (cond main p 0) 0) && z) ≡ false
@@ -260,7 +260,7 @@ module _ (c : Chart) where
           lines = ap (λ (c : Chart). c .lines) (b .chart);
           prechart = ap (λ (c : Chart). c .prechart) (b .chart);
           touched = ap (λ (t : ℕ). union t (touched (regionAt c i .event))) (b .touched);
-          fine = λ j. orElse (when (f .bare j) BareRegion at) (when (cold (regionAt c i .hot) main (eqb (regionAt c i .«term_count») 0) (f .hot) j) HotWithoutTerm at);
+          fine = λ j. orElse (when (f .bare j) BareRegion at) (when (cold (regionAt c i .hot) main (eqb (regionAt c i .count) 0) (f .hot) j) HotWithoutTerm at);
           chart =
               (λ j. put (b .chart j) (ltb (b .chart j .count) 32))
               ∙ ap (λ (t : Bool). put (soFar main i) t) (lt-ltb i 32 small)
@@ -276,10 +276,10 @@ module _ (c : Chart) where
     unfolding regionBytes firstOf
     region-read l rest at d next =
         start-read (g .event) (f .event) _ at d
-        (λ at₁ d₁. terms-read s x (c .clocks) r at (touched (g .event)) same g (f .terms) _ (g .«term_count») 0 (omega arith) at₁ d₁
-        (λ at₂ d₂. hot-read s x (c .clocks) r at (touched (g .event)) same g main (b .half) _ (g .«term_count») (g .hot) (f .hot) at₂ d₂
-        (λ at₃ d₃. resets-read s x (c .clocks) r at (touched (g .event)) same g rest (g .«term_count») (g .hot) (g .resets) (f .resets) (eqb (g .resets) 0) refl at₃ d₃
-        (λ at₄ d₄. next at₄ (busy r at (touched (g .event)) (partly g (g .«term_count») (g .hot) (g .resets))) after d₄))))
+        (λ at₁ d₁. terms-read s x (c .clocks) r at (touched (g .event)) same g (f .terms) _ (g .count) 0 (omega arith) at₁ d₁
+        (λ at₂ d₂. hot-read s x (c .clocks) r at (touched (g .event)) same g main (b .half) _ (g .count) (g .hot) (f .hot) at₂ d₂
+        (λ at₃ d₃. resets-read s x (c .clocks) r at (touched (g .event)) same g rest (g .count) (g .hot) (g .resets) (f .resets) (eqb (g .resets) 0) refl at₃ d₃
+        (λ at₄ d₄. next at₄ (busy r at (touched (g .event)) (partly g (g .count) (g .hot) (g .resets))) after d₄))))
       where
         g : Region
         g = regionAt c i
@@ -287,7 +287,7 @@ module _ (c : Chart) where
         same : closed r .clocks ≡ c .clocks
         same = ap (λ (c : Chart). c .clocks) (b .chart)
 
-        after : Before (busy r at (touched (g .event)) (partly g (g .«term_count») (g .hot) (g .resets))) main (suc i)
+        after : Before (busy r at (touched (g .event)) (partly g (g .count) (g .hot) (g .resets))) main (suc i)
         after =
             subst (λ (h : Region). Before (busy r at (touched (g .event)) h) main (suc i)) (sym (whole (c .lines) (c .clocks) main _ _ g f l)) (before-next at)
 

@@ -76,7 +76,7 @@ module _ (c : Chart) (w : WellFormed c) where
   cold-prechart i h =
       let k : i < c .count = omega (arith, w .main) in
       ap (λ (g : Region). g .hot) (inside i k)
-      ∙ cold (regionAt c i .hot) (leb (c .prechart) i) (not (eqb (regionAt c i .«term_count») 0)) (lt-leb (c .prechart) i h) (fits-at c w i k .hot)
+      ∙ cold (regionAt c i .hot) (leb (c .prechart) i) (not (eqb (regionAt c i .count) 0)) (lt-leb (c .prechart) i h) (fits-at c w i k .hot)
 
   own-clocks : (i k : ℕ) → So (contains (regionOf c i .resets) k) → k < c .clocks
   own-clocks i k e = by (decLt i (c .count))

@@ -75,12 +75,12 @@ event-small lines opening before (Message m) s h e k f =
     next messageByte _ (omega arith) (next (m .source) _ (omega arith) (next (m .destination) _ (omega arith) (two-small (m .label) s k f)))
 event-small lines opening before (Plain l) s h e k f = next plainByte _ (omega arith) (two-small l s k f)
 
-terms-small : (clocks : ℕ) (g : Region) → clocks ≤ 8 → Terms clocks g → Ranges g → (n j : ℕ) → j + n ≡ g .«term_count» → (s : List ℕ) → Small s
+terms-small : (clocks : ℕ) (g : Region) → clocks ≤ 8 → Terms clocks g → Ranges g → (n j : ℕ) → j + n ≡ g .count → (s : List ℕ) → Small s
     → Small (termsBytes g n j s)
 unfolding termsBytes
 terms-small clocks g h t r zero j e s f = f
 terms-small clocks g h t r (suc n) j e s f =
-    let m : g .«term_count» ≤ 4 = t .count in
+    let m : g .count ≤ 4 = t .count in
     left-small clocks (termAt g j .left) _ h (t .used j (omega arith))
     (next (relationByte (termAt g j .relation)) _ (relation-small (termAt g j .relation))
     (four-small (termAt g j .n) _ (r .numbers j (omega arith)) (terms-small clocks g h t r n (suc j) (omega arith) s f)))
@@ -101,7 +101,7 @@ module _ (c : Chart) (w : WellFormed c) (r : (i : ℕ) → i < 32 → Ranges (re
       let x = fits-of _ _ _ _ _ _ (w .used i h) in
       let y = r i (omega arith) in
       event-small (c .lines) _ _ (regionAt c i .event) _ (w .high) (x .event) (y .label)
-      (terms-small (c .clocks) (regionAt c i) (w .clocks) (x .terms) y (regionAt c i .«term_count») 0 (omega arith) _
+      (terms-small (c .clocks) (regionAt c i) (w .clocks) (x .terms) y (regionAt c i .count) 0 (omega arith) _
       (hot-small (regionAt c i .hot) _ (resets-small (regionAt c i .resets) (eqb (regionAt c i .resets) 0) s (lt-of-lt-of-le (x .resets) (pow-mono (w .clocks))) f)))
 
   main-small : (b : Bool) (s : List ℕ) → Small s → Small (cond b (mainByte ∷ s) s)

@@ -38,7 +38,7 @@ use Rattle.chart_step.specs.declared.Outcome.the-variants.{Going, Ended, Refuse
 use Rattle.chart_step.specs.declared.Refusal.{Refusal}
 use Rattle.chart_step.specs.declared.Refusal.the-variants.{CutShort, OutOfPlace, OutOfRange, NoRoom, BareRegion, HotWithoutTerm, HotInPrechart, NoneAbove, NoMainRegion}
 use Rattle.chart_step.proofs.Numbers.{refusal-nonzero}
-use Rattle.chart_step.specs.Reading.{stepOf, faultOf, decided, applied, outcomeOf, closingFault, closed, orElse, when, withTerm, relationOf, begunWith, withRegion, withMain, withHeading, withHot, withResets, outOfRange, noneAbove, noMainRegion}
+use Rattle.chart_step.specs.Reading.{stepOf, faultOf, decided, applied, outcomeOf, closingFault, closed, orElse, when, withTerm, relationOf, begunWith, withRegion, withMain, withHeading, outOfRange, noneAbove, noMainRegion}
 use Rattle.chart_reader.specs.Read.{Said, acceptedAs, refusedFor, readChart, readFrom, continueBy, advanceOf, advanceBy, startReading}
 use Rattle.chart_value.specs.WellFormed.{wellFormed, placeFits, regionFits, eventFits, leftFits, touchedBefore, isZeroRegion}
 use Rattle.bitset.specs.Set.{union, within}
@@ -116,13 +116,13 @@ closed-same r = by (r .started && ltb (r .chart .count) 32)
 
 -- putting a region that fits after the closed ones
 module _ (c : Chart) (main : Bool) (s : SoFar c main) (g : Region) (w : Grows c main g) (bare : isBare g ≡ false)
-    (hot : (g .hot && eqb (g .«term_count») 0) ≡ false) where
+    (hot : (g .hot && eqb (g .count) 0) ≡ false) where
   abbrev one-more : Chart
   one-more = withRegions c (suc (c .count)) (set (c .regions) (c .count) g)
 
   here : Fits (c .lines) (c .clocks) main (not main || eqb (c .prechart) 0) (touchedBefore (c .regions) (c .count)) g
   here =
-      record { event = w .event; terms = w .terms; resets = w .resets; bare = bare; hot = hot-closed (g .hot) main (eqb (g .«term_count») 0) (w .hot) hot }
+      record { event = w .event; terms = w .terms; resets = w .resets; bare = bare; hot = hot-closed (g .hot) main (eqb (g .count) 0) (w .hot) hot }
 
   put-touched : touchedBefore (one-more .regions) (suc (c .count)) ≡ union (touchedBefore (c .regions) (c .count)) (touched (g .event))
   unfolding touchedBefore
@@ -189,11 +189,11 @@ close r (idle e s t) f =
       touched = t ∙ sym (ap (λ (c : Chart). touchedBefore (c .regions) (c .count)) q);
     }
 close r (busy e s w t) f =
-    let a = first-clear (when (r .started && isBare (r .region)) BareRegion (r .«region_at»)) (when (r .started && (r .region .hot && eqb (r .region .«term_count») 0)) HotWithoutTerm (r .«region_at»)) f in
+    let a = first-clear (when (r .started && isBare (r .region)) BareRegion (r .start)) (when (r .started && (r .region .hot && eqb (r .region .count) 0)) HotWithoutTerm (r .start)) f in
     let bare : isBare (r .region) ≡ false =
     ap (λ (b : Bool). b && isBare (r .region)) (sym e) ∙ quiet _ _ _ (a .0) in
-    let hot : (r .region .hot && eqb (r .region .«term_count») 0) ≡ false =
-    ap (λ (b : Bool). b && (r .region .hot && eqb (r .region .«term_count») 0)) (sym e) ∙ quiet _ _ _ (a .1) in
+    let hot : (r .region .hot && eqb (r .region .count) 0) ≡ false =
+    ap (λ (b : Bool). b && (r .region .hot && eqb (r .region .count) 0)) (sym e) ∙ quiet _ _ _ (a .1) in
     let q : closed r ≡ one-more (r .chart) (r .main) s (r .region) w bare hot =
     (λ j. cond (e j && lt-ltb (r .chart .count) 32 (w .room) j)
     (withRegions (r .chart) (add-one (r .chart .count) j) (set (r .chart .regions) (r .chart .count) (r .region))) (r .chart)) in
@@ -247,34 +247,34 @@ begin r h c at e room fits =
     }
 
 -- a term is added
-module _ (clocks : ℕ) (g : Region) (size : length (g .terms) ≡ 4) (w : Terms clocks g) (room : g .«term_count» < 4) (t : Term)
+module _ (clocks : ℕ) (g : Region) (size : length (g .terms) ≡ 4) (w : Terms clocks g) (room : g .count < 4) (t : Term)
     (fits : leftFits clocks (t .left) ≡ true) where
   abbrev with-term : Region
   with-term =
-      record { event = g .event; terms = set (g .terms) (g .«term_count») t; «term_count» = g .«term_count» + 1; hot = g .hot; resets = g .resets }
+      record { event = g .event; terms = set (g .terms) (g .count) t; count = g .count + 1; hot = g .hot; resets = g .resets }
 
-  term-used : (j : ℕ) → j ≤ g .«term_count» → Dec (j ≡ g .«term_count») → leftFits clocks (termAt with-term j .left) ≡ true
+  term-used : (j : ℕ) → j ≤ g .count → Dec (j ≡ g .count) → leftFits clocks (termAt with-term j .left) ≡ true
   term-used j h (yes e) =
-      rw e (ap (λ (x : Term). leftFits clocks (x .left)) (getD-set-same (g .terms) (g .«term_count») t zeroTerm (omega arith)) ∙ fits)
+      rw e (ap (λ (x : Term). leftFits clocks (x .left)) (getD-set-same (g .terms) (g .count) t zeroTerm (omega arith)) ∙ fits)
   term-used j h (no e) =
-      ap (λ (x : Term). leftFits clocks (x .left)) (getD-set-other (g .terms) (g .«term_count») j t zeroTerm e) ∙ w .used j (lt-of-le-ne h e)
+      ap (λ (x : Term). leftFits clocks (x .left)) (getD-set-other (g .terms) (g .count) j t zeroTerm e) ∙ w .used j (lt-of-le-ne h e)
 
   more-terms : Terms clocks with-term
   more-terms =
       record {
         count = omega arith;
-        used = λ j h. term-used j (omega arith) (ℕ-discrete j (g .«term_count»));
-        unused = λ j h k. getD-set-other (g .terms) (g .«term_count») j t zeroTerm (omega arith) ∙ w .unused j (omega arith) k;
+        used = λ j h. term-used j (omega arith) (ℕ-discrete j (g .count));
+        unused = λ j h k. getD-set-other (g .terms) (g .count) j t zeroTerm (omega arith) ∙ w .unused j (omega arith) k;
       }
 
-grow : (r : Reading) → r .headed ≡ true → State r → not (r .started) ≡ false → (left : Left) (e n : ℕ) → leb 4 (r .region .«term_count») ≡ false
+grow : (r : Reading) → r .headed ≡ true → State r → not (r .started) ≡ false → (left : Left) (e n : ℕ) → leb 4 (r .region .count) ≡ false
     → leftFits (r .chart .clocks) left ≡ true → Inv (withTerm r left e n)
 grow r h (idle s c t) f left e n room fits = absurd (true≢false (sym (not-false _ f) ∙ s))
 grow r h (busy s c w t) f left e n room fits =
     let g = r .region in
-    let l : g .«term_count» < 4 = leb-false _ _ room in
+    let l : g .count < 4 = leb-false _ _ room in
     let x : Term = record { left = left; relation = relationOf e; n = n } in
-    subst (λ (b : Bool). Inv (cond b (withRegion r (with-term (r .chart .clocks) g (w .size) (w .terms) l x fits)) r)) (sym (lt-ltb (g .«term_count») 4 l))
+    subst (λ (b : Bool). Inv (cond b (withRegion r (with-term (r .chart .clocks) g (w .size) (w .terms) l x fits)) r)) (sym (lt-ltb (g .count) 4 l))
     (record {
       headed = h;
       state =
@@ -282,7 +282,7 @@ grow r h (busy s c w t) f left e n room fits =
           (record {
             room = w .room;
             event = w .event;
-            size = length-set (g .terms) (g .«term_count») x ∙ w .size;
+            size = length-set (g .terms) (g .count) x ∙ w .size;
             terms = more-terms (r .chart .clocks) g (w .size) (w .terms) l x fits;
             resets = w .resets;
             hot = w .hot;
@@ -290,10 +290,12 @@ grow r h (busy s c w t) f left e n room fits =
           t;
     })
 
--- 32: the region becomes hot
-heat : (r : Reading) → r .headed ≡ true → State r → not (r .started) ≡ false → not (r .main) ≡ false → Inv (withHot r)
-heat r h (idle s c t) f m = absurd (true≢false (sym (not-false _ f) ∙ s))
-heat r h (busy s c w t) f m =
+-- 32, 40: the region becomes hot, or has resets
+change : (r : Reading) (hot : Bool) (k : ℕ) → r .headed ≡ true → State r → not (r .started) ≡ false
+    → (Grows (r .chart) (r .main) (r .region) → ((not hot || r .main) ≡ true) × (k < 2 ^ r .chart .clocks))
+    → Inv (withRegion r (record { event = r .region .event; terms = r .region .terms; count = r .region .count; hot = hot; resets = k }))
+change r hot k h (idle s c t) f u = absurd (true≢false (sym (not-false _ f) ∙ s))
+change r hot k h (busy s c w t) f u =
     record {
       headed = h;
       state =
@@ -303,27 +305,8 @@ heat r h (busy s c w t) f m =
             event = w .event;
             size = w .size;
             terms = record { count = w .terms .count; used = w .terms .used; unused = w .terms .unused };
-            resets = w .resets;
-            hot = not-false _ m;
-          })
-          t;
-    }
-
--- 40: the region has resets
-reset : (r : Reading) → r .headed ≡ true → State r → not (r .started) ≡ false → (k : ℕ) → k < 2 ^ r .chart .clocks → Inv (withResets r k)
-reset r h (idle s c t) f k l = absurd (true≢false (sym (not-false _ f) ∙ s))
-reset r h (busy s c w t) f k l =
-    record {
-      headed = h;
-      state =
-          busy s c
-          (record {
-            room = w .room;
-            event = w .event;
-            size = w .size;
-            terms = record { count = w .terms .count; used = w .terms .used; unused = w .terms .unused };
-            resets = l;
-            hot = w .hot;
+            resets = u w .1;
+            hot = u w .0;
           })
           t;
     }
@@ -410,13 +393,13 @@ module _ (r : Reading) (h : r .headed ≡ true) (s : State r) (at next : ℕ) (m
   kept (ClockTerm k e n) f =
       let p = clear (not (r .started)) OutOfPlace at _ f in
       let u = clear (outOfRange (r .chart) (ClockTerm k e n)) OutOfRange at _ (p .1) in
-      let v = clear (leb 4 (r .region .«term_count»)) NoRoom at _ (u .1) in
+      let v = clear (leb 4 (r .region .count)) NoRoom at _ (u .1) in
       let x = neither (leb (r .chart .clocks) k) _ (u .0) in
       grow r h s (p .0) (Clock k) e n (v .0) (inside k (r .chart .clocks) (x .0))
   kept (DifferenceTerm a b e n) f =
       let p = clear (not (r .started)) OutOfPlace at _ f in
       let u = clear (outOfRange (r .chart) (DifferenceTerm a b e n)) OutOfRange at _ (p .1) in
-      let v = clear (leb 4 (r .region .«term_count»)) NoRoom at _ (u .1) in
+      let v = clear (leb 4 (r .region .count)) NoRoom at _ (u .1) in
       let x = neither (leb (r .chart .clocks) a) _ (u .0) in
       let y = neither (leb (r .chart .clocks) b) _ (x .1) in
       let z = neither (eqb a b) _ (y .1) in
@@ -425,11 +408,12 @@ module _ (r : Reading) (h : r .headed ≡ true) (s : State r) (at next : ℕ) (m
   kept Hot e =
       let p = clear (not (r .started) || r .region .hot) OutOfPlace at _ e in
       let u = clear (not (r .main)) HotInPrechart at _ (p .1) in
-      heat r h s (neither (not (r .started)) _ (p .0) .0) (u .0)
+      change r true (r .region .resets) h s (neither (not (r .started)) _ (p .0) .0) (λ w. (not-false _ (u .0), w .resets))
   kept (Resets k) e =
       let p = clear (not (r .started) || not (eqb (r .region .resets) 0)) OutOfPlace at _ e in
       let u = clear (outOfRange (r .chart) (Resets k)) OutOfRange at _ (p .1) in
-      reset r h s (neither (not (r .started)) _ (p .0) .0) k (within-true _ _ (not-false _ (neither (eqb k 0) _ (u .0) .1)))
+      change r (r .region .hot) k h s (neither (not (r .started)) _ (p .0) .0)
+      (λ w. (w .hot, within-true _ _ (not-false _ (neither (eqb k 0) _ (u .0) .1))))
   kept Main e =
       let p = clear (not (r .headed) || r .main) OutOfPlace at _ e in
       let q = first-clear (closingFault r) _ (p .1) in

@@ -35,6 +35,6 @@ pub record NeverFire : Type 0 where
   pub lines : (s : List ℕ) (at : ℕ) (r : Reading) → Reached s at r → (next a b l : ℕ) (more : Bool)
       → faultOf r at next more (Message a b l) ≡ Nothing → (a < mostLines) × (b < mostLines)
   pub clock-term : (r : Reading) (at next k e n : ℕ) (more : Bool)
-      → faultOf r at next more (ClockTerm k e n) ≡ Nothing → r .region .«term_count» < mostTerms
+      → faultOf r at next more (ClockTerm k e n) ≡ Nothing → r .region .count < mostTerms
   pub difference-term : (r : Reading) (at next a b e n : ℕ) (more : Bool)
-      → faultOf r at next more (DifferenceTerm a b e n) ≡ Nothing → r .region .«term_count» < mostTerms
+      → faultOf r at next more (DifferenceTerm a b e n) ≡ Nothing → r .region .count < mostTerms

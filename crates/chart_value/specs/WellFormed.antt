@@ -5,6 +5,7 @@ use mathlib.Core.List.{List}
 use lib.ListN.{getD}
 use lib.Dec.{eqb, leb, ltb}
 use lib.Bits.{bitAnd}
+use Rattle.base.specs.Lists.{allBelow}
 use Rattle.bitset.specs.Set.{union, within}
 use Rattle.model.specs.declared.Chart.{Chart}
 use Rattle.model.specs.declared.Region.{Region}
@@ -17,11 +18,6 @@ use Rattle.model.specs.declared.Relation.{Relation}
 use Rattle.model.specs.declared.Relation.the-variants.{Less, AtMost, Equal, AtLeast, More}
 use Rattle.model.specs.Chart.{leastLines, mostLines, mostClocks, mostRegions, mostTerms, absentRegion, regionAt, termAt}
 use Rattle.model.specs.Chart.{isBare, touched}
-
--- the test holds of each number below n
-unfoldable pub allBelow : ℕ → (ℕ → Bool) → Bool
-allBelow zero p = true
-allBelow (suc n) p = allBelow n p && p n
 
 -- M3: zeros
 abbrev pub isZeroLeft : Left → Bool
@@ -49,7 +45,7 @@ termPlaced clocks count j t = cond (ltb j count) (leftFits clocks (t .left)) (is
 
 unfoldable pub termsFit : ℕ → Region → Bool
 termsFit clocks g =
-    leb (g .«term_count») mostTerms && allBelow mostTerms (λ j. termPlaced clocks (g .«term_count») j (termAt g j))
+    leb (g .count) mostTerms && allBelow mostTerms (λ j. termPlaced clocks (g .count) j (termAt g j))
 
 -- R7: a region's lines; R8: a plain one of the opening half shares a line with an earlier one
 abbrev pub eventFits : ℕ → Bool → ℕ → Event → Bool
@@ -64,7 +60,7 @@ regionFits lines clocks main opening before g =
     eventFits lines opening before (g .event)
     && (termsFit clocks g
     && (within clocks (g .resets)
-    && (not (isBare g) && (not (g .hot) || (main && not (eqb (g .«term_count») 0))))))
+    && (not (isBare g) && (not (g .hot) || (main && not (eqb (g .count) 0))))))
 
 abbrev pub isZeroEvent : Event → Bool
 isZeroEvent (Message m) = false
@@ -72,7 +68,7 @@ isZeroEvent (Plain l) = eqb l 0
 
 unfoldable pub isZeroRegion : Region → Bool
 isZeroRegion g =
-    isZeroEvent (g .event) && (eqb (g .«term_count») 0 && (not (g .hot) && (eqb (g .resets) 0 && termsFit 0 g)))
+    isZeroEvent (g .event) && (eqb (g .count) 0 && (not (g .hot) && (eqb (g .resets) 0 && termsFit 0 g)))
 
 -- the lines that the first i regions touch
 unfoldable pub touchedBefore : List Region → ℕ → ℕ

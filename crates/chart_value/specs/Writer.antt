@@ -56,7 +56,7 @@ resetsBytes k rest = cond (eqb k 0) rest (resetsByte ∷ k ∷ rest)
 
 unfoldable pub regionBytes : Region → List ℕ → List ℕ
 regionBytes g rest =
-    eventBytes (g .event) (termsBytes g (g .«term_count») 0 (hotBytes (g .hot) (resetsBytes (g .resets) rest)))
+    eventBytes (g .event) (termsBytes g (g .count) 0 (hotBytes (g .hot) (resetsBytes (g .resets) rest)))
 
 -- 50 before the first main region
 abbrev pub mainBytes : Chart → ℕ → List ℕ → List ℕ

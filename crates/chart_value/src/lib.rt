@@ -13,9 +13,10 @@ use model::Term;
 ghost use mathlib.Core.Path.{_≡_};
 ghost use mathlib.Core.Bool.{true};
 ghost use mathlib.Core.Logic.{_↔_};
+ghost use Rattle.base.specs.Lists.{allBelow};
 ghost use Rattle.model.specs.Chart.{mostTerms, termAt};
 ghost use Rattle.chart_reader.specs.Read.{readChart, acceptedAs};
-ghost use Rattle.chart_value.specs.WellFormed.{allBelow, isZeroLeft, isLess, isZeroTerm, leftFits, termPlaced};
+ghost use Rattle.chart_value.specs.WellFormed.{isZeroLeft, isLess, isZeroTerm, leftFits, termPlaced};
 ghost use Rattle.chart_value.specs.WellFormed.{termsFit, eventFits, regionFits, isZeroEvent, isZeroRegion};
 ghost use Rattle.chart_value.specs.WellFormed.{regionPlaced, headingFits, countsFit, wellFormed};
 ghost use Rattle.chart_value.specs.Writer.{chartBytes};
@@ -75,7 +76,7 @@ fn term_placed(clocks: u8, count: usize, j: usize, t: Term) -> bool
 fn terms_fit(clocks: u8, g: Region) -> bool
     ensures { λ r. ⌜ r ≡ termsFit clocks g ⌝ }
 {
-    let count = g.term_count as usize;
+    let count = g.count as usize;
     let mut ok = true;
     let mut j: usize = 0;
     while j < MOST_TERMS {
@@ -108,7 +109,7 @@ fn region_fits(lines: u8, clocks: u8, main: bool, opening: bool, before: u16, g:
     let terms = terms_fit(clocks, g);
     let resets = bitset::within(clocks as u32, g.resets as u32);
     let bare = model::is_bare(g);
-    event & (terms & (resets & (!bare & (!g.hot | (main & (g.term_count != 0))))))
+    event & (terms & (resets & (!bare & (!g.hot | (main & (g.count != 0))))))
 }
 
 // No place has a term.
@@ -140,7 +141,7 @@ fn is_zero_region(g: Region) -> bool
     let e = g.event;
     let event = is_zero_event(e);
     let terms = terms_zero(g);
-    event & ((g.term_count == 0) & (!g.hot & ((g.resets == 0) & terms)))
+    event & ((g.count == 0) & (!g.hot & ((g.resets == 0) & terms)))
 }
 
 // Region g at place i, with the lines touched before it: used and fitting, or zeros.

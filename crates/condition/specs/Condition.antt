@@ -39,4 +39,4 @@ termsHold (suc j) g value = termsHold j g value && termHolds (termAt g j) value
 
 -- C9: a region's condition; without a term it holds
 abbrev pub conditionHolds : Region → (ℕ → ℕ) → Bool
-conditionHolds g value = termsHold (g .«term_count») g value
+conditionHolds g value = termsHold (g .count) g value

@@ -3,7 +3,7 @@ use mathlib.Core.Path.{_≡_, refl, sym, _∙_}
 use mathlib.Core.Bool.{Bool, true, false, not, So, _&&_, or-true, and-false}
 use mathlib.Core.Logic.{_⊎_, inl, inr}
 use mathlib.Core.List.{List}
-use Prim.Native.Nat.{ℕ, _≤_, _<_}
+use Prim.Native.Nat.{ℕ, _-_, _≤_, _<_}
 use native.Mathlib.Decide.{decLt, ℕ-discrete}
 use native.Mathlib.Omega.{arith}
 use borrow.Author.Tests.{eq-eqb, ne-eqb, not-true, not-false}
@@ -26,7 +26,7 @@ pub run-of : {s r : ℕ} → ((j : ℕ) → j < r → So (contains s j)) × ((co
 run-of h = record { before = h .0; gap = h .1 .0; few = h .1 .1 }
 
 -- a number more is skipped, and the place moves on
-pub run-grows : {s i u r : ℕ} → Run s i → u ≡ inserted s i → Run u r → i < r
+run-grows : {s i u r : ℕ} → Run s i → u ≡ inserted s i → Run u r → i < r
 run-grows {s} {i} {u} {r} A e R = elim (decLt i r) [
   | yes l ↦ l
   | no l ↦ elim (ℕ-discrete r i) [
@@ -34,6 +34,10 @@ run-grows {s} {i} {u} {r} A e R = elim (decLt i r) [
     | no z ↦ clash (rw e (contains-inserted s i r ∙ rw (A .before r (omega arith)))) (R .gap)
   ]
 ]
+
+-- so what is left of the search grows less
+pub run-less : {s i u r : ℕ} → Run s i → u ≡ inserted s i → Run u r → i < 32 → 32 - r < 32 - i
+run-less A e R l = omega (arith, run-grows A e R)
 
 -- of the numbers below n those that are skipped fail; those of the first set are skipped; the place is the first that is not
 pub record Skips (n : ℕ) (t : ℕ → Bool) (first s i : ℕ) : Type 0 where

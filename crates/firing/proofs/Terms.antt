@@ -1,13 +1,13 @@
 -- The test of a term's word by the clocks that it names is its test by every clock's value. Assumes nothing.
 use mathlib.Core.Path.{_≡_, sym, ap, ap₂, fun-ext}
 use mathlib.Core.Logic.{_⊎_, inl, inr}
-use mathlib.Core.Bool.{Bool, true, not, cond, and-true, and-false}
+use mathlib.Core.Bool.{Bool, true, cond}
 use mathlib.Core.List.{List}
-use Prim.Native.Nat.{ℕ, _+_, _*_, _-_, _/_, _%_, _≤_, _<_}
+use Prim.Native.Nat.{ℕ, _+_, _*_, _-_, _%_, _≤_, _<_}
 use native.Mathlib.Decide.{ℕ-discrete}
 use native.Mathlib.Omega.{arith}
 use borrow.Author.Tests.{lt-ltb, le-ltb}
-use lib.Dec.{eqb, ltb}
+use lib.Dec.{ltb}
 use lib.ListN.{getD}
 use Rattle.model.specs.declared.Moment.{Moment}
 use Rattle.model.specs.Chart.{mostClocks, mostTerms}

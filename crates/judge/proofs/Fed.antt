@@ -30,12 +30,12 @@ use Rattle.log_reader.specs.Record.{messageByte, timeByte, messageSize, timeSiz
 use Rattle.log_reader.specs.Records.{onRecord, recordsFrom, recordsIn}
 use Rattle.log_reader.proofs.Records.{one-record}
 use Rattle.stepping.specs.declared.Step.{Step}
-use Rattle.stepping.specs.Monitors.{monitorAt, stepOf, recordOf}
+use Rattle.stepping.specs.Monitors.{tallyAt, monitorAt, stepOf, recordOf}
 use Rattle.plan.specs.Plan.{recordCode}
 use Rattle.chart_value.specs.Records.{logRecord, logged}
 use Rattle.stepping.proofs.Zeros.{zero-fresh}
 use Rattle.judge.specs.Check.{timeOf}
-use Rattle.judge.specs.Judge.{standingOf, verdictOf}
+use Rattle.judge.specs.Judge.{standingOf, verdictWith, verdictOf}
 use Rattle.judge.specs.Parts.{codeAt, standingBy, verdictBy}
 
 taken-record : {r e : Record} {p q : ℕ} → Taken r p ≡ Taken e q → r ≡ e
@@ -146,13 +146,7 @@ none-fired n fired w = elim (split (eqb fired 0)) [
 -- the verdict of a stored monitor is that of what it shows
 pub verdict-same : (C : Abstract) (p : ℕ) (m : Monitor) → p ≡ C .prechart → Fit C (monitorAt m) → verdictBy p m ≡ verdictOf C (monitorAt m)
 unfolding standingBy standingOf prechartDone
-verdict-same C p m e F = λ i. record {
-  standing =
-      cond (not (eqb (m .tally .broken .at) 0)) 3
-      (cond (none-fired (C .regions) (m .at .fired) (F .within) i) 0 (cond (not (allBelow (e i) (contains (m .at .fired)))) 1 2));
-  kept = m .tally .kept;
-  dropped = m .tally .dropped;
-  records = m .tally .records;
-  broken = m .tally .broken .at;
-  reason = m .tally .broken .reason;
-}
+verdict-same C p m e F = λ i. verdictWith
+    (cond (not (eqb (m .tally .broken .at) 0)) 3
+    (cond (none-fired (C .regions) (m .at .fired) (F .within) i) 0 (cond (not (allBelow (e i) (contains (m .at .fired)))) 1 2)))
+    (tallyAt (m .tally))

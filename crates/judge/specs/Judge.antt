@@ -8,6 +8,7 @@ use Rattle.chart_value.specs.WellFormed.{wellFormed}
 use Rattle.chart_value.specs.View.{chartOf}
 use Rattle.base.specs.Lists.{allBelow}
 use Rattle.rounds.specs.Chart.{Chart as Abstract}
+use Rattle.rounds.specs.Tally.{Tally}
 use Rattle.rounds.specs.Machine.{Monitor as AbstractMonitor, prechartDone, after}
 use Rattle.stepping.specs.declared.FeedRefusal.the-variants.{NotAChart}
 use Rattle.stepping.specs.Answers.{feedRefusalNumber}
@@ -40,17 +41,20 @@ standingOf C m =
     (cond (allBelow (C .regions) (λ i. not (m .at .fired i))) nothingFired
     (cond (not (prechartDone C (m .at .fired))) inPrechart owed))
 
--- J6: the verdict
-abbrev pub verdictOf : Abstract → AbstractMonitor → Verdict
-verdictOf C m =
+-- J6: the verdict, by the standing and the counts
+abbrev pub verdictWith : ℕ → Tally → Verdict
+verdictWith standing t =
     record {
-      standing = standingOf C m;
-      kept = m .tally .kept;
-      dropped = m .tally .dropped;
-      records = m .tally .records;
-      broken = m .tally .broken .at;
-      reason = m .tally .broken .reason;
+      standing = standing;
+      kept = t .kept;
+      dropped = t .dropped;
+      records = t .records;
+      broken = t .broken .at;
+      reason = t .broken .reason;
     }
+
+abbrev pub verdictOf : Abstract → AbstractMonitor → Verdict
+verdictOf C m = verdictWith (standingOf C m) (m .tally)
 
 abbrev pub zeroVerdict : Verdict
 zeroVerdict = record { standing = 0; kept = 0; dropped = 0; records = 0; broken = 0; reason = 0 }

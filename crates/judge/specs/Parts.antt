@@ -10,10 +10,11 @@ use Rattle.log_reader.specs.Record.{messageByte}
 use Rattle.bitset.specs.Set.{contains}
 use Rattle.model.specs.declared.Monitor.{Monitor}
 use Rattle.base.specs.Lists.{allBelow}
+use Rattle.stepping.specs.Monitors.{tallyAt}
 use Rattle.judge.specs.declared.Checked.{Checked}
 use Rattle.judge.specs.declared.Checked.the-variants.{Fine, Refused}
 use Rattle.judge.specs.declared.Verdict.{Verdict}
-use Rattle.judge.specs.Judge.{broken, nothingFired, inPrechart, owed}
+use Rattle.judge.specs.Judge.{broken, nothingFired, inPrechart, owed, verdictWith}
 
 -- the code of a message whose record stands at a place, 0 for any other record
 abbrev pub codeAt : List ℕ → ℕ → ℕ
@@ -33,12 +34,4 @@ standingBy prechart m =
 
 -- `verdictOf`, likewise
 abbrev pub verdictBy : ℕ → Monitor → Verdict
-verdictBy prechart m =
-    record {
-      standing = standingBy prechart m;
-      kept = m .tally .kept;
-      dropped = m .tally .dropped;
-      records = m .tally .records;
-      broken = m .tally .broken .at;
-      reason = m .tally .broken .reason;
-    }
+verdictBy prechart m = verdictWith (standingBy prechart m) (tallyAt (m .tally))

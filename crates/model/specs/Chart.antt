@@ -34,7 +34,7 @@ abbrev pub zeroTerm : Term
 zeroTerm = record { left = Clock 0; relation = Less; n = 0 }
 
 abbrev pub zeroRegion : Region
-zeroRegion = record { event = Plain 0; terms = replicate mostTerms zeroTerm; «term_count» = 0; hot = false; resets = 0 }
+zeroRegion = record { event = Plain 0; terms = replicate mostTerms zeroTerm; count = 0; hot = false; resets = 0 }
 
 abbrev pub zeroChart : Chart
 zeroChart = record { lines = 0; clocks = 0; prechart = 0; count = 0; regions = replicate mostRegions zeroRegion }
@@ -44,7 +44,7 @@ abbrev pub absentRegion : Region
 absentRegion = record {
   event = Message (record { source = 0; destination = 0; label = 0 });
   terms = [];
-  «term_count» = 0;
+  count = 0;
   hot = false;
   resets = 0;
 }
@@ -61,7 +61,7 @@ isPlain (Message m) = false
 
 -- C14 forbids it: no message, no term, no reset
 abbrev pub isBare : Region → Bool
-isBare g = isPlain (g .event) && (eqb (g .«term_count») 0 && eqb (g .resets) 0)
+isBare g = isPlain (g .event) && (eqb (g .count) 0 && eqb (g .resets) 0)
 
 -- C7: the ends of the message, or exactly the lines that are named
 abbrev pub touches : Event → ℕ → Bool

@@ -74,7 +74,7 @@ pub struct Term {
 pub struct Region {
     pub event: Event,
     pub terms: [Term; MOST_TERMS],
-    pub term_count: u8,
+    pub count: u8,
     pub hot: bool,
     pub resets: u8,
 }
@@ -105,7 +105,7 @@ pub fn zero_region() -> Region
     Region {
         event: Event::Plain(0),
         terms: [t; MOST_TERMS],
-        term_count: 0,
+        count: 0,
         hot: false,
         resets: 0,
     }
@@ -139,7 +139,7 @@ pub fn is_bare(g: Region) -> bool
     ensures { λ r. ⌜ r ≡ isBare g ⌝ }
 {
     let e = g.event;
-    is_plain(e) & ((g.term_count == 0) & (g.resets == 0))
+    is_plain(e) & ((g.count == 0) & (g.resets == 0))
 }
 
 // The set of line i alone; no chart has a line from 16 on.

@@ -5,19 +5,19 @@ use native.Mathlib.Decide.{ℕ-discrete}
 use lib.Arith.{lt-of-le-ne}
 use mathlib.Core.Bool.{Bool, true, false, false≢true, cond, not, _&&_, _||_}
 use mathlib.Core.List.{List}
-use Prim.Native.Nat.{ℕ, zero, suc, min, zero-le, _≤_, _<_}
+use Prim.Native.Nat.{ℕ, zero, suc, min, _≤_, _<_}
 use native.Mathlib.Omega.{arith}
-use borrow.Author.Tests.{lt-ltb, le-ltb, le-leb, ltb-true, leb-true, eqb-true, eqb-false, eq-eqb, ne-eqb, not-true}
+use native.Mathlib.Numerals.{add-one}
+use borrow.Author.Tests.{lt-ltb, le-leb, ltb-true, leb-true, eqb-true, eqb-false, eq-eqb, ne-eqb, not-true}
 use lib.Dec.{eqb, leb, ltb}
 use lib.Bits.{bitAnd}
 use lib.ListN.{length, getD, set, length-set}
-use lib.Seq.{getD-set-same, getD-set-other}
 use Rattle.bitset.specs.Set.{contains, inserted, union}
+use Rattle.base.proofs.Filled.{Filled, filled-none, filled-next, filled-below, filled-beyond}
 use Rattle.base.proofs.Bools.{both, and-both, either, or-left, or-right}
 use Rattle.bitset.proofs.Laws.{contains-union, contains-inserted, contains-empty, contains-and, some-member}
 use Rattle.model.specs.declared.Chart.{Chart}
 use Rattle.model.specs.Chart.{mostRegions, touchedAt}
-use Rattle.model.proofs.Filled.{filled-none}
 use Rattle.order.specs.Order.{isOver, gathered, aboveSets, aboveOf, Decides}
 use Rattle.order.specs.Above.{SharedLine, SameHalf, Over, Above, inPrechart, inMain, direct, halves, first, then}
 
@@ -125,14 +125,15 @@ module _ (lines : ℕ → ℕ) (p : ℕ) where
   own : ℕ → ℕ
   own b = gathered lines p (aboveSets lines p b) b b
 
-  stable : (n b : ℕ) → b < n → n ≤ 32 → getD (aboveSets lines p n) b 0 ≡ own b
+  filled : (n : ℕ) → n ≤ 32 → Filled 0 own n (aboveSets lines p n)
   unfolding aboveSets own
-  stable zero b h k = absurd (omega arith)
-  stable (suc n) b h k = by (ℕ-discrete b n) (length-sets n) (stable n b)
-    where
-      by : Dec (b ≡ n) → length (aboveSets lines p n) ≡ 32 → (b < n → n ≤ 32 → getD (aboveSets lines p n) b 0 ≡ own b) → getD (set (aboveSets lines p n) n (gathered lines p (aboveSets lines p n) n n)) b 0 ≡ own b
-      by (yes e) l r = rw e (getD-set-same (aboveSets lines p n) n _ 0 (omega arith))
-      by (no e) l r = getD-set-other (aboveSets lines p n) n b _ 0 e ∙ r (lt-of-le-ne (omega arith) e) (omega arith)
+  filled zero h = filled-none mostRegions
+  filled (suc n) h =
+      subst (λ (k : ℕ). Filled 0 own k (aboveSets lines p (suc n))) (add-one n)
+      (filled-next (own n) (filled n (omega arith)) (omega (arith, length-sets n)) refl)
+
+  stable : (n b : ℕ) → b < n → n ≤ 32 → getD (aboveSets lines p n) b 0 ≡ own b
+  stable n b h k = filled-below (filled n k) b h
 
   sound : (k b x : ℕ) → b < k → k ≤ 32 → contains (own b) x ≡ true → Above lines p x b
   unfolding own
@@ -187,14 +188,8 @@ module _ (f g : ℕ → ℕ) (p k : ℕ) (same : (i : ℕ) → i < k → f i ≡
       ((ap (λ (l : List ℕ). gathered f p l b b) r ∙ same-gathered (aboveSets g p b) b b (omega arith) (omega arith)) i)
 
 -- beyond the chart the sets are empty
-beyond : (lines : ℕ → ℕ) (p n b : ℕ) → n ≤ b → getD (aboveSets lines p n) b 0 ≡ 0
-unfolding aboveSets
-beyond lines p zero b h = filled-none {f = λ y. 0} mostRegions .is b ∙ ap (λ (x : Bool). cond x 0 0) (le-ltb b 0 zero-le)
-beyond lines p (suc n) b h =
-    getD-set-other (aboveSets lines p n) n b (gathered lines p (aboveSets lines p n) n n) 0 (λ e. omega arith) ∙ beyond lines p n b (omega arith)
-
 pub sets-beyond : (c : Chart) (b : ℕ) → c .count ≤ b → getD (aboveOf c) b 0 ≡ 0
-sets-beyond c b h = beyond (touchedAt c) (c .prechart) (min (c .count) mostRegions) b (omega arith)
+sets-beyond c b h = filled-beyond (filled (touchedAt c) (c .prechart) (min (c .count) mostRegions) (omega arith)) b (omega arith)
 
 -- what `above_sets` promises, from the sets alone
 pub decides : (c : Chart) → Decides c (aboveOf c)

@@ -5,22 +5,16 @@ use mathlib.Core.Logic.{inl, inr}
 use mathlib.Core.List.{List}
 use Prim.Native.Nat.{ℕ, _+_, _<_}
 use native.Mathlib.Omega.{arith}
-use native.Mathlib.Decide.{decLt, ℕ-discrete}
+use native.Mathlib.Decide.{ℕ-discrete}
 use borrow.Author.Tests.{eq-eqb, eqb-true}
 use lib.Arith.{lt-of-le-ne}
 use lib.Dec.{eqb}
-use lib.ListN.{length, getD, set, replicate, getD-replicate, length-replicate, List·getD-eq-default}
+use lib.ListN.{length, getD, set}
 use lib.Seq.{getD-set-same, getD-set-other}
 use Rattle.bitset.specs.Set.{contains, inserted}
 use Rattle.bitset.proofs.Laws.{contains-empty, contains-inserted}
 use Rattle.base.proofs.Bools.{or-left, or-right, clash, either}
 use Rattle.plan.specs.Slots.{slotOf, Slotted}
-
-pub all-zero : (n k : ℕ) → _≡_ {A = ℕ} (getD (replicate n 0) k 0) 0
-all-zero n k = elim (decLt k n) [
-  | yes l ↦ getD-replicate n k 0 0 l
-  | no l ↦ List·getD-eq-default (replicate n 0) 0 (rw (length-replicate {A = ℕ} n 0) (omega arith))
-]
 
 pub slotted-none : {keys slots : List ℕ} → ((k : ℕ) → getD slots k 0 ≡ 0) → Slotted 0 keys slots
 slotted-none e = record { has = λ i h. absurd (omega arith); own = λ i k m. clash m (ap (λ (s : ℕ). contains s i) (e k) ∙ contains-empty i) }

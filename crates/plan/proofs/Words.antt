@@ -212,21 +212,21 @@ module _ (g : Region) (v : ℕ → ℕ) (t : ℕ → Bool) where
           and-true (allBelow m t) (t m) (unused m l (omega arith)) ∙ r l (λ j a b. unused j a (omega arith))
 
 -- the words of a region hold if each term's does
-module _ (g : Region) (v words : ℕ → ℕ) (count : g .«term_count» ≤ mostTerms) (same : (j : ℕ) → j < mostTerms → words j ≡ wordAt g j)
-    (each : (j : ℕ) → j < g .«term_count» → holdsBy (wordOf (termAt g j)) v ≡ termHolds (termAt g j) v) where
-  used : (j : ℕ) → j < g .«term_count» → holdsBy (words j) v ≡ termHolds (termAt g j) v
+module _ (g : Region) (v words : ℕ → ℕ) (count : g .count ≤ mostTerms) (same : (j : ℕ) → j < mostTerms → words j ≡ wordAt g j)
+    (each : (j : ℕ) → j < g .count → holdsBy (wordOf (termAt g j)) v ≡ termHolds (termAt g j) v) where
+  used : (j : ℕ) → j < g .count → holdsBy (words j) v ≡ termHolds (termAt g j) v
   used j h =
       ap (λ (w : ℕ). holdsBy w v)
-      (same j (omega arith) ∙ ap (λ (b : Bool). cond b (wordOf (termAt g j)) 0) (lt-ltb j (g .«term_count») h))
+      (same j (omega arith) ∙ ap (λ (b : Bool). cond b (wordOf (termAt g j)) 0) (lt-ltb j (g .count) h))
       ∙ each j h
 
-  unused : (j : ℕ) → g .«term_count» ≤ j → j < mostTerms → holdsBy (words j) v ≡ true
+  unused : (j : ℕ) → g .count ≤ j → j < mostTerms → holdsBy (words j) v ≡ true
   unused j h l =
       ap (λ (w : ℕ). holdsBy w v)
-      (same j l ∙ ap (λ (b : Bool). cond b (wordOf (termAt g j)) 0) (le-ltb j (g .«term_count») h))
+      (same j l ∙ ap (λ (b : Bool). cond b (wordOf (termAt g j)) 0) (le-ltb j (g .count) h))
       ∙ zero-holds v
 
   pub words-hold : allBelow mostTerms (λ j. holdsBy (words j) v) ≡ conditionHolds g v
   words-hold =
-      all-more g v (λ j. holdsBy (words j) v) (g .«term_count») mostTerms count unused
-      ∙ all-used g v (λ j. holdsBy (words j) v) (g .«term_count») used
+      all-more g v (λ j. holdsBy (words j) v) (g .count) mostTerms count unused
+      ∙ all-used g v (λ j. holdsBy (words j) v) (g .count) used

@@ -61,4 +61,4 @@ wordOf t = boundBy (t .relation) (biased (t .n)) * boundPlace + sidesOf (t .rela
 
 -- the word at place j of a region; without a term, 0
 abbrev pub wordAt : Region → ℕ → ℕ
-wordAt g j = cond (ltb j (g .«term_count»)) (wordOf (termAt g j)) 0
+wordAt g j = cond (ltb j (g .count)) (wordOf (termAt g j)) 0

@@ -17,15 +17,12 @@ use model::Region;
 use model::Relation;
 use model::Term;
 ghost use mathlib.Core.Path.{_≡_};
-ghost use mathlib.Core.Bool.{true, cond, So};
-ghost use Prim.Native.Nat.{ℕ, _<_, _≤_};
-ghost use lib.Dec.{eqb};
-ghost use lib.ListN.{getD};
-ghost use Rattle.bitset.specs.Set.{contains, inserted};
+ghost use mathlib.Core.Bool.{true, cond};
+ghost use Prim.Native.Nat.{_<_, _≤_};
+ghost use Rattle.bitset.specs.Set.{inserted};
 ghost use Rattle.model.specs.Chart.{mostRegions, mostTerms};
 ghost use Rattle.chart_value.specs.WellFormed.{wellFormed};
-ghost use Rattle.chart_value.specs.View.{codeOf, keyOf, chartOf};
-ghost use Rattle.layout.specs.View.{conditionBy, Words};
+ghost use Rattle.chart_value.specs.View.{codeOf, keyOf};
 ghost use Rattle.plan.specs.Words.{sidesOf, biased, raisedBy, loweredBy, boundBy, firstClock, secondClock};
 ghost use Rattle.plan.specs.Words.{wordOf, wordAt};
 ghost use Rattle.plan.specs.Slots.{slotCount, slotOf, Slotted};
@@ -100,43 +97,11 @@ fn key_of(e: Event) -> u64
     }
 }
 
-// The key of each region.
-fn keys_of(c: Chart) -> [u64; MOST_REGIONS]
-    requires { ⌜ wellFormed c ≡ true ⌝ }
-    ensures { λ r. ⌜ ((i : ℕ) → getD r i 0 ≡ chartOf c .key i) ⌝ }
-{
-    let count = c.count as usize;
-    let mut keys = [0u64; MOST_REGIONS];
-    let mut i: usize = 0;
-    while i < count {
-        let g = c.regions[i];
-        let e = g.event;
-        keys[i] = key_of(e);
-        i += 1;
-    }
-    keys
-}
-
 // The same set of clocks, in 32 bits.
 fn clock_set(set: u8) -> u32
     ensures { λ r. ⌜ r ≡ set ⌝ }
 {
     set as u32
-}
-
-// The clocks that each region resets, as a set.
-fn resets_of(c: Chart) -> [u32; MOST_REGIONS]
-    requires { ⌜ wellFormed c ≡ true ⌝ }
-    ensures { λ r. ⌜ ((i k : ℕ) → contains (getD r i 0) k ≡ chartOf c .resets i k) ⌝ }
-{
-    let count = c.count as usize;
-    let mut resets = [0u32; MOST_REGIONS];
-    let mut i: usize = 0;
-    while i < count {
-        resets[i] = clock_set(c.regions[i].resets);
-        i += 1;
-    }
-    resets
 }
 
 // Number i comes into the set if b holds.
@@ -148,39 +113,6 @@ fn insert_if(set: u32, i: usize, b: bool) -> u32
         return bitset::insert(set, i as u32);
     }
     set
-}
-
-// The set of the regions whose condition is hot.
-fn hot_of(c: Chart) -> u32
-    requires { ⌜ wellFormed c ≡ true ⌝ }
-    ensures { λ r. ⌜ ((i : ℕ) → contains r i ≡ chartOf c .hot i) ⌝ }
-{
-    let count = c.count as usize;
-    let mut hot: u32 = 0;
-    let mut i: usize = 0;
-    while i < count {
-        hot = insert_if(hot, i, c.regions[i].hot);
-        i += 1;
-    }
-    hot
-}
-
-// The set of the plain regions.
-fn plain_of(c: Chart) -> u32
-    requires { ⌜ wellFormed c ≡ true ⌝ }
-    ensures plain { λ r. ⌜ ((i : ℕ) → i < c .count → contains r i ≡ eqb (chartOf c .key i) 0) ⌝ }
-    ensures own { λ r. ⌜ ((i : ℕ) → So (contains r i) → i < c .count) ⌝ }
-{
-    let count = c.count as usize;
-    let mut plain: u32 = 0;
-    let mut i: usize = 0;
-    while i < count {
-        let g = c.regions[i];
-        let e = g.event;
-        plain = insert_if(plain, i, model::is_plain(e));
-        i += 1;
-    }
-    plain
 }
 
 // The sides on which a relation bounds the difference: 1 above, 2 below, 3 both.
@@ -282,31 +214,10 @@ fn word_at(g: Region, j: usize) -> u64
     requires { ⌜ j < mostTerms ⌝ }
     ensures { λ r. ⌜ r ≡ wordAt g j ⌝ }
 {
-    if j < g.term_count as usize {
+    if j < g.count as usize {
         return word_of(g.terms[j]);
     }
     0
-}
-
-// The words of each region's terms, four places a region.
-fn terms_of(c: Chart) -> [u64; TERM_PLACES]
-    requires { ⌜ wellFormed c ≡ true ⌝ }
-    ensures conditions { λ r. ⌜ ((i : ℕ) (value : ℕ → ℕ) → conditionBy r i value ≡ chartOf c .condition i value) ⌝ }
-    ensures words { λ r. ⌜ Words (c .clocks) r ⌝ }
-{
-    let count = c.count as usize;
-    let mut terms = [0u64; TERM_PLACES];
-    let mut i: usize = 0;
-    while i < count {
-        let g = c.regions[i];
-        let k = i * MOST_TERMS;
-        terms[k] = word_at(g, 0);
-        terms[k + 1] = word_at(g, 1);
-        terms[k + 2] = word_at(g, 2);
-        terms[k + 3] = word_at(g, 3);
-        i += 1;
-    }
-    terms
 }
 
 // The slot of a message's code.
@@ -332,23 +243,44 @@ pub fn slots_of(count: usize, keys: &[u64; MOST_REGIONS]) -> [u32; SLOTS]
     slots
 }
 
-// The chart as numbers.
+// The chart as numbers, region by region; a region's terms have four places.
 pub fn compile(c: Chart) -> Plan
     requires { ⌜ wellFormed c ≡ true ⌝ }
     ensures { λ r. ⌜ Compiles c r ⌝ }
 {
+    let count = c.count as usize;
+    let mut plain: u32 = 0;
+    let mut hot: u32 = 0;
+    let mut keys = [0u64; MOST_REGIONS];
+    let mut resets = [0u32; MOST_REGIONS];
+    let mut terms = [0u64; TERM_PLACES];
+    let mut i: usize = 0;
+    while i < count {
+        let g = c.regions[i];
+        let e = g.event;
+        plain = insert_if(plain, i, model::is_plain(e));
+        hot = insert_if(hot, i, g.hot);
+        keys[i] = key_of(e);
+        resets[i] = clock_set(g.resets);
+        let k = i * MOST_TERMS;
+        terms[k] = word_at(g, 0);
+        terms[k + 1] = word_at(g, 1);
+        terms[k + 2] = word_at(g, 2);
+        terms[k + 3] = word_at(g, 3);
+        i += 1;
+    }
     let head = Head {
-        count: c.count as usize,
+        count,
         prechart: c.prechart as usize,
         clocks: c.clocks as usize,
-        plain: plain_of(c),
-        hot: hot_of(c),
+        plain,
+        hot,
     };
     Plan {
         head,
-        keys: keys_of(c),
+        keys,
         above: order::above_sets(c),
-        resets: resets_of(c),
-        terms: terms_of(c),
+        resets,
+        terms,
     }
 }

@@ -4,7 +4,7 @@ use Rattle.bitset.specs.Set.{contains, single, inserted, union, isSubset, withi
 use Rattle.order.specs.Order.{isOver, gathered, aboveSets}
 use Rattle.condition.specs.Condition.{termsHold}
 use Rattle.chart_reader.specs.Read.{readChart, readFrom, advanceOf}
-use Rattle.chart_value.specs.WellFormed.{allBelow, isZeroTerm, termPlaced, termsFit, regionFits, isZeroRegion, touchedBefore, regionPlaced, wellFormed}
+use Rattle.chart_value.specs.WellFormed.{isZeroTerm, termPlaced, termsFit, regionFits, isZeroRegion, touchedBefore, regionPlaced, wellFormed}
 use Rattle.rounds.specs.Rows.{momentAt, chartMessage, chartMessages, plain, messageRegions, momentOf, values, opened, resetMoment, holds, waived, firstFailing}
 use Rattle.rounds.specs.Feeds.{refusal}
 use Rattle.rounds.specs.Machine.{ready, readyFor, readyPlain, fire, unfired, settle, place, opening, full, prechartDone, goOn, keepRound, dropRound, breakRound, conclude, accept, feed, after}
@@ -16,5 +16,5 @@ use Rattle.judge.specs.Check.{stepAt, checkFrom, checkLog}
 use Rattle.judge.specs.Judge.{standingOf, judgeOf}
 
 unfoldable pub computing : Unit {0}
-unfolding contains single inserted union isSubset within isOver gathered aboveSets termsHold readChart readFrom advanceOf allBelow isZeroTerm termPlaced termsFit regionFits isZeroRegion touchedBefore regionPlaced wellFormed momentAt chartMessage chartMessages plain messageRegions momentOf values opened resetMoment holds waived firstFailing refusal ready readyFor readyPlain fire unfired settle place opening full prechartDone goOn keepRound dropRound breakRound conclude accept feed after promptTest placedTest rowTest placeOf add reset shift configAt recordsFrom recordsIn stepAt checkFrom checkLog standingOf judgeOf
+unfolding contains single inserted union isSubset within isOver gathered aboveSets termsHold readChart readFrom advanceOf isZeroTerm termPlaced termsFit regionFits isZeroRegion touchedBefore regionPlaced wellFormed momentAt chartMessage chartMessages plain messageRegions momentOf values opened resetMoment holds waived firstFailing refusal ready readyFor readyPlain fire unfired settle place opening full prechartDone goOn keepRound dropRound breakRound conclude accept feed after promptTest placedTest rowTest placeOf add reset shift configAt recordsFrom recordsIn stepAt checkFrom checkLog standingOf judgeOf
 computing = tt

@@ -2,7 +2,7 @@
 -- readiness by the machine's tests, and how a record is taken by its move. Assumes nothing.
 use mathlib.Core.Path.{_≡_, refl, sym, ap, ap₂, subst, _∙_, fun-ext}
 use mathlib.Core.Logic.{inl, inr}
-use mathlib.Core.Bool.{Bool, true, false, cond, So, _&&_}
+use mathlib.Core.Bool.{Bool, So, _&&_}
 use mathlib.Core.List.{List}
 use mathlib.Core.Option.{none, some}
 use Prim.Native.Nat.{ℕ, zero, suc, _≤_}
@@ -14,18 +14,18 @@ use borrow.Author.Tests.{eqb-true, ltb-true, ltb-false, leb-true, le-ltb}
 use Rattle.base.specs.Lists.{Snoc, _▸_}
 use Rattle.rounds.specs.Chart.{Chart, Accepted}
 use Rattle.rounds.specs.Rows.{LogRecord, Row, stands, chartMessage, values, Ready}
-use Rattle.rounds.specs.Feeds.{mostRecords, Answer, refused, toldBroken, toldKept, toldDropped, entered, moved, quiet}
-use Rattle.rounds.specs.Machine.{Place, Move, stuck, fails, rests, ready, readyPlain, place, opening, Monitor, Step, feed, after}
+use Rattle.rounds.specs.Feeds.{mostRecords, Answer}
+use Rattle.rounds.specs.Machine.{Place, fails, ready, readyPlain, place, opening, Monitor, Step, feed, after}
 use Rattle.base.specs.Table.{table}
 use Rattle.base.proofs.Bools.{split, and-left, and-right}
 use Rattle.rounds.proofs.Machine.{LowestPlain, ready-true, plain-some, plain-none}
 use Rattle.base.proofs.Table.{getD-table}
 use Rattle.rounds.proofs.Fitness.{after-fit}
 use Rattle.runs.specs.Paper.{Config, initial, reset, shift, add, wait, successor, Next, AtRest, configAt}
-use Rattle.runs.specs.Taken.{Status, Unmatched, Turn, Taken, passes, moves, enters, keeps, fails-cold, fails-hot, unmatched-prechart, unmatched-main, caseOf, statusOf, Acceptable}
-use Rattle.runs.proofs.Steps.{opening-config, of-unmatched, failure-of, of-failure}
-use Rattle.runs.proofs.Turns.{turn-of, fails-chart, terminates-fails, blocked-fails}
-use Rattle.runs.proofs.Taking.{given}
+use Rattle.runs.specs.Taken.{Status, Turn, Taken, caseOf, statusOf, Acceptable}
+use Rattle.runs.proofs.Steps.{opening-config, failure-of}
+use Rattle.runs.proofs.Turns.{turn-of}
+use Rattle.runs.proofs.Taking.{unplaceable, caseFor, numbered, given}
 use Rattle.witness_rounds.specs.Rounds.{configOf, statusAs}
 
 -- a table holds nothing beyond its bound
@@ -79,22 +79,6 @@ module _ (C : Chart) where
         let L : LowestPlain C (stands r) i = plain-some C A (stands r) i h in
         record { is-plain = L .is-plain; follows = L .is-ready; lowest = L .lowest }
 
--- the machine finds no region
-unfoldable pub unplaceable : Move → Bool
-unplaceable stuck = true
-unplaceable (fails i p) = false
-unplaceable (rests p) = false
-
--- the case of an answer, with whether the machine found a region
-unfoldable pub caseFor : Bool → Answer → ℕ
-caseFor b (refused k) = 0
-caseFor b quiet = 0
-caseFor b moved = 1
-caseFor b entered = 2
-caseFor b toldKept = 3
-caseFor b toldDropped = cond b 6 4
-caseFor b (toldBroken n k) = cond b 7 5
-
 -- a monitor's status, with its configuration written out
 abbrev pub statusWith : Config → Monitor → Status
 statusWith z m = statusAs z (m .tally .now) (m .tally .records) (m .tally .kept) (m .tally .dropped) (m .tally .broken .at) (m .tally .broken .reason)
@@ -125,25 +109,6 @@ module _ (C : Chart) (A : Accepted C) (fs : Snoc LogRecord) (e : LogRecord) wher
     unfolding AtRest
     at-rest = P .fit .settled (P .unbroken)
 
-    -- the answer decides the case
-    numbered : {y : Status} {a : Answer} (T : Taken C (statusOf C m) e y a)
-        → caseOf C T ≡ caseFor (unplaceable (place C (m .at) e)) a
-    unfolding caseFor unplaceable Unmatched configAt
-    numbered (passes h) = refl
-    numbered (moves z M nf k) = refl
-    numbered (enters z M nf k d) = refl
-    numbered (keeps z M f) = refl
-    numbered (fails-cold i y T t) =
-        let F = terminates-fails C (statusOf C m) e at-rest T t .0 in
-        let h = fails-chart C (statusOf C m) e at-rest F in
-        rw (of-failure C A (m .at) e (m .tally .now) (P .fit .moments) (P .forward) h i F .1)
-    numbered (fails-hot i y T b) =
-        let F = blocked-fails C (statusOf C m) e at-rest T b .0 in
-        let h = fails-chart C (statusOf C m) e at-rest F in
-        rw (of-failure C A (m .at) e (m .tally .now) (P .fit .moments) (P .forward) h i F .1)
-    numbered (unmatched-prechart h U n) = rw (of-unmatched C A (m .at) e U)
-    numbered (unmatched-main h U d) = rw (of-unmatched C A (m .at) e U)
-
     turn-failing : (i : ℕ) (p : Place) → So (chartMessage C e) → place C (m .at) e ≡ fails i p
         → Turn C (statusOf C m) e i (configAt C (e .time) p)
     unfolding configAt
@@ -169,7 +134,7 @@ module _ (C : Chart) (A : Accepted C) (fs : Snoc LogRecord) (e : LogRecord) wher
       = subst (λ (y : Config). Taken C (statusOf C m) e (statusWith y (v .next)) (v .answer)) p (given C A m e P) in
       let T : Taken C (statusOf C m) e (statusWith z (v .next)) a
       = subst (λ (b : Answer). Taken C (statusOf C m) e (statusWith z (v .next)) b) q S in
-      (T, numbered P T ∙ c)
+      (T, numbered C A m e P T ∙ c)
 
   -- a round opens
   pub taken-anew : (n : ℕ) (a : Answer) → So accepts → v .next .at ≡ opening C (v .next .tally .now)

@@ -15,7 +15,8 @@ use Rattle.claims.specs.Examples.{chartU}
 use Rattle.witness_rounds.specs.Charts.{chartA, chartB}
 use Rattle.witness_rounds.specs.Rounds.{valueOf, U, A, B, RoundShown, roundU, keptA, droppedA, brokenA, keptB, droppedB, brokenB}
 use Rattle.witness_rounds.proofs.Computing.{computing}
-use Rattle.witness_rounds.proofs.Laws.{unplaceable, caseFor, accepts, taken-anew, taken-at}
+use Rattle.runs.proofs.Taking.{unplaceable, caseFor}
+use Rattle.witness_rounds.proofs.Laws.{accepts, taken-anew, taken-at}
 
 pub read-u : readChart chartU ≡ acceptedAs (valueOf chartU)
 unfolding computing

@@ -7,7 +7,7 @@ use Prim.Native.Nat.{ℕ}
 use native.Mathlib.Omega.{arith}
 use Rattle.base.specs.Lists.{Snoc, ε, _▸_}
 use Rattle.rounds.specs.Rows.{LogRecord, Row, stands, plain, Lawful, LawfulButLast, PrechartDone}
-use Rattle.rounds.specs.Feeds.{timeFalls, noReadyRegion, dropped, broken, behindBreak, Ends, unplaced-main, unplaced-prechart, refused, toldDropped, toldBroken, entered, moved, quiet, Onward, completes-prechart, fires, stays, refuses, runs-on, ends, again, Fed, none-yet, one-more}
+use Rattle.rounds.specs.Feeds.{timeFalls, noReadyRegion, dropped, broken, Ends, unplaced-main, unplaced-prechart, toldDropped, toldBroken, entered, moved, quiet, Onward, completes-prechart, fires, stays, refuses, runs-on, ends, again, none-yet, one-more}
 use Rattle.rounds.specs.Machine.{after}
 use Rattle.rounds.proofs.Endings.{unlawful}
 use Rattle.rounds.proofs.Tested.{lawful-tested, no-region}
@@ -17,9 +17,10 @@ use Rattle.runs.proofs.Prompts.{synchronizes, advances, terminates, delays, goe
 use Rattle.chart_value.specs.Records.{logRecord, logged}
 use Rattle.witness_rounds.specs.Charts.{passed, undo, headings, references, ask, pass, answer}
 use Rattle.witness_rounds.specs.Rounds.{U, A, configOf, statusAs, TakenBy}
-use Rattle.witness_rounds.specs.Witnesses.{Unplaced, StepBy, TurnOf}
+use Rattle.witness_rounds.specs.Witnesses.{Unplaced, StepBy, TurnOf, FiveFed}
 use Rattle.witness_rounds.proofs.Computing.{computing}
-use Rattle.witness_rounds.proofs.Laws.{wait-is, successor-is, ready-at, rests-at, next-at, unplaceable, caseFor, accepts, taken-anew, taken-at, turn-at}
+use Rattle.runs.proofs.Taking.{unplaceable, caseFor}
+use Rattle.witness_rounds.proofs.Laws.{wait-is, successor-is, ready-at, rests-at, next-at, accepts, taken-anew, taken-at, turn-at}
 use Rattle.witness_rounds.proofs.Logs.{accepted-u, accepted-a}
 
 -- after an opening of chart U: nothing, undo at 100, and undo again at 110
@@ -74,13 +75,7 @@ row-moved = fires (omega arith) (λ h. done)
 pub row-quiet : Onward U (ε ▸ 0) (ε ▸ 0) quiet
 row-quiet = stays refl
 
-pub five-fed : Fed U
-    (logged (ε ▸ headings 5 ▸ undo 100 ▸ headings 99 ▸ undo 110 ▸ references 120))
-    (ε ▸ toldDropped ▸ entered ▸ refused timeFalls ▸ toldBroken 3 noReadyRegion ▸ toldBroken 3 noReadyRegion)
-    (logged (ε ▸ headings 5 ▸ undo 100 ▸ undo 110))
-    (ε ▸ record { opening = 0; records = logged (ε ▸ headings 5); outcome = dropped }
-    ▸ record { opening = 5; records = logged (ε ▸ undo 100 ▸ undo 110); outcome = broken noReadyRegion })
-    (behindBreak noReadyRegion)
+pub five-fed : FiveFed
 unfolding computing
 five-fed =
     let lacks = full-false U (stands (ε ▸ 0)) refl in

@@ -32,6 +32,16 @@ StepBy C i x u z = (a : Advance C x u z) × (by C a ≡ some i)
 abbrev pub TurnOf : Chart → Snoc Record → Record → ℕ → Config → Type 0
 TurnOf C s e i z = Turn C (statusOf C (after C (logged s))) (logRecord e) i z
 
+-- five records fed: a stretch ends, one runs on, a record is refused, that stretch ends, and is answered again
+abbrev pub FiveFed : Type 0
+FiveFed = Fed U
+    (logged (ε ▸ headings 5 ▸ undo 100 ▸ headings 99 ▸ undo 110 ▸ references 120))
+    (ε ▸ toldDropped ▸ entered ▸ refused timeFalls ▸ toldBroken 3 noReadyRegion ▸ toldBroken 3 noReadyRegion)
+    (logged (ε ▸ headings 5 ▸ undo 100 ▸ undo 110))
+    (ε ▸ record { opening = 0; records = logged (ε ▸ headings 5); outcome = dropped }
+    ▸ record { opening = 5; records = logged (ε ▸ undo 100 ▸ undo 110); outcome = broken noReadyRegion })
+    (behindBreak noReadyRegion)
+
 pub record Witnesses : Type 0 where
   -- seven rounds, from bytes to rows; `Ends` by `complete`, `fails-cold` and `fails-hot`; `Taken` by cases 3, 4 and 5
   pub round-u : RoundShown roundU
@@ -48,14 +58,8 @@ pub record Witnesses : Type 0 where
   pub row-entered : Onward U ε (ε ▸ 0) entered
   pub row-moved : Onward U (ε ▸ 0) (ε ▸ 0 ▸ 2) moved
   pub row-quiet : Onward U (ε ▸ 0) (ε ▸ 0) quiet
-  -- `Fed` and `FedOne`: a stretch ends, one runs on, a record is refused, that stretch ends, and is answered again
-  pub five-fed : Fed U
-      (logged (ε ▸ headings 5 ▸ undo 100 ▸ headings 99 ▸ undo 110 ▸ references 120))
-      (ε ▸ toldDropped ▸ entered ▸ refused timeFalls ▸ toldBroken 3 noReadyRegion ▸ toldBroken 3 noReadyRegion)
-      (logged (ε ▸ headings 5 ▸ undo 100 ▸ undo 110))
-      (ε ▸ record { opening = 0; records = logged (ε ▸ headings 5); outcome = dropped }
-      ▸ record { opening = 5; records = logged (ε ▸ undo 100 ▸ undo 110); outcome = broken noReadyRegion })
-      (behindBreak noReadyRegion)
+  -- `Fed` and `FedOne`
+  pub five-fed : FiveFed
   -- `Advance`: time passes, region 0 has its message, region 2 advances, or terminates where its condition fails
   pub delays-by : Advance A initial (delay 10) (configOf ε (10 ∷ 10 ∷ []))
   pub synchronizes-by : StepBy A 0 (configOf ε (10 ∷ 10 ∷ [])) (message (A .key 0)) (configOf (ε ▸ 0) (0 ∷ 10 ∷ []))

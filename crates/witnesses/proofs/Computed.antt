@@ -8,7 +8,7 @@ use Rattle.bitset.specs.Set.{contains, single, inserted, union, isSubset, withi
 use Rattle.order.specs.Order.{isOver, gathered, aboveSets}
 use Rattle.condition.specs.Condition.{termsHold}
 use Rattle.chart_reader.specs.Read.{readChart, readFrom, advanceOf}
-use Rattle.chart_value.specs.WellFormed.{allBelow, isZeroTerm, termPlaced, termsFit, regionFits, isZeroRegion, touchedBefore, regionPlaced, wellFormed}
+use Rattle.chart_value.specs.WellFormed.{isZeroTerm, termPlaced, termsFit, regionFits, isZeroRegion, touchedBefore, regionPlaced, wellFormed}
 use Rattle.rounds.specs.Rows.{chartMessage, plain, values, opened}
 use Rattle.rounds.specs.Machine.{ready, readyFor, readyPlain, fire, unfired, settle, place, opening, full, prechartDone, goOn, keepRound, dropRound, breakRound, conclude, accept, feed, after}
 use Rattle.monitor.specs.Fit.{closedUpward, restsUnlessBroken, momentsFit, breakFits, countsFit, placeFits, fits}
@@ -27,7 +27,7 @@ use Rattle.witnesses.specs.Formats.{Prints, texts, LastRecord, Formats}
 
 -- every definition that the lines look into
 computed : Unit {0}
-unfolding contains single inserted union isSubset within isOver gathered aboveSets termsHold readChart readFrom advanceOf allBelow isZeroTerm termPlaced termsFit regionFits isZeroRegion touchedBefore regionPlaced wellFormed chartMessage plain values opened ready readyFor readyPlain fire unfired settle place opening full prechartDone goOn keepRound dropRound breakRound conclude accept feed after closedUpward restsUnlessBroken momentsFit breakFits countsFit placeFits fits feedOf recordsFrom recordsIn stepAt checkFrom checkLog standingOf judgeOf bytesOf digitsOf verdictLines refusalLine partsReport reportOf
+unfolding contains single inserted union isSubset within isOver gathered aboveSets termsHold readChart readFrom advanceOf isZeroTerm termPlaced termsFit regionFits isZeroRegion touchedBefore regionPlaced wellFormed chartMessage plain values opened ready readyFor readyPlain fire unfired settle place opening full prechartDone goOn keepRound dropRound breakRound conclude accept feed after closedUpward restsUnlessBroken momentsFit breakFits countsFit placeFits fits feedOf recordsFrom recordsIn stepAt checkFrom checkLog standingOf judgeOf bytesOf digitsOf verdictLines refusalLine partsReport reportOf
 computed = tt
 
 refusals-said : Each Says refusals

@@ -4,7 +4,7 @@ use mathlib.Core.Path.{_≡_}
 use native.Mathlib.Omega.{arith}
 use borrow.Author.Tests.{eq-eqb, ne-eqb}
 use Rattle.model.specs.Chart.{mostRegions}
-use Rattle.base.proofs.Joins.{AllSoFar, all-start, all-next, all-below}
+use Rattle.base.proofs.Loops.{AllSoFar, all-start, all-next, all-below}
 use Rattle.chart_image.specs.ChartImage.{regionPlace, regionFits, isImage}
 use Rattle.chart_image.proofs.is_image.Statement.{statement}
 use Rattle.chart_image.proofs.is_image.Tie as tie

@@ -11,38 +11,20 @@ cast-within c = search needs
 within-requires : tie.Need-within-requires
 within-requires c κs = search needs
 
-first-fault-requires : tie.Need-first-fault-requires
-first-fault-requires c κs = search needs
-
 with-resets-requires : tie.Need-with-resets-requires
 with-resets-requires c κs = search needs
 
-going-requires : tie.Need-going-requires
-going-requires c κs = search needs
-
-decide-requires : tie.Need-decide-requires
-decide-requires c κs = search needs
+answer-requires : tie.Need-answer-requires
+answer-requires c κs = search needs
 
 returns : tie.Need-returns
 returns c =
     rw (
-      c .decide .ensures,
-      c .before .going .ensures,
-      c .before .before .with-resets .ensures,
-      c .before .before .before .first-fault .ensures,
-      c .before .before .before .before .within .ensures,
-      c .before .before .before .before .before .before .before .before .no-fault .ensures,
+      c .answer .ensures,
+      c .before .with-resets .ensures,
+      c .before .before .within .ensures,
+      c .before .before .before .before .before .before .no-fault .ensures,
     )
 
 pub resets-step-spec : {M : Type 1} → statement M
-resets-step-spec =
-    tie.close
-    (tie.spec
-    no-fault-requires
-    cast-within
-    within-requires
-    first-fault-requires
-    with-resets-requires
-    going-requires
-    decide-requires
-    returns)
+resets-step-spec = tie.close (tie.spec no-fault-requires cast-within within-requires with-resets-requires answer-requires returns)

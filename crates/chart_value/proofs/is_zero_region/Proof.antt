@@ -5,15 +5,16 @@ use Prim.Native.Nat.{ℕ}
 use lib.Dec.{eqb}
 use borrow.Author.Needs.{needs}
 use borrow.Author.Tests.{eqb-true}
+use Rattle.base.specs.Lists.{allBelow}
 use Rattle.model.specs.declared.Region.{Region}
 use Rattle.model.specs.Chart.{mostTerms, termAt}
-use Rattle.chart_value.specs.WellFormed.{allBelow, isZeroTerm, termPlaced, termsFit, isZeroRegion}
+use Rattle.chart_value.specs.WellFormed.{isZeroTerm, termPlaced, termsFit, isZeroRegion}
 use Rattle.chart_value.proofs.is_zero_region.Statement.{statement}
 use Rattle.chart_value.proofs.is_zero_region.Tie as tie
 
 -- where no term is used, the terms fit exactly if all are zeros
-none-used : (g : Region) → g .«term_count» ≡ 0 → allBelow mostTerms (λ j. isZeroTerm (termAt g j)) ≡ termsFit 0 g
-unfolding termsFit allBelow termPlaced
+none-used : (g : Region) → g .count ≡ 0 → allBelow mostTerms (λ j. isZeroTerm (termAt g j)) ≡ termsFit 0 g
+unfolding termsFit termPlaced
 none-used g e = rw e
 
 -- only where n is 0 does the last test count
@@ -34,7 +35,7 @@ returns : tie.Need-returns
 unfolding isZeroRegion
 returns c =
     let g = c .before .before .before .before .before .args .g in
-    rw (c .before .before .before .before .is-zero-event .ensures, c .before .before .before .terms-zero .ensures, where-zero (g .«term_count») (not (g .hot)) (eqb (g .resets) 0) _ _ (none-used g))
+    rw (c .before .before .before .before .is-zero-event .ensures, c .before .before .before .terms-zero .ensures, where-zero (g .count) (not (g .hot)) (eqb (g .resets) 0) _ _ (none-used g))
 
 pub is-zero-region-spec : {M : Type 1} → statement M
 is-zero-region-spec = tie.close (tie.spec is-zero-event-requires terms-zero-requires returns)

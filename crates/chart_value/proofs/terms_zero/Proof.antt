@@ -1,22 +1,21 @@
+-- `chart_value::terms_zero` meets its contract: the places tested so far hold zeros. Assumes nothing.
 use borrow.Author.Needs.{needs}
 use native.Mathlib.Omega.{arith}
-use native.Mathlib.Numerals.{add-one}
 use Prim.Native.Nat.{_≤_, _-_}
-use mathlib.Core.Path.{_≡_, refl}
-use Rattle.chart_value.specs.WellFormed.{allBelow, isZeroTerm}
+use Rattle.chart_value.specs.WellFormed.{isZeroTerm}
+use Rattle.base.proofs.Loops.{AllSoFar, all-start, all-next, all-below}
 use Rattle.model.specs.Chart.{mostTerms, termAt}
 use Rattle.chart_value.proofs.terms_zero.Statement.{statement}
 use Rattle.chart_value.proofs.terms_zero.Tie as tie
 
 abbrev Inv-loop : tie.InvT-loop
-Inv-loop g ok₀ j₀ ok j = (j ≤ mostTerms) × (ok ≡ allBelow j (λ k. isZeroTerm (termAt g k)))
+Inv-loop g ok₀ j₀ ok j = (j ≤ mostTerms) × AllSoFar (λ k. isZeroTerm (termAt g k)) j ok
 
 abbrev μ-loop : tie.MeasureT-loop
 μ-loop g ok₀ j₀ ok j = mostTerms - j
 
 loop-holds : tie.Need-loop-holds Inv-loop μ-loop
-unfolding allBelow
-loop-holds c = (omega arith, refl)
+loop-holds c = (omega arith, all-start)
 
 mul-t : tie.Need-mul-t Inv-loop μ-loop
 mul-t c = search needs
@@ -34,13 +33,10 @@ loop-less : tie.Need-loop-less Inv-loop μ-loop
 loop-less c = search needs
 
 loop-again : tie.Need-loop-again Inv-loop μ-loop
-unfolding allBelow
-loop-again c = (omega arith, rw add-one (rw (c .is-zero-term .ensures, c .before .before .before .loop .inv .1) refl))
+loop-again c = (omega arith, all-next (c .before .before .before .loop .inv .1) (c .is-zero-term .ensures))
 
 returns : tie.Need-returns Inv-loop μ-loop
-returns c =
-    let e : c .before .loop .j ≡ mostTerms = omega arith in
-    rw (c .before .loop .inv .1, e)
+returns c = all-below mostTerms (c .before .loop .inv .1) (omega arith)
 
 pub terms-zero-spec : {M : Type 1} → statement M
 terms-zero-spec =

@@ -9,7 +9,7 @@ use borrow.Author.Tests.{eq-eqb, ne-eqb}
 use Rattle.model.specs.Chart.{mostRegions}
 use Rattle.layout.specs.View.{Covers}
 use Rattle.base.proofs.Loops.{one-passes, none-some}
-use Rattle.firing.proofs.Skips.{Run, run-of, run-grows, Skips, skips-start, not-first, skips-more, all-skipped, known-start, known-left}
+use Rattle.firing.proofs.Skips.{Run, run-of, run-less, Skips, skips-start, not-first, skips-more, all-skipped, known-start, known-left}
 use Rattle.firing.proofs.is_known.Statement.{statement}
 use Rattle.firing.proofs.is_known.Tie as tie
 
@@ -59,9 +59,7 @@ cast-i-2 : tie.Need-cast-i-2 Inv-loop μ-loop
 cast-i-2 c = search needs
 
 loop-less : tie.Need-loop-less Inv-loop μ-loop
-loop-less c =
-    let g = run-grows (c .before .before .before .before .before .loop .inv .0) (c .before .insert .ensures) (run-of (c .run2 .ensures)) in
-    omega (arith, g, c .before .before .before .before .loop-test .taken)
+loop-less c = run-less (c .before .before .before .before .before .loop .inv .0) (c .before .insert .ensures) (run-of (c .run2 .ensures)) (c .before .before .before .before .loop-test .taken)
 
 loop-again : tie.Need-loop-again Inv-loop μ-loop
 loop-again c =

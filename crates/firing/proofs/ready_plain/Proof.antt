@@ -10,7 +10,7 @@ use Rattle.model.specs.Chart.{mostRegions}
 use Rattle.layout.specs.View.{Within}
 use Rattle.firing.specs.Parts.{readyBy}
 use Rattle.base.proofs.Loops.{none-passes, first-passes}
-use Rattle.firing.proofs.Skips.{Run, run-of, run-grows, Skips, skips-start, not-first, skips-more, skipped, all-skipped, apart, ready-is, unready, plain-start}
+use Rattle.firing.proofs.Skips.{Run, run-of, run-less, Skips, skips-start, not-first, skips-more, skipped, all-skipped, apart, ready-is, unready, plain-start}
 use Rattle.firing.proofs.ready_plain.Statement.{statement}
 use Rattle.firing.proofs.ready_plain.Tie as tie
 
@@ -70,9 +70,7 @@ cast-i-2 : tie.Need-cast-i-2 Inv-loop μ-loop
 cast-i-2 c = search needs
 
 loop-less : tie.Need-loop-less Inv-loop μ-loop
-loop-less c =
-    let g = run-grows (c .before .before .before .before .before .before .loop .inv .0) (c .before .insert .ensures) (run-of (c .run2 .ensures)) in
-    omega (arith, g, c .before .before .before .before .before .loop-test .taken)
+loop-less c = run-less (c .before .before .before .before .before .before .loop .inv .0) (c .before .insert .ensures) (run-of (c .run2 .ensures)) (c .before .before .before .before .before .loop-test .taken)
 
 loop-again : tie.Need-loop-again Inv-loop μ-loop
 loop-again c =

@@ -4,7 +4,7 @@ use native.Mathlib.Omega.{arith}
 use borrow.Author.Needs.{needs}
 use lib.ListN.{getD}
 use Rattle.bitset.specs.Set.{contains, isSubset}
-use Rattle.base.proofs.Joins.{AllSoFar, all-start, all-next, all-below}
+use Rattle.base.proofs.Loops.{AllSoFar, all-start, all-next, all-below}
 use Rattle.monitor.proofs.closed_upward.Statement.{statement}
 use Rattle.monitor.proofs.closed_upward.Tie as tie
 

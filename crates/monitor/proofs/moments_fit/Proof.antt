@@ -7,7 +7,7 @@ use lib.Dec.{eqb, leb, ltb}
 use Rattle.model.specs.Chart.{mostClocks}
 use Rattle.firing.specs.Places.{momentsOf}
 use Rattle.monitor.specs.Fit.{momentsFit}
-use Rattle.base.proofs.Joins.{AllSoFar, all-start, all-next, all-below}
+use Rattle.base.proofs.Loops.{AllSoFar, all-start, all-next, all-below}
 use Rattle.monitor.proofs.moments_fit.Statement.{statement}
 use Rattle.monitor.proofs.moments_fit.Tie as tie
 

@@ -4,13 +4,13 @@ use mathlib.Core.Path.{_≡_}
 use lib.ListN.{length, length-set}
 use native.Mathlib.Omega.{arith}
 use borrow.Author.Needs.{needs}
+use Rattle.base.proofs.Filled.{Filled, filled-none, filled-next, filled-below}
 use Rattle.model.specs.Chart.{mostRegions, touchedAt}
-use Rattle.model.proofs.Filled.{Filled, filled-none, filled-next, filled-below}
 use Rattle.order.proofs.lines_of.Statement.{statement}
 use Rattle.order.proofs.lines_of.Tie as tie
 
 abbrev Inv-loop : tie.InvT-loop
-Inv-loop c lines₀ i₀ lines i = (i ≤ mostRegions) × (length lines ≡ mostRegions) × Filled (touchedAt c) i lines
+Inv-loop c lines₀ i₀ lines i = (i ≤ mostRegions) × (length lines ≡ mostRegions) × Filled 0 (touchedAt c) i lines
 
 abbrev μ-loop : tie.MeasureT-loop
 μ-loop c lines₀ i₀ lines i = mostRegions - i

@@ -4,9 +4,10 @@ use mathlib.Core.Path.{_≡_}
 use lib.ListN.{length, length-set}
 use native.Mathlib.Omega.{arith}
 use borrow.Author.Needs.{needs}
+use Rattle.base.proofs.Filled.{unfilled}
 use Rattle.model.specs.Chart.{mostRegions}
 use Rattle.plan.specs.Slots.{slotCount, Slotted}
-use Rattle.plan.proofs.Slots.{all-zero, slotted-none, slotted-next}
+use Rattle.plan.proofs.Slots.{slotted-none, slotted-next}
 use Rattle.plan.proofs.slots_of.Statement.{statement}
 use Rattle.plan.proofs.slots_of.Tie as tie
 
@@ -17,7 +18,7 @@ abbrev μ-loop : tie.MeasureT-loop
 μ-loop count keys slots₀ i₀ slots i = count - i
 
 loop-holds : tie.Need-loop-holds Inv-loop μ-loop
-loop-holds c = (omega arith, c .pre, search needs, slotted-none (all-zero slotCount))
+loop-holds c = (omega arith, c .pre, search needs, slotted-none (unfilled 0 slotCount))
 
 mul-slot-of : tie.Need-mul-slot-of Inv-loop μ-loop
 mul-slot-of c = search needs
