@@ -13,11 +13,11 @@ use lib.ListN.{length, getD}
 use Rattle.model.specs.declared.Chart.{Chart}
 use Rattle.model.specs.declared.Moment.{Moment}
 use Rattle.model.specs.declared.Record.{Record}
+use Rattle.model.specs.Answers.{mostRecords}
 use Rattle.chart_value.specs.Given.{Given}
 use Rattle.chart_value.specs.View.{chartOf}
 use Rattle.chart_value.specs.WellFormed.{wellFormed}
 use Rattle.base.specs.Lists.{Snoc, ε, _▸_, size}
-use Rattle.rounds.specs.Feeds.{mostRecords}
 use Rattle.rounds.specs.Machine.{after}
 use Rattle.base.proofs.Bools.{split}
 use Rattle.chart_value.specs.Records.{logged}

@@ -7,6 +7,7 @@ use Rattle.bitset.specs.Set.{contains}
 use Rattle.model.specs.declared.Chart.{Chart}
 use Rattle.model.specs.declared.Monitor.{Monitor}
 use Rattle.model.specs.declared.Record.{Record}
+use Rattle.model.specs.declared.Answer.{Answer}
 use Rattle.chart_reader.specs.declared.ChartRead.{ChartRead}
 use Rattle.chart_reader.specs.Read as read
 use Rattle.chart_reader.specs.Read.{readChart, acceptedAs}
@@ -17,7 +18,6 @@ use Rattle.chart_value.specs.Guards.{NeverFire}
 use Rattle.base.specs.Lists.{Snoc}
 use Rattle.rounds.specs.Demand3.{Demand3, Meaning}
 use Rattle.runs.specs.Demand2.{Demand2}
-use Rattle.stepping.specs.declared.Answer.{Answer}
 use Rattle.stepping.specs.Answers.{answerOf}
 use Rattle.stepping.specs.declared.Step.{Step}
 use Rattle.stepping.specs.Monitors.{monitorAt, stepOf}

@@ -14,9 +14,10 @@ use Rattle.model.specs.declared.Monitor.{Monitor}
 use Rattle.model.specs.declared.Record.{Record}
 use Rattle.model.specs.Chart.{mostRegions}
 use Rattle.model.specs.Monitor.{zeroMonitor}
+use Rattle.model.specs.Answers.{mostRecords}
 use Rattle.rounds.specs.Chart.{Chart as Abstract}
 use Rattle.rounds.specs.Rows.{LogRecord, chartMessage}
-use Rattle.rounds.specs.Feeds.{mostRecords, noReadyRegion, conditionFails, entered, moved, quiet}
+use Rattle.rounds.specs.Feeds.{noReadyRegion, conditionFails, entered, moved, quiet}
 use Rattle.rounds.specs.Machine.{Monitor as AbstractMonitor, Step as AbstractStep, Move, stuck, fails, rests, place, full, prechartDone, goOn, keepRound, dropRound, breakRound, conclude, accept, feed, after}
 use Rattle.base.proofs.Bools.{clash}
 use Rattle.log_reader.specs.declared.Next.the-variants.{Taken}

@@ -7,10 +7,10 @@ use lib.Dec.{leb, ltb}
 use Rattle.model.specs.declared.Moment.{Moment}
 use Rattle.model.specs.declared.Record.{Record}
 use Rattle.model.specs.declared.Record.the-variants.{Message, Time}
+use Rattle.model.specs.Answers.{timeFalls, tooManyRecords, mostRecords}
 use Rattle.log_reader.specs.Record.{nextAt, recordRefusalNumber}
 use Rattle.log_reader.specs.declared.Next.{Next}
 use Rattle.log_reader.specs.declared.Next.the-variants as next
-use Rattle.rounds.specs.Feeds.{timeFalls, tooManyRecords, mostRecords}
 use Rattle.judge.specs.declared.LogRefusal.{LogRefusal}
 use Rattle.judge.specs.declared.LogRefusal.the-variants.{NoRecord, TimeFalls, TooManyRecords}
 use Rattle.judge.specs.declared.Checked.{Checked}

@@ -4,20 +4,19 @@ use mathlib.Core.List.{List}
 use Prim.Native.Nat.{ℕ}
 use lib.Dec.{eqb}
 use Rattle.model.specs.declared.Chart.{Chart}
+use Rattle.model.specs.declared.Verdict.{Verdict}
+use Rattle.model.specs.Answers.{notAChart, zeroVerdict}
 use Rattle.chart_value.specs.WellFormed.{wellFormed}
 use Rattle.chart_value.specs.View.{chartOf}
 use Rattle.base.specs.Lists.{allBelow}
 use Rattle.rounds.specs.Chart.{Chart as Abstract}
 use Rattle.rounds.specs.Machine.{Monitor as AbstractMonitor, prechartDone, after}
-use Rattle.stepping.specs.declared.FeedRefusal.the-variants.{NotAChart}
-use Rattle.stepping.specs.Answers.{feedRefusalNumber}
 use Rattle.chart_value.specs.Records.{logged}
 use Rattle.log_reader.specs.Records.{recordsIn}
 use Rattle.judge.specs.declared.Checked.{Checked}
 use Rattle.judge.specs.declared.Checked.the-variants as checked
 use Rattle.judge.specs.declared.JudgeAnswer.{JudgeAnswer}
 use Rattle.judge.specs.declared.JudgeAnswer.the-variants.{Judged, NoChart, Refused}
-use Rattle.judge.specs.declared.Verdict.{Verdict}
 use Rattle.judge.specs.declared.Judgement.{Judgement}
 use Rattle.judge.specs.Check.{checkLog, logRefusalNumber}
 
@@ -52,9 +51,6 @@ verdictOf C m =
       reason = m .tally .broken .reason;
     }
 
-abbrev pub zeroVerdict : Verdict
-zeroVerdict = record { standing = 0; kept = 0; dropped = 0; records = 0; broken = 0; reason = 0 }
-
 -- What judging says: 0 and the verdict, or a refusal with its offset and zeros for the verdict.
 pub record Said : Type 0 where
   pub number : ℕ
@@ -64,7 +60,7 @@ pub record Said : Type 0 where
 -- the number and the offset of each answer
 abbrev pub numberOf : JudgeAnswer → ℕ
 numberOf Judged = 0
-numberOf NoChart = feedRefusalNumber NotAChart
+numberOf NoChart = notAChart
 numberOf (Refused k offset) = logRefusalNumber k
 
 abbrev pub offsetOf : JudgeAnswer → ℕ
@@ -84,5 +80,5 @@ byCheck c s (checked.Refused k offset) = record { number = logRefusalNumber k; o
 -- 20 at 0, then the faults of the log, all before a record is fed, then the verdict
 unfoldable pub judgeOf : Chart → List ℕ → Said
 judgeOf c s =
-    cond (not (wellFormed c)) (record { number = feedRefusalNumber NotAChart; offset = 0; verdict = zeroVerdict })
+    cond (not (wellFormed c)) (record { number = notAChart; offset = 0; verdict = zeroVerdict })
     (byCheck c s (checkLog s))

@@ -9,10 +9,10 @@ use Rattle.wire.specs.Bytes.{word16}
 use Rattle.log_reader.specs.Record.{messageByte}
 use Rattle.bitset.specs.Set.{contains}
 use Rattle.model.specs.declared.Monitor.{Monitor}
+use Rattle.model.specs.declared.Verdict.{Verdict}
 use Rattle.base.specs.Lists.{allBelow}
 use Rattle.judge.specs.declared.Checked.{Checked}
 use Rattle.judge.specs.declared.Checked.the-variants.{Fine, Refused}
-use Rattle.judge.specs.declared.Verdict.{Verdict}
 use Rattle.judge.specs.Judge.{broken, nothingFired, inPrechart, owed}
 
 -- the code of a message whose record stands at a place, 0 for any other record

@@ -14,18 +14,19 @@ use Rattle.model.specs.declared.Chart.{Chart}
 use Rattle.model.specs.declared.Monitor.{Monitor}
 use Rattle.model.specs.declared.Record.{Record}
 use Rattle.model.specs.Chart.{zeroChart}
+use Rattle.model.specs.declared.Answer.{Answer}
+use Rattle.model.specs.declared.Answer.the-variants.{Refused, Broken, Kept, Dropped, Entered, Moved, Quiet}
+use Rattle.model.specs.declared.FeedRefusal.the-variants.{NotAChart}
+use Rattle.model.specs.Answers.{mostRecords, feedRefusalNumber, answerNumber}
 use Rattle.rounds.specs.Chart.{Chart as Abstract}
 use Rattle.rounds.specs.Rows.{LogRecord}
-use Rattle.rounds.specs.Feeds.{mostRecords, refused, toldBroken}
+use Rattle.rounds.specs.Feeds.{refused, toldBroken}
 use Rattle.rounds.specs.Machine.{Monitor as AbstractMonitor, Step as AbstractStep, feed}
 use Rattle.stepping.proofs.Back.{Taken, accept-taken}
 use Rattle.chart_value.specs.View.{chartOf}
 use Rattle.monitor.specs.Fit.{fits}
-use Rattle.stepping.specs.declared.Answer.{Answer}
-use Rattle.stepping.specs.declared.Answer.the-variants.{Refused, Broken, Kept, Dropped, Entered, Moved, Quiet}
-use Rattle.stepping.specs.declared.FeedRefusal.the-variants.{NotAChart}
 use Rattle.stepping.specs.declared.Step.{Step}
-use Rattle.stepping.specs.Answers.{feedRefusalNumber, answerNumber, answerOf, isRefused, HandsBack}
+use Rattle.stepping.specs.Answers.{answerOf, isRefused, HandsBack}
 use Rattle.stepping.specs.Monitors.{monitorAt, stepOf}
 use Rattle.monitor.specs.Feed.{feedOf, refuse}
 use Rattle.chart_value.specs.Records.{logRecord}

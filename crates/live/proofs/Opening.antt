@@ -9,6 +9,7 @@ use lib.Dec.{eqb}
 use lib.ListN.{length, drop, length-append}
 use Rattle.model.specs.declared.Monitor.{Monitor}
 use Rattle.model.specs.Monitor.{zeroMonitor}
+use Rattle.model.specs.Answers.{tooShort}
 use Rattle.chart_step.specs.declared.Refusal.{Refusal}
 use Rattle.chart_step.specs.Refusal.{refusalNumber}
 use Rattle.chart_reader.specs.declared.ChartAnswer.{ChartAnswer}
@@ -20,7 +21,7 @@ use Rattle.text.proofs.Laws.{then, spelled}
 use Rattle.image.specs.Image.{monitorSize, monitorBytes, monitorIn, longBytes}
 use Rattle.image.proofs.Laws.{at-start, monitor-length}
 use Rattle.live.specs.declared.Opened.{Opened}
-use Rattle.live.specs.Live.{headSize, largest, liveSize, freshBytes, tooShort, openedBy, openedOf, bytesOpened, Holds}
+use Rattle.live.specs.Live.{headSize, largest, liveSize, freshBytes, openedBy, openedOf, bytesOpened, Holds}
 use Rattle.live.proofs.Charts.{chart-behind}
 use Rattle.chart_step.proofs.Numbers.{refusal-nonzero}
 

@@ -12,16 +12,16 @@ use Rattle.model.specs.declared.Monitor.{Monitor}
 use Rattle.model.specs.declared.Record.{Record}
 use Rattle.model.specs.Chart.{zeroChart}
 use Rattle.model.specs.Monitor.{zeroMonitor}
+use Rattle.model.specs.Answers.{tooShort, notAChart, notFit, answerNumber, zeroVerdict}
 use Rattle.chart_reader.specs.Read.{Said, readChart}
 use Rattle.chart_value.specs.WellFormed.{wellFormed}
 use Rattle.chart_value.specs.View.{chartOf}
 use Rattle.stepping.specs.declared.Step.{Step}
-use Rattle.stepping.specs.declared.FeedRefusal.the-variants.{NotAChart, Unfit}
-use Rattle.stepping.specs.Answers.{feedRefusalNumber, answerNumber, isRefused}
+use Rattle.stepping.specs.Answers.{isRefused}
 use Rattle.stepping.specs.Monitors.{monitorAt, stepOf}
 use Rattle.monitor.specs.Fit.{fits}
 use Rattle.monitor.specs.Feed.{feedOf}
-use Rattle.judge.specs.Judge.{verdictOf, zeroVerdict}
+use Rattle.judge.specs.Judge.{verdictOf}
 use Rattle.image.specs.Image.{monitorSize, monitorBytes, monitorIn, longBytes, word64}
 use Rattle.live.specs.declared.Opened.{Opened}
 use Rattle.live.specs.declared.LiveVerdict.{LiveVerdict}
@@ -59,10 +59,6 @@ liveSize n = cond (ltb (largest - headSize) n) largest (headSize + n)
 -- a fresh live monitor
 unfoldable pub freshBytes : List ℕ → List ℕ
 freshBytes chart = monitorBytes zeroMonitor ++ (longBytes (length chart) ++ chart)
-
--- a buffer with too few places
-abbrev pub tooShort : ℕ
-tooShort = 12
 
 -- Opening: the chart's refusal with its offset, 12 with the size that is wanted, or 0 with the size taken.
 abbrev pub openedBy : Said → ℕ → ℕ → Opened
@@ -106,13 +102,13 @@ pub record FedBy (c : Chart) (l : List ℕ) (e : Record) (number : ℕ) (n : Lis
 pub record Fed (l : List ℕ) (e : Record) (number : ℕ) (n : List ℕ) : Type 0 where
   pub by-chart : FedBy (chartIn l) l e number n
   pub chart : chartIn n ≡ chartIn l
-  pub none : (isLive l ≡ false) ↔ (number ≡ feedRefusalNumber NotAChart)
+  pub none : (isLive l ≡ false) ↔ (number ≡ notAChart)
 
 -- The standing of a monitor for a chart: 20, 21, or 0 and the verdict.
 abbrev pub standingBy : Chart → Monitor → LiveVerdict
 standingBy c m =
-    cond (not (wellFormed c)) (record { number = feedRefusalNumber NotAChart; verdict = zeroVerdict })
-    (cond (not (fits (chartOf c) m)) (record { number = feedRefusalNumber Unfit; verdict = zeroVerdict })
+    cond (not (wellFormed c)) (record { number = notAChart; verdict = zeroVerdict })
+    (cond (not (fits (chartOf c) m)) (record { number = notFit; verdict = zeroVerdict })
     (record { number = 0; verdict = verdictOf (chartOf c) (monitorAt m) }))
 
 unfoldable pub standingIn : List ℕ → LiveVerdict

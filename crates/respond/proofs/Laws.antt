@@ -5,6 +5,7 @@ use borrow.Author.Tests.{lt-ltb, le-ltb}
 use lib.ListN.{length}
 use Prim.Native.Nat.{ℕ, _≤_, _<_}
 use Rattle.model.specs.declared.Chart.{Chart}
+use Rattle.model.specs.declared.Verdict.{Verdict}
 use Rattle.chart_step.specs.declared.Refusal.{Refusal}
 use Rattle.chart_step.specs.declared.Refusal.the-variants as chart
 use Rattle.chart_step.specs.Refusal.{refusalNumber}
@@ -16,7 +17,6 @@ use Rattle.judge.specs.declared.LogRefusal.{LogRefusal}
 use Rattle.judge.specs.declared.LogRefusal.the-variants as log
 use Rattle.judge.specs.declared.JudgeAnswer.{JudgeAnswer}
 use Rattle.judge.specs.declared.JudgeAnswer.the-variants as judge
-use Rattle.judge.specs.declared.Verdict.{Verdict}
 use Rattle.judge.specs.Check.{logRefusalNumber}
 use Rattle.judge.specs.Judge as judge-specs
 use Rattle.listing.specs.declared.Part.the-variants as part

@@ -44,7 +44,7 @@ fn report_log(j: Judgement) -> Report
     let verdict = j.verdict;
     match answer {
         JudgeAnswer::Judged => Report::Judged(verdict),
-        JudgeAnswer::NoChart => Report::Refused(Part::Log, judge::NO_CHART, 0),
+        JudgeAnswer::NoChart => Report::Refused(Part::Log, model::NOT_A_CHART, 0),
         JudgeAnswer::Refused(k, offset) => {
             Report::Refused(Part::Log, judge::refusal_number(k), offset)
         }

@@ -6,19 +6,10 @@ use mathlib.Core.Option.{Option, none, some}
 use Prim.Native.Nat.{ℕ, suc, _<_}
 use lib.Dec.{ltb, leb}
 use Rattle.base.specs.Lists.{Snoc, ε, _▸_, size, keep}
+use Rattle.model.specs.Answers.{timeFalls, tooManyRecords, mostRecords}
 use Rattle.rounds.specs.Chart.{Chart}
 use Rattle.rounds.specs.Rows.{LogRecord, Row, stands, chartMessages, Lawful, NoRow, Full, PrechartDone}
 use Rattle.rounds.specs.Rows.{LawfulButLast, firstFailing}
-
--- N9: the refusals of a record, and how many records there can be
-abbrev pub timeFalls : ℕ
-timeFalls = 22
-
-abbrev pub tooManyRecords : ℕ
-tooManyRecords = 23
-
-abbrev pub mostRecords : ℕ
-mostRecords = 1000000
 
 -- T19, T21: the reasons of a break
 abbrev pub noReadyRegion : ℕ

@@ -6,6 +6,7 @@ use Prim.Native.Nat.{ℕ}
 use lib.ListN.{getD}
 use Rattle.model.specs.declared.Chart.{Chart}
 use Rattle.model.specs.declared.Record.{Record}
+use Rattle.model.specs.declared.Verdict.{Verdict}
 use Rattle.chart_reader.specs.Read.{readChart, acceptedAs}
 use Rattle.chart_value.specs.View.{chartOf}
 use Rattle.log_reader.specs.Records.{recordsIn}
@@ -18,7 +19,6 @@ use Rattle.rounds.specs.Machine.{after}
 use Rattle.runs.specs.Paper.{Config, initial}
 use Rattle.runs.specs.Taken.{Status, Taken, caseOf, statusOf}
 use Rattle.chart_value.specs.Records.{logRecord, logged}
-use Rattle.judge.specs.declared.Verdict.{Verdict}
 use Rattle.judge.specs.Judge.{judgeOf}
 use Rattle.claims.specs.Examples.{chartU}
 use Rattle.witness_rounds.specs.Charts.{chartA, chartB, undo, headings, references}
