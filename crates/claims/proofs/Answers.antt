@@ -13,7 +13,7 @@ use Rattle.chart_step.proofs.Numbers.{refusal-nonzero, refusal-injective}
 use Rattle.chart_reader.specs.declared.ChartAnswer.{ChartAnswer}
 use Rattle.chart_reader.specs.declared.ChartAnswer.the-variants as chart
 use Rattle.chart_reader.specs.declared.ChartRead.{ChartRead}
-use Rattle.chart_reader.specs.Read as read
+use Rattle.chart_reader.specs.Said as read
 use Rattle.stepping.specs.Answers.{answerOf}
 use Rattle.log_reader.specs.declared.RecordRefusal.{RecordRefusal}
 use Rattle.log_reader.specs.declared.RecordRefusal.the-variants.{CutShort, UnknownByte}
@@ -22,7 +22,7 @@ use Rattle.judge.specs.declared.LogRefusal.the-variants as log
 use Rattle.judge.specs.declared.JudgeAnswer.{JudgeAnswer}
 use Rattle.judge.specs.declared.JudgeAnswer.the-variants as judged
 use Rattle.judge.specs.declared.Judgement.{Judgement}
-use Rattle.judge.specs.Judge as judge
+use Rattle.judge.specs.Verdict as judge
 use Rattle.claims.specs.Claims.{AnswersTell}
 
 same-answer : (x y : ChartAnswer) → read.numberOf x ≡ read.numberOf y → read.offsetOf x ≡ read.offsetOf y → x ≡ y

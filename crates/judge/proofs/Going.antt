@@ -21,7 +21,7 @@ use Rattle.rounds.specs.Feeds.{noReadyRegion, conditionFails, entered, moved, q
 use Rattle.rounds.specs.Machine.{Monitor as AbstractMonitor, Step as AbstractStep, Move, stuck, fails, rests, place, full, prechartDone, goOn, keepRound, dropRound, breakRound, conclude, accept, feed, after}
 use Rattle.base.proofs.Bools.{clash}
 use Rattle.log_reader.specs.declared.Next.the-variants.{Taken}
-use Rattle.log_reader.specs.Record.{nextAt}
+use Rattle.log_reader.specs.Next.{nextAt}
 use Rattle.log_reader.specs.Records.{recordsIn}
 use Rattle.log_reader.proofs.Places.{at-end, taken-past}
 use Rattle.stepping.specs.declared.Step.{Step}
@@ -33,7 +33,8 @@ use Rattle.chart_value.specs.Records.{logged}
 use Rattle.judge.specs.declared.LogRefusal.the-variants.{TimeFalls, TooManyRecords}
 use Rattle.judge.specs.declared.Checked.the-variants.{Refused}
 use Rattle.judge.specs.declared.CheckStep.the-variants.{Over}
-use Rattle.judge.specs.Check.{checkLog, stepAt, stepBy, takeRecord, timeOf}
+use Rattle.judge.specs.Check.{checkLog, stepAt, stepBy, takeRecord}
+use Rattle.judge.specs.Verdict.{timeOf}
 use Rattle.judge.specs.Parts.{isFine}
 use Rattle.judge.proofs.Laws.{Left, left-first, left-step, left-going}
 use Rattle.judge.proofs.Fed.{SoFar, at-start, fed-one, fed-none, fed-end}

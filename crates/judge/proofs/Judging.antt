@@ -24,7 +24,8 @@ use Rattle.judge.specs.declared.Checked.the-variants as checked
 use Rattle.judge.specs.declared.JudgeAnswer.the-variants.{Judged, NoChart, Refused}
 use Rattle.judge.specs.declared.Judgement.{Judgement}
 use Rattle.judge.specs.Check.{checkLog}
-use Rattle.judge.specs.Judge.{verdictOf, said, judgeOf}
+use Rattle.judge.specs.Judge.{judgeOf}
+use Rattle.judge.specs.Verdict.{verdictOf, said}
 use Rattle.judge.specs.Parts.{verdictBy}
 use Rattle.judge.proofs.Fed.{verdict-same}
 

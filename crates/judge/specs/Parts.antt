@@ -13,7 +13,7 @@ use Rattle.model.specs.declared.Verdict.{Verdict}
 use Rattle.base.specs.Lists.{allBelow}
 use Rattle.judge.specs.declared.Checked.{Checked}
 use Rattle.judge.specs.declared.Checked.the-variants.{Fine, Refused}
-use Rattle.judge.specs.Judge.{broken, nothingFired, inPrechart, owed}
+use Rattle.judge.specs.Verdict.{broken, nothingFired, inPrechart, owed}
 
 -- the code of a message whose record stands at a place, 0 for any other record
 abbrev pub codeAt : List ℕ → ℕ → ℕ

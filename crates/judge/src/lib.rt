@@ -23,8 +23,9 @@ ghost use Rattle.chart_value.specs.View.{chartOf};
 ghost use Rattle.stepping.specs.Monitors.{monitorAt};
 ghost use Rattle.chart_value.specs.Records.{logged};
 ghost use Rattle.log_reader.specs.Records.{recordsIn};
-ghost use Rattle.judge.specs.Check.{logRefusalNumber, timeOf, takeRecord, stepAt, checkLog};
-ghost use Rattle.judge.specs.Judge.{said, judgeOf};
+ghost use Rattle.judge.specs.Check.{takeRecord, stepAt, checkLog};
+ghost use Rattle.judge.specs.Verdict.{logRefusalNumber, timeOf, said};
+ghost use Rattle.judge.specs.Judge.{judgeOf};
 ghost use Rattle.judge.specs.Parts.{codeAt, isFine, standingBy, verdictBy};
 
 // Why a log is refused.

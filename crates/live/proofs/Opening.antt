@@ -15,7 +15,8 @@ use Rattle.chart_step.specs.Refusal.{refusalNumber}
 use Rattle.chart_reader.specs.declared.ChartAnswer.{ChartAnswer}
 use Rattle.chart_reader.specs.declared.ChartAnswer.the-variants.{Accepted, Refused}
 use Rattle.chart_reader.specs.declared.ChartRead.{ChartRead}
-use Rattle.chart_reader.specs.Read.{Said, said, numberOf, offsetOf, readChart}
+use Rattle.chart_reader.specs.Read.{readChart}
+use Rattle.chart_reader.specs.Said.{Said, said, numberOf, offsetOf}
 use Rattle.text.specs.Text.{Wrote}
 use Rattle.text.proofs.Laws.{then, spelled}
 use Rattle.image.specs.Image.{monitorSize, monitorBytes, monitorIn, longBytes}

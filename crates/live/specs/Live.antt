@@ -13,7 +13,8 @@ use Rattle.model.specs.declared.Record.{Record}
 use Rattle.model.specs.Chart.{zeroChart}
 use Rattle.model.specs.Monitor.{zeroMonitor}
 use Rattle.model.specs.Answers.{tooShort, notAChart, notFit, answerNumber, zeroVerdict}
-use Rattle.chart_reader.specs.Read.{Said, readChart}
+use Rattle.chart_reader.specs.Read.{readChart}
+use Rattle.chart_reader.specs.Said.{Said}
 use Rattle.chart_value.specs.WellFormed.{wellFormed}
 use Rattle.chart_value.specs.View.{chartOf}
 use Rattle.stepping.specs.declared.Step.{Step}
@@ -21,7 +22,7 @@ use Rattle.stepping.specs.Answers.{isRefused}
 use Rattle.stepping.specs.Monitors.{monitorAt, stepOf}
 use Rattle.monitor.specs.Fit.{fits}
 use Rattle.monitor.specs.Feed.{feedOf}
-use Rattle.judge.specs.Judge.{verdictOf}
+use Rattle.judge.specs.Verdict.{verdictOf}
 use Rattle.image.specs.Image.{monitorSize, monitorBytes, monitorIn, longBytes, word64}
 use Rattle.live.specs.declared.Opened.{Opened}
 use Rattle.live.specs.declared.LiveVerdict.{LiveVerdict}

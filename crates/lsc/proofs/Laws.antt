@@ -9,7 +9,7 @@ use Rattle.model.specs.declared.Chart.{Chart}
 use Rattle.model.specs.Answers.{tooShort}
 use Rattle.model.specs.Numbers.{places}
 use Rattle.chart_step.specs.declared.Refusal.the-variants as refusal
-use Rattle.chart_reader.specs.Read.{Said}
+use Rattle.chart_reader.specs.Said.{Said}
 use Rattle.chart_value.specs.WellFormed.{wellFormed}
 use Rattle.log_reader.specs.declared.RecordRefusal.the-variants.{CutShort, UnknownByte}
 use Rattle.judge.specs.declared.LogRefusal.the-variants.{NoRecord, TimeFalls, TooManyRecords}

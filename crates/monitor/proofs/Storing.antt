@@ -33,7 +33,7 @@ use Rattle.stepping.specs.Answers.{answerOf}
 use Rattle.firing.specs.Places.{momentsOf}
 use Rattle.stepping.specs.Monitors.{monitorAt}
 use Rattle.stepping.proofs.Back.{Taken, accept-taken}
-use Rattle.monitor.specs.Feed.{Stored}
+use Rattle.monitor.specs.Stored.{Stored}
 
 -- the numbers below n that pass, as a set
 setOf : ℕ → (ℕ → Bool) → ℕ

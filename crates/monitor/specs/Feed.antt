@@ -1,12 +1,10 @@
--- Making a monitor and feeding it a record.
+-- Making a monitor and feeding it a record, as it is computed.
 use mathlib.Core.Path.{_≡_}
 use mathlib.Core.Bool.{cond, not}
-use Prim.Native.Nat.{ℕ, _<_, _^_}
-use lib.ListN.{length}
+use Prim.Native.Nat.{ℕ}
 use Rattle.model.specs.declared.Chart.{Chart}
 use Rattle.model.specs.declared.Monitor.{Monitor}
 use Rattle.model.specs.declared.Record.{Record}
-use Rattle.model.specs.Chart.{mostRegions, mostClocks}
 use Rattle.model.specs.Monitor.{zeroMonitor}
 use Rattle.model.specs.declared.FeedRefusal.{FeedRefusal}
 use Rattle.model.specs.declared.FeedRefusal.the-variants.{NotAChart, Unfit}
@@ -20,12 +18,8 @@ use Rattle.stepping.specs.Monitors.{monitorAt}
 use Rattle.monitor.specs.declared.MadeAnswer.{MadeAnswer}
 use Rattle.monitor.specs.declared.MadeAnswer.the-variants.{Fresh, NoChart}
 use Rattle.monitor.specs.declared.Made.{Made}
+use Rattle.monitor.specs.Stored.{Stored}
 use Rattle.monitor.specs.Fit.{fits}
-
--- what the types say of a monitor: 32 bits for the fired regions, eight places for the reset moments
-pub record Stored (m : Monitor) : Type 0 where
-  pub bits : m .at .fired < 2 ^ mostRegions
-  pub places : length (m .at .resets) ≡ mostClocks
 
 -- M8: 0 made, 20 no chart
 abbrev pub madeNumber : MadeAnswer → ℕ

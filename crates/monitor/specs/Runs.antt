@@ -14,7 +14,8 @@ use Rattle.rounds.specs.Machine.{Fit, feed, after, answers}
 use Rattle.stepping.specs.declared.Step.{Step}
 use Rattle.stepping.specs.Answers.{answerOf}
 use Rattle.stepping.specs.Monitors.{monitorAt, stepOf}
-use Rattle.monitor.specs.Feed.{Stored, feedOf}
+use Rattle.monitor.specs.Feed.{feedOf}
+use Rattle.monitor.specs.Stored.{Stored}
 use Rattle.chart_value.specs.Records.{logRecord, logged}
 
 -- W10: a list of feeds of one chart, each with the monitor of the feed before it. Each feed gives what its definition

@@ -32,7 +32,8 @@ ghost use Rattle.layout.specs.View.{planChart, Compiled};
 ghost use Rattle.firing.specs.Parts.{foundOf};
 ghost use Rattle.stepping.specs.Answers.{HandsBack};
 ghost use Rattle.monitor.specs.Fit.{isNone, momentsFit, breakFits, countsFit, placeFits, fits};
-ghost use Rattle.monitor.specs.Feed.{Stored, MadeOf, refuse, feedOf};
+ghost use Rattle.monitor.specs.Feed.{MadeOf, refuse, feedOf};
+ghost use Rattle.monitor.specs.Stored.{Stored};
 ghost use Rattle.chart_value.specs.Records.{logRecord};
 
 pub enum MadeAnswer {

@@ -7,7 +7,8 @@ use lib.ListN.{getD}
 use Rattle.model.specs.declared.Chart.{Chart}
 use Rattle.model.specs.declared.Record.{Record}
 use Rattle.model.specs.declared.Verdict.{Verdict}
-use Rattle.chart_reader.specs.Read.{readChart, acceptedAs}
+use Rattle.chart_reader.specs.Read.{readChart}
+use Rattle.chart_reader.specs.Said.{acceptedAs}
 use Rattle.chart_value.specs.View.{chartOf}
 use Rattle.log_reader.specs.Records.{recordsIn}
 use Rattle.base.specs.Lists.{Snoc, ε, _▸_}

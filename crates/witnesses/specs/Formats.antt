@@ -9,7 +9,8 @@ use Rattle.judge.specs.declared.LogRefusal.the-variants as log
 use Rattle.judge.specs.declared.Checked.the-variants as checked
 use Rattle.judge.specs.declared.CheckStep.{CheckStep}
 use Rattle.judge.specs.declared.CheckStep.the-variants as check
-use Rattle.judge.specs.Check.{logRefusalNumber, stepAt}
+use Rattle.judge.specs.Check.{stepAt}
+use Rattle.judge.specs.Verdict.{logRefusalNumber}
 use Rattle.text.specs.Text.{bytesOf}
 use Rattle.respond.specs.Respond.{textOf}
 use Rattle.witnesses.specs.Hex.{hex}
