@@ -3,13 +3,15 @@
 use Prim.Native.Nat.{ℕ, _+_, _-_}
 use mathlib.Core.Path.{_≡_}
 use mathlib.Core.Logic.{_↔_}
-use mathlib.Core.Bool.{Bool, false, cond, not, _&&_, _||_}
+use mathlib.Core.Bool.{Bool, true, false, cond, not, _&&_, _||_}
 use mathlib.Core.List.{List, _++_}
 use lib.Dec.{eqb, leb, ltb}
 use lib.ListN.{length, take, drop}
 use Rattle.model.specs.declared.Chart.{Chart}
 use Rattle.model.specs.declared.Monitor.{Monitor}
 use Rattle.model.specs.declared.Record.{Record}
+use Rattle.model.specs.declared.Answer.{Answer}
+use Rattle.model.specs.declared.Answer.the-variants.{Refused, Broken, Kept, Dropped, Entered, Moved, Quiet}
 use Rattle.model.specs.Chart.{zeroChart}
 use Rattle.model.specs.Monitor.{zeroMonitor}
 use Rattle.model.specs.Answers.{tooShort, notAChart, notFit, answerNumber, zeroVerdict}
@@ -18,7 +20,6 @@ use Rattle.chart_reader.specs.Said.{Said}
 use Rattle.chart_value.specs.WellFormed.{wellFormed}
 use Rattle.chart_value.specs.View.{chartOf}
 use Rattle.stepping.specs.declared.Step.{Step}
-use Rattle.stepping.specs.Answers.{isRefused}
 use Rattle.stepping.specs.Monitors.{monitorAt, stepOf}
 use Rattle.monitor.specs.Fit.{fits}
 use Rattle.monitor.specs.Feed.{feedOf}
@@ -81,11 +82,21 @@ pub record Holds (chart l : List ℕ) : Type 0 where
   pub chart-read : chartIn l ≡ readChart chart .chart
   pub fresh : monitorIn l ≡ zeroMonitor
 
--- V11: the bytes after a feed, as they were where it was refused or the monitor is broken already, else the monitor
--- handed back, and all other bytes as they were.
+-- whether the answer is a refusal, and whether the monitor is broken
+abbrev pub isRefused : Answer → Bool
+isRefused (Refused k) = true
+isRefused (Broken n k) = false
+isRefused Kept = false
+isRefused Dropped = false
+isRefused Entered = false
+isRefused Moved = false
+isRefused Quiet = false
+
 abbrev pub isBroken : Monitor → Bool
 isBroken m = not (eqb (m .tally .broken .at) 0)
 
+-- V11: the bytes after a feed, as they were where it was refused or the monitor is broken already, else the monitor
+-- handed back, and all other bytes as they were.
 unfoldable pub bytesFed : List ℕ → Step → List ℕ
 bytesFed l s = cond (isRefused (s .answer) || isBroken (monitorIn l)) l (monitorBytes (s .next) ++ drop monitorSize l)
 

@@ -13,10 +13,9 @@ ghost use lib.ListN.{length};
 ghost use Rattle.model.specs.Answers.{feedRefusalNumber, zeroVerdict};
 ghost use Rattle.text.specs.Text.{Wrote};
 ghost use Rattle.base.specs.Lists.{ε};
-ghost use Rattle.stepping.specs.Answers.{isRefused};
 ghost use Rattle.image.specs.Image.{monitorSize};
 ghost use Rattle.live.specs.Live.{headSize, chartIn, liveSize, freshBytes, openedOf, bytesOpened, Holds};
-ghost use Rattle.live.specs.Live.{FedBy, Fed, standingBy, standingIn};
+ghost use Rattle.live.specs.Live.{isRefused, FedBy, Fed, standingBy, standingIn};
 ghost use Rattle.live.specs.Runs.{LiveRun, RunsOn, LiveClaims};
 
 // The monitor's image and the chart's length.

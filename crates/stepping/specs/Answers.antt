@@ -1,8 +1,8 @@
 -- The answers of a feed: the same answers over an abstract chart, and which of them hand the monitor back.
 use mathlib.Core.Path.{_≡_}
 use mathlib.Core.Logic.{_≢_}
-use mathlib.Core.Bool.{Bool, true, false, So}
 use Rattle.model.specs.declared.Monitor.{Monitor}
+use Rattle.model.specs.declared.FeedRefusal.{FeedRefusal}
 use Rattle.model.specs.declared.Answer.{Answer}
 use Rattle.model.specs.declared.Answer.the-variants.{Refused, Broken, Kept, Dropped, Entered, Moved, Quiet}
 use Rattle.model.specs.Answers.{feedRefusalNumber}
@@ -19,16 +19,7 @@ answerOf Entered = entered
 answerOf Moved = moved
 answerOf Quiet = quiet
 
-abbrev pub isRefused : Answer → Bool
-isRefused (Refused k) = true
-isRefused (Broken n k) = false
-isRefused Kept = false
-isRefused Dropped = false
-isRefused Entered = false
-isRefused Moved = false
-isRefused Quiet = false
-
 -- M14: with a refusal, and with a broken monitor's answer, every field of the monitor is handed back
 pub record HandsBack (m : Monitor) (r : Step) : Type 0 where
-  pub refused : So (isRefused (r .answer)) → r .next ≡ m
+  pub refused : (k : FeedRefusal) → r .answer ≡ Refused k → r .next ≡ m
   pub broken : m .tally .broken .at ≢ 0 → r .next ≡ m
