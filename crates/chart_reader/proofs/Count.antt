@@ -18,7 +18,8 @@ use Rattle.chart_step.specs.declared.Fault.the-variants.{Nothing, Found}
 use Rattle.chart_step.specs.declared.Outcome.{Outcome}
 use Rattle.chart_step.specs.declared.Outcome.the-variants.{Going, Ended, Refused}
 use Rattle.chart_step.specs.Reading.{faultOf, decided, applied, outcomeOf}
-use Rattle.chart_reader.specs.Read.{Said, readFrom, readChart, startReading, continueBy, advanceOf, advanceBy}
+use Rattle.chart_reader.specs.Read.{readFrom, readChart, startReading, continueBy, advanceOf, advanceBy}
+use Rattle.chart_reader.specs.Said.{Said}
 
 -- where an outcome goes on, it goes on past a place, and not past the end
 Past : ℕ → ℕ → Outcome → Type 0

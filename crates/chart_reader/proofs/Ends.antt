@@ -8,7 +8,8 @@ use Rattle.chart_step.specs.declared.Outcome.{Outcome}
 use Rattle.chart_step.specs.declared.Outcome.the-variants.{Going, Ended, Refused}
 use Rattle.chart_step.specs.declared.Refusal.{Refusal}
 use Rattle.chart_step.specs.declared.Refusal.the-variants.{CutShort}
-use Rattle.chart_reader.specs.Read.{Said, acceptedAs, refusedFor, readChart, readFrom, continueBy, advanceOf, startReading}
+use Rattle.chart_reader.specs.Read.{readChart, readFrom, continueBy, advanceOf, startReading}
+use Rattle.chart_reader.specs.Said.{Said, acceptedAs, refusedFor}
 
 -- accepted, or refused with a chart of zeros
 pub data Reads : Said → Type 0 where

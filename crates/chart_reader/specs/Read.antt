@@ -4,46 +4,17 @@ use mathlib.Core.Bool.{false}
 use mathlib.Core.List.{List}
 use lib.Dec.{ltb}
 use lib.ListN.{length}
-use Rattle.model.specs.declared.Chart.{Chart}
 use Rattle.model.specs.Chart.{zeroRegion, zeroChart}
 use Rattle.chart_command.specs.declared.Decoded.{Decoded}
 use Rattle.chart_command.specs.declared.Decoded.the-variants as decoded
 use Rattle.chart_command.specs.Command.{decodeAt}
-use Rattle.chart_step.specs.declared.Refusal.{Refusal}
 use Rattle.chart_step.specs.declared.Refusal.the-variants.{CutShort, UnknownCommand}
 use Rattle.chart_step.specs.declared.Reading.{Reading}
 use Rattle.chart_step.specs.declared.Step.{Step}
 use Rattle.chart_step.specs.declared.Outcome.{Outcome}
 use Rattle.chart_step.specs.declared.Outcome.the-variants.{Going, Ended, Refused}
-use Rattle.chart_step.specs.Refusal.{refusalNumber}
 use Rattle.chart_step.specs.Reading.{stepOf}
-use Rattle.chart_reader.specs.declared.ChartAnswer.{ChartAnswer}
-use Rattle.chart_reader.specs.declared.ChartAnswer.the-variants as answer
-use Rattle.chart_reader.specs.declared.ChartRead.{ChartRead}
-
--- R3: what reading says; with a refusal the chart is zeros, without one the offset is 0
-pub record Said : Type 0 where
-  pub number : ℕ
-  pub offset : ℕ
-  pub chart : Chart
-
-abbrev pub acceptedAs : Chart → Said
-acceptedAs c = record { number = 0; offset = 0; chart = c }
-
-abbrev pub refusedFor : Refusal → ℕ → Said
-refusedFor refusal offset = record { number = refusalNumber refusal; offset = offset; chart = zeroChart }
-
--- the number and the offset of each answer
-abbrev pub numberOf : ChartAnswer → ℕ
-numberOf answer.Accepted = 0
-numberOf (answer.Refused refusal offset) = refusalNumber refusal
-
-abbrev pub offsetOf : ChartAnswer → ℕ
-offsetOf answer.Accepted = 0
-offsetOf (answer.Refused refusal offset) = offset
-
-abbrev pub said : ChartRead → Said
-said r = record { number = numberOf (r .answer); offset = offsetOf (r .answer); chart = r .chart }
+use Rattle.chart_reader.specs.Said.{Said, acceptedAs, refusedFor}
 
 -- before the first command
 abbrev pub startReading : Reading

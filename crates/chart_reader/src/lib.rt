@@ -8,7 +8,8 @@ use model::Chart;
 ghost use mathlib.Core.Path.{_≡_};
 ghost use Prim.Native.Nat.{ℕ, _<_};
 ghost use lib.ListN.{length};
-ghost use Rattle.chart_reader.specs.Read.{startReading, advanceOf, acceptedAs, refusedFor, said, readFrom};
+ghost use Rattle.chart_reader.specs.Read.{startReading, advanceOf, readFrom};
+ghost use Rattle.chart_reader.specs.Said.{acceptedAs, refusedFor, said};
 ghost use Rattle.chart_reader.specs.Read.{readChart};
 
 pub enum ChartAnswer {

@@ -23,7 +23,8 @@ use Rattle.chart_step.specs.declared.Fault.the-variants.{Nothing}
 use Rattle.chart_step.specs.declared.Outcome.the-variants.{Going, Ended}
 use Rattle.chart_step.specs.Reading.{faultOf, decided, applied, outcomeOf, withTerm}
 use Rattle.model.specs.declared.Left.the-variants.{Clock, Difference}
-use Rattle.chart_reader.specs.Read.{Said, acceptedAs, readFrom, continueBy, advanceOf, advanceBy, readChart, startReading}
+use Rattle.chart_reader.specs.Read.{readFrom, continueBy, advanceOf, advanceBy, readChart, startReading}
+use Rattle.chart_reader.specs.Said.{Said, acceptedAs}
 use Rattle.chart_value.specs.Writer.{two, four}
 
 pub in-two : (n : ℕ) → n / 256 * 256 + n % 256 ≡ n

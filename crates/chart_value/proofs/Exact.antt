@@ -9,7 +9,8 @@ use denote.Laws.{Is}
 use denote.Struct.Declared.{row}
 use Rattle.model.proofs.Chart as chart
 use Rattle.model.specs.declared.Chart.{Chart}
-use Rattle.chart_reader.specs.Read.{readChart, acceptedAs}
+use Rattle.chart_reader.specs.Read.{readChart}
+use Rattle.chart_reader.specs.Said.{acceptedAs}
 use Rattle.chart_value.specs.WellFormed.{wellFormed}
 use Rattle.chart_value.specs.Writer.{chartBytes}
 use Rattle.chart_value.specs.Given.{Given}

@@ -19,7 +19,8 @@ use Rattle.chart_step.specs.declared.Refusal.the-variants.{CutShort, OutOfPlace
 use Rattle.chart_step.specs.declared.Outcome.{Outcome}
 use Rattle.chart_step.specs.declared.Outcome.the-variants.{Going, Ended, Refused}
 use Rattle.chart_step.specs.Reading.{faultOf, outOfRange, closingFault}
-use Rattle.chart_reader.specs.Read.{Said, acceptedAs, readChart, readFrom, continueBy, advanceOf, startReading}
+use Rattle.chart_reader.specs.Read.{readChart, readFrom, continueBy, advanceOf, startReading}
+use Rattle.chart_reader.specs.Said.{Said, acceptedAs}
 use Rattle.chart_reader.proofs.Count.{any-count}
 use Rattle.chart_value.specs.Guards.{Reached, start, next, EndsAs, NeverFire}
 use Rattle.chart_value.proofs.Sound.{AfterBy, Ready, State, idle, busy, first-clear, clear, advance-keeps, never}

@@ -30,7 +30,8 @@ use Rattle.chart_step.specs.declared.Reading.{Reading}
 use Rattle.chart_step.specs.declared.Fault.the-variants.{Nothing}
 use Rattle.chart_step.specs.declared.Refusal.the-variants.{BareRegion, HotWithoutTerm}
 use Rattle.chart_step.specs.Reading.{firstFault, closingFault, closed, orElse, when, withTerm, relationOf, relationCount, begunWith, withMain, withHeading}
-use Rattle.chart_reader.specs.Read.{Said, acceptedAs, readChart, startReading}
+use Rattle.chart_reader.specs.Read.{readChart, startReading}
+use Rattle.chart_reader.specs.Said.{Said, acceptedAs}
 use Rattle.chart_value.specs.WellFormed.{wellFormed, eventFits, leftFits, touchedBefore}
 use Rattle.chart_value.specs.Writer.{chartBytes, regionsBytes, regionBytes, eventBytes, termsBytes, leftBytes, hotBytes, relationByte, four}
 use Rattle.bitset.specs.Set.{union, within}

@@ -19,7 +19,8 @@ use Rattle.model.specs.declared.Event.the-variants as event
 use Rattle.model.specs.Chart.{zeroRegion, regionAt, touchedAt}
 use Rattle.order.specs.Above.{AboveIn, halves, first}
 use Rattle.order.proofs.Laws.{decides}
-use Rattle.chart_reader.specs.Read.{readChart, acceptedAs}
+use Rattle.chart_reader.specs.Read.{readChart}
+use Rattle.chart_reader.specs.Said.{acceptedAs}
 use Rattle.rounds.specs.Chart.{Accepted}
 use Rattle.chart_value.specs.Given.{Given}
 use Rattle.chart_value.specs.View.{keyOf, regionOf, chartOf, Shown, CodesTell}

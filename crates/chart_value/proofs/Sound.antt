@@ -39,7 +39,8 @@ use Rattle.chart_step.specs.declared.Refusal.{Refusal}
 use Rattle.chart_step.specs.declared.Refusal.the-variants.{CutShort, OutOfPlace, OutOfRange, NoRoom, BareRegion, HotWithoutTerm, HotInPrechart, NoneAbove, NoMainRegion}
 use Rattle.chart_step.proofs.Numbers.{refusal-nonzero}
 use Rattle.chart_step.specs.Reading.{stepOf, faultOf, decided, applied, outcomeOf, closingFault, closed, orElse, when, withTerm, relationOf, begunWith, withRegion, withMain, withHeading, outOfRange, noneAbove, noMainRegion}
-use Rattle.chart_reader.specs.Read.{Said, acceptedAs, refusedFor, readChart, readFrom, continueBy, advanceOf, advanceBy, startReading}
+use Rattle.chart_reader.specs.Read.{readChart, readFrom, continueBy, advanceOf, advanceBy, startReading}
+use Rattle.chart_reader.specs.Said.{Said, acceptedAs, refusedFor}
 use Rattle.chart_value.specs.WellFormed.{wellFormed, placeFits, regionFits, eventFits, leftFits, touchedBefore, isZeroRegion}
 use Rattle.bitset.specs.Set.{union, within}
 use Rattle.base.proofs.Bools.{both, and-both, neither}

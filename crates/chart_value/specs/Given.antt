@@ -4,7 +4,8 @@ use mathlib.Core.List.{List}
 use Prim.Native.Nat.{ℕ, _<_}
 use lib.ListN.{length, getD}
 use Rattle.model.specs.declared.Chart.{Chart}
-use Rattle.chart_reader.specs.Read.{readChart, acceptedAs}
+use Rattle.chart_reader.specs.Read.{readChart}
+use Rattle.chart_reader.specs.Said.{acceptedAs}
 
 -- bytes, that is numbers below 256, are read as the chart
 pub record Given (c : Chart) : Type 0 where

@@ -12,7 +12,8 @@ use Rattle.chart_step.specs.declared.Reading.{Reading}
 use Rattle.chart_step.specs.declared.Fault.the-variants.{Nothing}
 use Rattle.chart_step.specs.declared.Outcome.the-variants.{Going, Ended}
 use Rattle.chart_step.specs.Reading.{faultOf}
-use Rattle.chart_reader.specs.Read.{advanceOf, startReading, readChart, acceptedAs}
+use Rattle.chart_reader.specs.Read.{advanceOf, startReading, readChart}
+use Rattle.chart_reader.specs.Said.{acceptedAs}
 
 -- the states that reading the bytes passes through, each with its place
 pub data Reached (s : List ℕ) : ℕ → Reading → Type 0 where

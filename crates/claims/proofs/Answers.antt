@@ -3,17 +3,18 @@ use mathlib.Core.Path.{_≡_, refl, sym, ap, _∙_}
 use mathlib.Core.Bool.{cond}
 use Prim.Native.Nat.{ℕ}
 use lib.Dec.{eqb}
+use Rattle.model.specs.declared.FeedRefusal.{FeedRefusal}
+use Rattle.model.specs.declared.FeedRefusal.the-variants.{NotAChart, Unfit, TimeFalls, TooManyRecords}
+use Rattle.model.specs.declared.Answer.{Answer}
+use Rattle.model.specs.declared.Answer.the-variants.{Refused, Broken, Kept, Dropped, Entered, Moved, Quiet}
+use Rattle.model.specs.Answers.{feedRefusalNumber}
 use Rattle.rounds.specs.Feeds.{Answer as Told, refused, toldBroken, toldKept, toldDropped, entered, moved, quiet}
 use Rattle.chart_step.proofs.Numbers.{refusal-nonzero, refusal-injective}
 use Rattle.chart_reader.specs.declared.ChartAnswer.{ChartAnswer}
 use Rattle.chart_reader.specs.declared.ChartAnswer.the-variants as chart
 use Rattle.chart_reader.specs.declared.ChartRead.{ChartRead}
-use Rattle.chart_reader.specs.Read as read
-use Rattle.stepping.specs.declared.FeedRefusal.{FeedRefusal}
-use Rattle.stepping.specs.declared.FeedRefusal.the-variants.{NotAChart, Unfit, TimeFalls, TooManyRecords}
-use Rattle.stepping.specs.declared.Answer.{Answer}
-use Rattle.stepping.specs.declared.Answer.the-variants.{Refused, Broken, Kept, Dropped, Entered, Moved, Quiet}
-use Rattle.stepping.specs.Answers.{feedRefusalNumber, answerOf}
+use Rattle.chart_reader.specs.Said as read
+use Rattle.stepping.specs.Answers.{answerOf}
 use Rattle.log_reader.specs.declared.RecordRefusal.{RecordRefusal}
 use Rattle.log_reader.specs.declared.RecordRefusal.the-variants.{CutShort, UnknownByte}
 use Rattle.log_reader.proofs.Told.{said-tells}
@@ -21,7 +22,7 @@ use Rattle.judge.specs.declared.LogRefusal.the-variants as log
 use Rattle.judge.specs.declared.JudgeAnswer.{JudgeAnswer}
 use Rattle.judge.specs.declared.JudgeAnswer.the-variants as judged
 use Rattle.judge.specs.declared.Judgement.{Judgement}
-use Rattle.judge.specs.Judge as judge
+use Rattle.judge.specs.Verdict as judge
 use Rattle.claims.specs.Claims.{AnswersTell}
 
 same-answer : (x y : ChartAnswer) → read.numberOf x ≡ read.numberOf y → read.offsetOf x ≡ read.offsetOf y → x ≡ y

@@ -9,7 +9,8 @@ use Rattle.rounds.specs.Rows.{chartMessage, plain, values, opened}
 use Rattle.rounds.specs.Machine.{ready, readyFor, readyPlain, fire, unfired, settle, place, opening, full, prechartDone, goOn, keepRound, dropRound, breakRound, conclude, accept, feed, after}
 use Rattle.log_reader.specs.Records.{recordsFrom, recordsIn}
 use Rattle.judge.specs.Check.{stepAt, checkFrom, checkLog}
-use Rattle.judge.specs.Judge.{standingOf, judgeOf}
+use Rattle.judge.specs.Judge.{judgeOf}
+use Rattle.judge.specs.Verdict.{standingOf}
 use Rattle.respond.specs.Respond.{partsReport}
 use Rattle.claims.specs.Examples.{examples, AllSaid}
 

@@ -14,11 +14,11 @@ use Rattle.model.specs.declared.Chart.{Chart}
 use Rattle.model.specs.declared.Moment.{Moment}
 use Rattle.model.specs.declared.Record.{Record}
 use Rattle.wire.proofs.Past.{inside}
+use Rattle.model.specs.Answers.{mostRecords}
 use Rattle.chart_value.specs.Given.{Given}
 use Rattle.chart_value.specs.View.{chartOf}
 use Rattle.chart_value.specs.WellFormed.{wellFormed}
 use Rattle.base.specs.Lists.{Snoc, ε, _▸_, size}
-use Rattle.rounds.specs.Feeds.{mostRecords}
 use Rattle.rounds.specs.Machine.{after}
 use Rattle.base.proofs.Bools.{split}
 use Rattle.chart_value.specs.Records.{logged}
@@ -27,7 +27,8 @@ use Rattle.log_reader.specs.declared.RecordRefusal.the-variants.{CutShort, Unkn
 use Rattle.log_reader.specs.declared.Next.{Next}
 use Rattle.log_reader.specs.declared.Next.the-variants as next
 use Rattle.log_reader.specs.Record as found
-use Rattle.log_reader.specs.Record.{recordRefusalNumber, messageByte, timeByte, messageSize, timeSize, messageAt, timeAt, nextAt, said}
+use Rattle.log_reader.specs.Record.{recordRefusalNumber, messageByte, timeByte, messageSize, timeSize, messageAt, timeAt, said}
+use Rattle.log_reader.specs.Next.{nextAt}
 use Rattle.log_reader.specs.Records.{recordsFrom, recordsIn}
 use Rattle.log_reader.proofs.Places.{taken-past}
 use Rattle.log_reader.proofs.Records.{one-record}
@@ -35,9 +36,10 @@ use Rattle.judge.specs.declared.LogRefusal.the-variants.{NoRecord, TimeFalls, T
 use Rattle.judge.specs.declared.Checked.{Checked}
 use Rattle.judge.specs.declared.Checked.the-variants as checked
 use Rattle.judge.specs.declared.CheckStep.the-variants.{Over, Going}
-use Rattle.judge.specs.Check.{timeOf, stepBy, stepAt, continueBy as checkOn, checkFrom, checkLog}
-use Rattle.judge.specs.Judge as judge
-use Rattle.judge.specs.Judge.{byCheck, judgeOf, verdictOf}
+use Rattle.judge.specs.Check.{stepBy, stepAt, continueBy as checkOn, checkFrom, checkLog}
+use Rattle.judge.specs.Verdict.{timeOf, verdictOf}
+use Rattle.judge.specs.Verdict as judge
+use Rattle.judge.specs.Judge.{byCheck, judgeOf}
 use Rattle.judge.proofs.Laws.{Left, left-first, left-step, left-going}
 use Rattle.claims.specs.Demand1.{Just, FindsAs, ends, unknown, message-cut, time-cut, message, time, Walk, start, step, JudgesAs, not-given, no-record, falls, overflows, judges}
 use Rattle.claims.proofs.Demand1.{given-not}

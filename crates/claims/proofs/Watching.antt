@@ -9,12 +9,13 @@ use Rattle.model.specs.declared.Monitor.{Monitor}
 use Rattle.model.specs.declared.Record.{Record}
 use Rattle.model.specs.Monitor.{zeroMonitor}
 use Rattle.chart_reader.specs.declared.ChartRead.{ChartRead}
-use Rattle.chart_reader.specs.Read.{Said, said, readChart, acceptedAs, numberOf, offsetOf}
+use Rattle.chart_reader.specs.Read.{readChart}
+use Rattle.chart_reader.specs.Said.{Said, said, acceptedAs, numberOf, offsetOf}
 use Rattle.chart_value.proofs.Shown.{shown-of, shown}
 use Rattle.chart_value.proofs.Sound.{sound}
 use Rattle.log_reader.specs.declared.RecordRefusal.{RecordRefusal}
 use Rattle.log_reader.specs.declared.Next.the-variants.{End, Refused, Taken}
-use Rattle.log_reader.specs.Record.{nextAt}
+use Rattle.log_reader.specs.Next.{nextAt}
 use Rattle.base.specs.Lists.{Snoc, ε, _▸_}
 use Rattle.rounds.specs.Feeds.{Answer as Told}
 use Rattle.rounds.specs.Machine.{after}

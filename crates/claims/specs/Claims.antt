@@ -7,9 +7,11 @@ use Rattle.bitset.specs.Set.{contains}
 use Rattle.model.specs.declared.Chart.{Chart}
 use Rattle.model.specs.declared.Monitor.{Monitor}
 use Rattle.model.specs.declared.Record.{Record}
+use Rattle.model.specs.declared.Answer.{Answer}
 use Rattle.chart_reader.specs.declared.ChartRead.{ChartRead}
-use Rattle.chart_reader.specs.Read as read
-use Rattle.chart_reader.specs.Read.{readChart, acceptedAs}
+use Rattle.chart_reader.specs.Said as read
+use Rattle.chart_reader.specs.Read.{readChart}
+use Rattle.chart_reader.specs.Said.{acceptedAs}
 use Rattle.chart_faults.specs.Claims.{Faults}
 use Rattle.chart_value.specs.Given.{Given}
 use Rattle.chart_value.specs.View.{chartOf, Shown, CodesTell}
@@ -17,7 +19,6 @@ use Rattle.chart_value.specs.Guards.{NeverFire}
 use Rattle.base.specs.Lists.{Snoc}
 use Rattle.rounds.specs.Demand3.{Demand3, Meaning}
 use Rattle.runs.specs.Demand2.{Demand2}
-use Rattle.stepping.specs.declared.Answer.{Answer}
 use Rattle.stepping.specs.Answers.{answerOf}
 use Rattle.stepping.specs.declared.Step.{Step}
 use Rattle.stepping.specs.Monitors.{monitorAt, stepOf}
@@ -27,7 +28,7 @@ use Rattle.log_reader.specs.Records.{recordsIn}
 use Rattle.monitor.specs.Runs.{Feeding, ViewTells}
 use Rattle.chart_value.specs.Records.{logged}
 use Rattle.judge.specs.declared.Judgement.{Judgement}
-use Rattle.judge.specs.Judge as judge
+use Rattle.judge.specs.Verdict as judge
 use Rattle.claims.specs.Demand1.{FindsAs, Walk}
 use Rattle.claims.specs.Judged.{JudgedBy}
 use Rattle.claims.specs.Examples.{examples, AllSaid}

@@ -8,7 +8,7 @@ use Rattle.base.specs.Lists.{Snoc}
 use Rattle.rounds.specs.Machine.{Monitor}
 use Rattle.rounds.specs.Demand3.{Meaning, Agrees}
 use Rattle.chart_value.specs.Records.{logged}
-use Rattle.judge.specs.Judge.{verdictOf}
+use Rattle.judge.specs.Verdict.{verdictOf}
 use Rattle.claims.specs.Demand1.{JudgesAs}
 
 -- the verdict is that of a monitor whose kept, dropped, records, break and fired regions are what the stretches give

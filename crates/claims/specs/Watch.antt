@@ -7,7 +7,8 @@ use Rattle.model.specs.declared.Chart.{Chart}
 use Rattle.model.specs.declared.Monitor.{Monitor}
 use Rattle.model.specs.declared.Record.{Record}
 use Rattle.model.specs.Monitor.{zeroMonitor}
-use Rattle.chart_reader.specs.Read.{readChart, acceptedAs, numberOf, offsetOf}
+use Rattle.chart_reader.specs.Read.{readChart}
+use Rattle.chart_reader.specs.Said.{acceptedAs, numberOf, offsetOf}
 use Rattle.log_reader.specs.Records.{recordsIn}
 use Rattle.base.specs.Lists.{Snoc}
 use Rattle.rounds.specs.Feeds.{Answer as Told}

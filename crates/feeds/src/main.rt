@@ -48,7 +48,7 @@ fn put_monitor(m: Monitor) {
 
 fn put_step(s: Step) {
     let answer = s.answer;
-    put_number(stepping::answer_number(answer) as u32);
+    put_number(model::answer_number(answer) as u32);
     put_monitor(s.next);
     put(b"\n");
 }

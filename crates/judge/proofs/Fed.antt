@@ -26,7 +26,8 @@ use Rattle.log_reader.specs.declared.RecordRefusal.{RecordRefusal}
 use Rattle.log_reader.specs.declared.RecordRefusal.the-variants.{CutShort, UnknownByte}
 use Rattle.log_reader.specs.declared.Next.{Next}
 use Rattle.log_reader.specs.declared.Next.the-variants.{End, Refused, Taken}
-use Rattle.log_reader.specs.Record.{messageByte, timeByte, messageSize, timeSize, messageAt, timeAt, nextAt}
+use Rattle.log_reader.specs.Record.{messageByte, timeByte, messageSize, timeSize, messageAt, timeAt}
+use Rattle.log_reader.specs.Next.{nextAt}
 use Rattle.log_reader.specs.Records.{onRecord, recordsFrom, recordsIn}
 use Rattle.log_reader.proofs.Records.{one-record}
 use Rattle.stepping.specs.declared.Step.{Step}
@@ -34,8 +35,7 @@ use Rattle.stepping.specs.Monitors.{tallyAt, monitorAt, stepOf, recordOf}
 use Rattle.plan.specs.Plan.{recordCode}
 use Rattle.chart_value.specs.Records.{logRecord, logged}
 use Rattle.stepping.proofs.Zeros.{zero-fresh}
-use Rattle.judge.specs.Check.{timeOf}
-use Rattle.judge.specs.Judge.{standingOf, verdictWith, verdictOf}
+use Rattle.judge.specs.Verdict.{timeOf, standingOf, verdictWith, verdictOf}
 use Rattle.judge.specs.Parts.{codeAt, standingBy, verdictBy}
 
 taken-record : {r e : Record} {p q : ℕ} → Taken r p ≡ Taken e q → r ≡ e

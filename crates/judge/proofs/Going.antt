@@ -14,13 +14,14 @@ use Rattle.model.specs.declared.Monitor.{Monitor}
 use Rattle.model.specs.declared.Record.{Record}
 use Rattle.model.specs.Chart.{mostRegions}
 use Rattle.model.specs.Monitor.{zeroMonitor}
+use Rattle.model.specs.Answers.{mostRecords}
 use Rattle.rounds.specs.Chart.{Chart as Abstract}
 use Rattle.rounds.specs.Rows.{LogRecord, chartMessage}
-use Rattle.rounds.specs.Feeds.{mostRecords, noReadyRegion, conditionFails, entered, moved, quiet}
+use Rattle.rounds.specs.Feeds.{noReadyRegion, conditionFails, entered, moved, quiet}
 use Rattle.rounds.specs.Machine.{Monitor as AbstractMonitor, Step as AbstractStep, Move, stuck, fails, rests, place, full, prechartDone, goOn, keepRound, dropRound, breakRound, conclude, accept, feed, after}
 use Rattle.base.proofs.Bools.{clash}
 use Rattle.log_reader.specs.declared.Next.the-variants.{Taken}
-use Rattle.log_reader.specs.Record.{nextAt}
+use Rattle.log_reader.specs.Next.{nextAt}
 use Rattle.log_reader.specs.Records.{recordsIn}
 use Rattle.log_reader.proofs.Places.{at-end, taken-past}
 use Rattle.stepping.specs.declared.Step.{Step}
@@ -32,7 +33,8 @@ use Rattle.chart_value.specs.Records.{logged}
 use Rattle.judge.specs.declared.LogRefusal.the-variants.{TimeFalls, TooManyRecords}
 use Rattle.judge.specs.declared.Checked.the-variants.{Refused}
 use Rattle.judge.specs.declared.CheckStep.the-variants.{Over}
-use Rattle.judge.specs.Check.{checkLog, stepAt, stepBy, takeRecord, timeOf}
+use Rattle.judge.specs.Check.{checkLog, stepAt, stepBy, takeRecord}
+use Rattle.judge.specs.Verdict.{timeOf}
 use Rattle.judge.specs.Parts.{isFine}
 use Rattle.judge.proofs.Laws.{Left, left-first, left-step, left-going}
 use Rattle.judge.proofs.Fed.{SoFar, at-start, fed-one, fed-none, fed-end}

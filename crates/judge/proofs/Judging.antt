@@ -7,6 +7,8 @@ use native.Mathlib.Omega.{arith}
 use Rattle.model.specs.declared.Chart.{Chart}
 use Rattle.model.specs.declared.Monitor.{Monitor}
 use Rattle.model.specs.Chart.{mostRegions}
+use Rattle.model.specs.declared.Verdict.{Verdict}
+use Rattle.model.specs.Answers.{zeroVerdict}
 use Rattle.chart_value.specs.WellFormed.{wellFormed}
 use Rattle.chart_value.specs.Given.{Given}
 use Rattle.chart_value.specs.View.{chartOf}
@@ -20,10 +22,10 @@ use Rattle.chart_value.specs.Records.{logged}
 use Rattle.judge.specs.declared.LogRefusal.{LogRefusal}
 use Rattle.judge.specs.declared.Checked.the-variants as checked
 use Rattle.judge.specs.declared.JudgeAnswer.the-variants.{Judged, NoChart, Refused}
-use Rattle.judge.specs.declared.Verdict.{Verdict}
 use Rattle.judge.specs.declared.Judgement.{Judgement}
 use Rattle.judge.specs.Check.{checkLog}
-use Rattle.judge.specs.Judge.{verdictOf, zeroVerdict, said, judgeOf}
+use Rattle.judge.specs.Judge.{judgeOf}
+use Rattle.judge.specs.Verdict.{verdictOf, said}
 use Rattle.judge.specs.Parts.{verdictBy}
 use Rattle.judge.proofs.Fed.{verdict-same}
 

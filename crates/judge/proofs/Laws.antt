@@ -8,15 +8,16 @@ use lib.ListN.{length}
 use lib.Dec.{leb, ltb}
 use Rattle.model.specs.declared.Moment.{Moment}
 use Rattle.model.specs.declared.Record.{Record}
+use Rattle.model.specs.Answers.{mostRecords}
 use Rattle.log_reader.specs.declared.Next.{Next}
 use Rattle.log_reader.specs.declared.Next.the-variants as next
-use Rattle.log_reader.specs.Record.{nextAt}
-use Rattle.rounds.specs.Feeds.{mostRecords}
+use Rattle.log_reader.specs.Next.{nextAt}
 use Rattle.judge.specs.declared.LogRefusal.the-variants.{TimeFalls, TooManyRecords}
 use Rattle.judge.specs.declared.Checked.the-variants.{Fine, Refused}
 use Rattle.judge.specs.declared.CheckStep.{CheckStep}
 use Rattle.judge.specs.declared.CheckStep.the-variants.{Over, Going}
-use Rattle.judge.specs.Check.{checkFrom, checkLog, continueBy, stepAt, stepBy, timeOf}
+use Rattle.judge.specs.Check.{checkFrom, checkLog, continueBy, stepAt, stepBy}
+use Rattle.judge.specs.Verdict.{timeOf}
 use Rattle.log_reader.proofs.Places.{at-end, taken-past}
 
 module _ (s : List ℕ) (at : ℕ) (last : Moment) (n : ℕ) where

@@ -5,28 +5,16 @@ use mathlib.Core.List.{List}
 use lib.ListN.{length}
 use lib.Dec.{leb, ltb}
 use Rattle.model.specs.declared.Moment.{Moment}
-use Rattle.model.specs.declared.Record.{Record}
-use Rattle.model.specs.declared.Record.the-variants.{Message, Time}
-use Rattle.log_reader.specs.Record.{nextAt, recordRefusalNumber}
+use Rattle.model.specs.Answers.{mostRecords}
+use Rattle.log_reader.specs.Next.{nextAt}
 use Rattle.log_reader.specs.declared.Next.{Next}
 use Rattle.log_reader.specs.declared.Next.the-variants as next
-use Rattle.rounds.specs.Feeds.{timeFalls, tooManyRecords, mostRecords}
-use Rattle.judge.specs.declared.LogRefusal.{LogRefusal}
 use Rattle.judge.specs.declared.LogRefusal.the-variants.{NoRecord, TimeFalls, TooManyRecords}
 use Rattle.judge.specs.declared.Checked.{Checked}
 use Rattle.judge.specs.declared.Checked.the-variants.{Fine, Refused}
 use Rattle.judge.specs.declared.CheckStep.{CheckStep}
 use Rattle.judge.specs.declared.CheckStep.the-variants.{Over, Going}
-
--- J3: 31 and 30 as in E, 22 a time that falls, 23 too many records
-abbrev pub logRefusalNumber : LogRefusal → ℕ
-logRefusalNumber (NoRecord k) = recordRefusalNumber k
-logRefusalNumber TimeFalls = timeFalls
-logRefusalNumber TooManyRecords = tooManyRecords
-
-abbrev pub timeOf : Record → Moment
-timeOf (Message m t) = t
-timeOf (Time t) = t
+use Rattle.judge.specs.Verdict.{timeOf}
 
 -- a record that was read at `at`, after n records, the last of them with the time `last`
 abbrev pub takeRecord : Moment → ℕ → ℕ → Moment → ℕ → CheckStep

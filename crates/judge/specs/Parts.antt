@@ -9,12 +9,12 @@ use Rattle.wire.specs.Bytes.{word16}
 use Rattle.log_reader.specs.Record.{messageByte}
 use Rattle.bitset.specs.Set.{contains}
 use Rattle.model.specs.declared.Monitor.{Monitor}
+use Rattle.model.specs.declared.Verdict.{Verdict}
 use Rattle.base.specs.Lists.{allBelow}
 use Rattle.stepping.specs.Monitors.{tallyAt}
 use Rattle.judge.specs.declared.Checked.{Checked}
 use Rattle.judge.specs.declared.Checked.the-variants.{Fine, Refused}
-use Rattle.judge.specs.declared.Verdict.{Verdict}
-use Rattle.judge.specs.Judge.{broken, nothingFired, inPrechart, owed, verdictWith}
+use Rattle.judge.specs.Verdict.{broken, nothingFired, inPrechart, owed, verdictWith}
 
 -- the code of a message whose record stands at a place, 0 for any other record
 abbrev pub codeAt : List ℕ → ℕ → ℕ

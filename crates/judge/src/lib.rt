@@ -7,20 +7,25 @@ use model::MOST_RECORDS;
 use model::Moment;
 use model::Monitor;
 use model::Record;
+use model::TIME_FALLS;
+use model::TOO_MANY_RECORDS;
+use model::Verdict;
 use plan::LABEL_PLACE;
 ghost use mathlib.Core.Path.{_≡_};
 ghost use mathlib.Core.Bool.{true, So};
 ghost use Prim.Native.Nat.{_≤_, _<_};
 ghost use lib.ListN.{length};
 ghost use Rattle.model.specs.Chart.{mostRegions};
+ghost use Rattle.model.specs.Answers.{zeroVerdict};
 ghost use Rattle.rounds.specs.Machine.{after};
 ghost use Rattle.chart_value.specs.WellFormed.{wellFormed};
 ghost use Rattle.chart_value.specs.View.{chartOf};
 ghost use Rattle.stepping.specs.Monitors.{monitorAt};
 ghost use Rattle.chart_value.specs.Records.{logged};
 ghost use Rattle.log_reader.specs.Records.{recordsIn};
-ghost use Rattle.judge.specs.Check.{logRefusalNumber, timeOf, takeRecord, stepAt, checkLog};
-ghost use Rattle.judge.specs.Judge.{zeroVerdict, said, judgeOf};
+ghost use Rattle.judge.specs.Check.{takeRecord, stepAt, checkLog};
+ghost use Rattle.judge.specs.Verdict.{logRefusalNumber, timeOf, said};
+ghost use Rattle.judge.specs.Judge.{judgeOf};
 ghost use Rattle.judge.specs.Parts.{codeAt, isFine, standingBy, verdictBy};
 
 // Why a log is refused.
@@ -30,16 +35,13 @@ pub enum LogRefusal {
     TooManyRecords,
 }
 
-// The number of the answer that the value is no chart.
-pub const NO_CHART: u8 = 20;
-
 pub fn refusal_number(k: LogRefusal) -> u8
     ensures { λ r. ⌜ r ≡ logRefusalNumber k ⌝ }
 {
     match k {
         LogRefusal::NoRecord(why) => log_reader::number(why),
-        LogRefusal::TimeFalls => 22,
-        LogRefusal::TooManyRecords => 23,
+        LogRefusal::TimeFalls => TIME_FALLS,
+        LogRefusal::TooManyRecords => TOO_MANY_RECORDS,
     }
 }
 
@@ -110,15 +112,6 @@ pub fn check_log(log: &[u8]) -> Checked
         }
     }
     Checked::Fine(records)
-}
-
-pub struct Verdict {
-    pub standing: u8,
-    pub kept: u32,
-    pub dropped: u32,
-    pub records: u32,
-    pub broken: u32,
-    pub reason: u8,
 }
 
 pub enum JudgeAnswer {
@@ -237,14 +230,7 @@ pub fn verdict_of(prechart: usize, m: Monitor) -> Verdict
 fn refused(answer: JudgeAnswer) -> Judgement
     ensures { λ r. ⌜ r ≡ record { answer = answer; verdict = zeroVerdict } ⌝ }
 {
-    let verdict = Verdict {
-        standing: 0,
-        kept: 0,
-        dropped: 0,
-        records: 0,
-        broken: 0,
-        reason: 0,
-    };
+    let verdict = model::zero_verdict();
     Judgement { answer, verdict }
 }
 

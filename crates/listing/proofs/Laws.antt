@@ -2,8 +2,8 @@
 use mathlib.Core.Path.{_≡_}
 use mathlib.Core.List.{List, [], _∷_, _++_, append-assoc, append-nil}
 use Prim.Native.Nat.{ℕ}
+use Rattle.model.specs.declared.Verdict.{Verdict}
 use Rattle.text.specs.Text.{bytesOf, decimalOf}
-use Rattle.judge.specs.declared.Verdict.{Verdict}
 use Rattle.listing.specs.declared.Part.{Part}
 use Rattle.listing.specs.declared.Part.the-variants.{Input, Chart, Log}
 use Rattle.listing.specs.Listing.{joined, verdictLines, refusalLine}

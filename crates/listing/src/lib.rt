@@ -1,5 +1,5 @@
 // What the printing program prints: the verdict's two lines, or a refusal's one.
-use judge::Verdict;
+use model::Verdict;
 ghost use mathlib.Core.Path.{_≡_};
 ghost use Prim.Native.Nat.{_+_, _≤_};
 ghost use lib.ListN.{length};

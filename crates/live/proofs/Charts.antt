@@ -14,7 +14,8 @@ use Rattle.model.specs.declared.Chart.{Chart}
 use Rattle.model.specs.Chart.{zeroChart}
 use Rattle.chart_step.proofs.Numbers.{refusal-nonzero}
 use Rattle.chart_value.proofs.Sound.{sound}
-use Rattle.chart_reader.specs.Read.{Said, acceptedAs, readChart}
+use Rattle.chart_reader.specs.Read.{readChart}
+use Rattle.chart_reader.specs.Said.{Said, acceptedAs}
 use Rattle.chart_reader.proofs.Ends.{Reads, accepts, refuses, reads}
 use Rattle.chart_value.specs.WellFormed.{wellFormed}
 use Rattle.wire.specs.Bytes.{word64}

@@ -1,6 +1,6 @@
 -- Feeding the monitor in live bytes. Assumes nothing.
 use mathlib.Core.Path.{_≡_, refl, sym, ap, subst, _∙_}
-use mathlib.Core.Bool.{Bool, true, false, cond, _||_}
+use mathlib.Core.Bool.{Bool, true, false, cond, _||_, false≢true}
 use mathlib.Core.Logic.{_↔_, inl, inr}
 use mathlib.Core.List.{List, _++_}
 use Prim.Native.Nat.{ℕ, _≤_}
@@ -14,18 +14,20 @@ use Rattle.model.specs.declared.Chart.{Chart}
 use Rattle.model.specs.declared.Monitor.{Monitor}
 use Rattle.model.specs.declared.Record.{Record}
 use Rattle.model.specs.Chart.{zeroChart}
+use Rattle.model.specs.declared.Answer.{Answer}
+use Rattle.model.specs.declared.Answer.the-variants.{Refused, Broken, Kept, Dropped, Entered, Moved, Quiet}
+use Rattle.model.specs.declared.FeedRefusal.{FeedRefusal}
+use Rattle.model.specs.declared.FeedRefusal.the-variants.{NotAChart}
+use Rattle.model.specs.Answers.{mostRecords, feedRefusalNumber, answerNumber}
 use Rattle.rounds.specs.Chart.{Chart as Abstract}
 use Rattle.rounds.specs.Rows.{LogRecord}
-use Rattle.rounds.specs.Feeds.{mostRecords, refused, toldBroken}
+use Rattle.rounds.specs.Feeds.{refused, toldBroken}
 use Rattle.rounds.specs.Machine.{Monitor as AbstractMonitor, Step as AbstractStep, feed}
 use Rattle.stepping.proofs.Back.{Taken, accept-taken}
 use Rattle.chart_value.specs.View.{chartOf}
 use Rattle.monitor.specs.Fit.{fits}
-use Rattle.stepping.specs.declared.Answer.{Answer}
-use Rattle.stepping.specs.declared.Answer.the-variants.{Refused, Broken, Kept, Dropped, Entered, Moved, Quiet}
-use Rattle.stepping.specs.declared.FeedRefusal.the-variants.{NotAChart}
 use Rattle.stepping.specs.declared.Step.{Step}
-use Rattle.stepping.specs.Answers.{feedRefusalNumber, answerNumber, answerOf, isRefused, HandsBack}
+use Rattle.stepping.specs.Answers.{answerOf, HandsBack}
 use Rattle.stepping.specs.Monitors.{monitorAt, stepOf}
 use Rattle.monitor.specs.Feed.{feedOf, refuse}
 use Rattle.chart_value.specs.Records.{logRecord}
@@ -34,7 +36,7 @@ use Rattle.wire.specs.Writing.{Wrote}
 use Rattle.image.specs.Image.{monitorSize, monitorBytes, monitorIn}
 use Rattle.wire.proofs.Writing.{at-start}
 use Rattle.image.proofs.Laws.{monitor-length}
-use Rattle.live.specs.Live.{chartIn, isBroken, bytesFed, FedBy, Fed}
+use Rattle.live.specs.Live.{chartIn, isRefused, isBroken, bytesFed, FedBy, Fed}
 use Rattle.live.proofs.Charts.{same-chart, live-exact, zero-refused}
 
 -- an answer that is told as 20
@@ -106,6 +108,15 @@ monitor-at-start {l} {n} m w h =
     let size = monitor-length m in
     at-start w (omega (arith, size)) ∙ ap (λ (x : ℕ). monitorBytes m ++ drop x l) size
 
+refused-for : (a : Answer) → isRefused a ≡ true → (k : FeedRefusal) × (a ≡ Refused k)
+refused-for (Refused k) e = (k, refl)
+refused-for (Broken n k) e = absurd (false≢true e)
+refused-for Kept e = absurd (false≢true e)
+refused-for Dropped e = absurd (false≢true e)
+refused-for Entered e = absurd (false≢true e)
+refused-for Moved e = absurd (false≢true e)
+refused-for Quiet e = absurd (false≢true e)
+
 module _ (c : Chart) (l : List ℕ) (m : Monitor) (e : Record) (s : Step) (q : m ≡ monitorIn l) (f : stepOf s ≡ feedOf c m e) (r : ℕ)
     (t : r ≡ answerNumber (s .answer)) where
   fed-in : stepOf s ≡ feedOf c (monitorIn l) e
@@ -120,7 +131,7 @@ module _ (c : Chart) (l : List ℕ) (m : Monitor) (e : Record) (s : Step) (q : m
     told = t;
     bytes = rw (← q, g);
     next = sym q ∙ sym (elim (either (isRefused (s .answer)) (isBroken m) g) [
-      | inl x ↦ b .refused x
+      | inl x ↦ let t = refused-for (s .answer) x in b .refused (t .0) (t .1)
       | inr x ↦ b .broken (eqb-false (m .tally .broken .at) 0 (not-true _ x))
     ]);
   }

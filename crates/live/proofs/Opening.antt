@@ -9,18 +9,20 @@ use lib.Dec.{eqb}
 use lib.ListN.{length, drop, length-append}
 use Rattle.model.specs.declared.Monitor.{Monitor}
 use Rattle.model.specs.Monitor.{zeroMonitor}
+use Rattle.model.specs.Answers.{tooShort}
 use Rattle.chart_step.specs.declared.Refusal.{Refusal}
 use Rattle.chart_step.specs.Refusal.{refusalNumber}
 use Rattle.chart_reader.specs.declared.ChartAnswer.{ChartAnswer}
 use Rattle.chart_reader.specs.declared.ChartAnswer.the-variants.{Accepted, Refused}
 use Rattle.chart_reader.specs.declared.ChartRead.{ChartRead}
-use Rattle.chart_reader.specs.Read.{Said, said, numberOf, offsetOf, readChart}
+use Rattle.chart_reader.specs.Read.{readChart}
+use Rattle.chart_reader.specs.Said.{Said, said, numberOf, offsetOf}
 use Rattle.wire.specs.Writing.{Wrote, longBytes}
 use Rattle.wire.proofs.Writing.{then, spelled, at-start}
 use Rattle.image.specs.Image.{monitorSize, monitorBytes, monitorIn}
 use Rattle.image.proofs.Laws.{monitor-length}
 use Rattle.live.specs.declared.Opened.{Opened}
-use Rattle.live.specs.Live.{headSize, largest, liveSize, freshBytes, tooShort, openedBy, openedOf, bytesOpened, Holds}
+use Rattle.live.specs.Live.{headSize, largest, liveSize, freshBytes, openedBy, openedOf, bytesOpened, Holds}
 use Rattle.live.proofs.Charts.{chart-behind}
 use Rattle.chart_step.proofs.Numbers.{refusal-nonzero}
 

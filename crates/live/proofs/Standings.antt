@@ -3,16 +3,15 @@ use mathlib.Core.Path.{_≡_, refl, ap, subst, _∙_}
 use mathlib.Core.Bool.{Bool, true, false}
 use Rattle.model.specs.declared.Chart.{Chart}
 use Rattle.model.specs.declared.Monitor.{Monitor}
+use Rattle.model.specs.declared.FeedRefusal.the-variants.{NotAChart, Unfit}
+use Rattle.model.specs.declared.Verdict.{Verdict}
+use Rattle.model.specs.Answers.{feedRefusalNumber, zeroVerdict}
 use Rattle.chart_value.specs.WellFormed.{wellFormed}
 use Rattle.chart_value.specs.View.{chartOf}
 use Rattle.rounds.specs.Chart.{Chart as Abstract}
 use Rattle.rounds.specs.Machine.{Fit}
-use Rattle.stepping.specs.declared.FeedRefusal.the-variants.{NotAChart, Unfit}
-use Rattle.stepping.specs.Answers.{feedRefusalNumber}
 use Rattle.stepping.specs.Monitors.{monitorAt}
 use Rattle.monitor.specs.Fit.{fits}
-use Rattle.judge.specs.declared.Verdict.{Verdict}
-use Rattle.judge.specs.Judge.{zeroVerdict}
 use Rattle.judge.specs.Parts.{verdictBy}
 use Rattle.judge.proofs.Fed.{verdict-same}
 use Rattle.live.specs.declared.LiveVerdict.{LiveVerdict}

@@ -3,25 +3,27 @@
 use Prim.Native.Nat.{ℕ, _+_, _-_}
 use mathlib.Core.Path.{_≡_}
 use mathlib.Core.Logic.{_↔_}
-use mathlib.Core.Bool.{Bool, false, cond, not, _&&_, _||_}
+use mathlib.Core.Bool.{Bool, true, false, cond, not, _&&_, _||_}
 use mathlib.Core.List.{List, _++_}
 use lib.Dec.{eqb, leb, ltb}
 use lib.ListN.{length, take, drop}
 use Rattle.model.specs.declared.Chart.{Chart}
 use Rattle.model.specs.declared.Monitor.{Monitor}
 use Rattle.model.specs.declared.Record.{Record}
+use Rattle.model.specs.declared.Answer.{Answer}
+use Rattle.model.specs.declared.Answer.the-variants.{Refused, Broken, Kept, Dropped, Entered, Moved, Quiet}
 use Rattle.model.specs.Chart.{zeroChart}
 use Rattle.model.specs.Monitor.{zeroMonitor}
-use Rattle.chart_reader.specs.Read.{Said, readChart}
+use Rattle.model.specs.Answers.{tooShort, notAChart, notFit, answerNumber, zeroVerdict}
+use Rattle.chart_reader.specs.Read.{readChart}
+use Rattle.chart_reader.specs.Said.{Said}
 use Rattle.chart_value.specs.WellFormed.{wellFormed}
 use Rattle.chart_value.specs.View.{chartOf}
 use Rattle.stepping.specs.declared.Step.{Step}
-use Rattle.stepping.specs.declared.FeedRefusal.the-variants.{NotAChart, Unfit}
-use Rattle.stepping.specs.Answers.{feedRefusalNumber, answerNumber, isRefused}
 use Rattle.stepping.specs.Monitors.{monitorAt, stepOf}
 use Rattle.monitor.specs.Fit.{fits}
 use Rattle.monitor.specs.Feed.{feedOf}
-use Rattle.judge.specs.Judge.{verdictOf, zeroVerdict}
+use Rattle.judge.specs.Verdict.{verdictOf}
 use Rattle.wire.specs.Bytes.{word64}
 use Rattle.wire.specs.Writing.{longBytes}
 use Rattle.image.specs.Image.{monitorSize, monitorBytes, monitorIn}
@@ -62,10 +64,6 @@ liveSize n = cond (ltb (largest - headSize) n) largest (headSize + n)
 unfoldable pub freshBytes : List ℕ → List ℕ
 freshBytes chart = monitorBytes zeroMonitor ++ (longBytes (length chart) ++ chart)
 
--- a buffer with too few places
-abbrev pub tooShort : ℕ
-tooShort = 12
-
 -- Opening: the chart's refusal with its offset, 12 with the size that is wanted, or 0 with the size taken.
 abbrev pub openedBy : Said → ℕ → ℕ → Opened
 openedBy said size room =
@@ -86,11 +84,21 @@ pub record Holds (chart l : List ℕ) : Type 0 where
   pub chart-read : chartIn l ≡ readChart chart .chart
   pub fresh : monitorIn l ≡ zeroMonitor
 
--- V11: the bytes after a feed, as they were where it was refused or the monitor is broken already, else the monitor
--- handed back, and all other bytes as they were.
+-- whether the answer is a refusal, and whether the monitor is broken
+abbrev pub isRefused : Answer → Bool
+isRefused (Refused k) = true
+isRefused (Broken n k) = false
+isRefused Kept = false
+isRefused Dropped = false
+isRefused Entered = false
+isRefused Moved = false
+isRefused Quiet = false
+
 abbrev pub isBroken : Monitor → Bool
 isBroken m = not (eqb (m .tally .broken .at) 0)
 
+-- V11: the bytes after a feed, as they were where it was refused or the monitor is broken already, else the monitor
+-- handed back, and all other bytes as they were.
 unfoldable pub bytesFed : List ℕ → Step → List ℕ
 bytesFed l s = cond (isRefused (s .answer) || isBroken (monitorIn l)) l (monitorBytes (s .next) ++ drop monitorSize l)
 
@@ -108,13 +116,13 @@ pub record FedBy (c : Chart) (l : List ℕ) (e : Record) (number : ℕ) (n : Lis
 pub record Fed (l : List ℕ) (e : Record) (number : ℕ) (n : List ℕ) : Type 0 where
   pub by-chart : FedBy (chartIn l) l e number n
   pub chart : chartIn n ≡ chartIn l
-  pub none : (isLive l ≡ false) ↔ (number ≡ feedRefusalNumber NotAChart)
+  pub none : (isLive l ≡ false) ↔ (number ≡ notAChart)
 
 -- The standing of a monitor for a chart: 20, 21, or 0 and the verdict.
 abbrev pub standingBy : Chart → Monitor → LiveVerdict
 standingBy c m =
-    cond (not (wellFormed c)) (record { number = feedRefusalNumber NotAChart; verdict = zeroVerdict })
-    (cond (not (fits (chartOf c) m)) (record { number = feedRefusalNumber Unfit; verdict = zeroVerdict })
+    cond (not (wellFormed c)) (record { number = notAChart; verdict = zeroVerdict })
+    (cond (not (fits (chartOf c) m)) (record { number = notFit; verdict = zeroVerdict })
     (record { number = 0; verdict = verdictOf (chartOf c) (monitorAt m) }))
 
 unfoldable pub standingIn : List ℕ → LiveVerdict

@@ -3,12 +3,13 @@ use mathlib.Core.Path.{_≡_}
 use mathlib.Core.List.{List}
 use Prim.Native.Nat.{ℕ}
 use Rattle.model.specs.declared.Record.{Record}
+use Rattle.model.specs.declared.Answer.{Answer}
+use Rattle.model.specs.Answers.{answerNumber}
 use Rattle.chart_reader.specs.Read.{readChart}
 use Rattle.chart_value.specs.WellFormed.{wellFormed}
 use Rattle.base.specs.Lists.{Snoc, ε, _▸_}
 use Rattle.rounds.specs.Feeds.{Answer as Told}
-use Rattle.stepping.specs.declared.Answer.{Answer}
-use Rattle.stepping.specs.Answers.{answerNumber, answerOf}
+use Rattle.stepping.specs.Answers.{answerOf}
 use Rattle.monitor.specs.Runs.{Run}
 use Rattle.image.specs.Image.{monitorIn}
 use Rattle.live.specs.Live.{chartIn, isLive, Holds, Fed}

@@ -1,21 +1,21 @@
 // A live monitor in bytes that the caller keeps: opened for a chart, fed records, asked for its standing.
 use chart_reader::ChartAnswer;
-use judge::Verdict;
+use model::Answer;
 use model::Chart;
+use model::FeedRefusal;
 use model::Monitor;
 use model::Record;
-use stepping::Answer;
-use stepping::FeedRefusal;
+use model::TOO_SHORT;
+use model::Verdict;
 ghost use mathlib.Core.Path.{_≡_};
 ghost use Prim.Native.Nat.{_+_, _≤_};
 ghost use lib.ListN.{length};
+ghost use Rattle.model.specs.Answers.{feedRefusalNumber, zeroVerdict};
 ghost use Rattle.wire.specs.Writing.{Wrote};
 ghost use Rattle.base.specs.Lists.{ε};
-ghost use Rattle.stepping.specs.Answers.{feedRefusalNumber, isRefused};
-ghost use Rattle.judge.specs.Judge.{zeroVerdict};
 ghost use Rattle.image.specs.Image.{monitorSize};
 ghost use Rattle.live.specs.Live.{headSize, chartIn, liveSize, freshBytes, openedOf, bytesOpened, Holds};
-ghost use Rattle.live.specs.Live.{FedBy, Fed, standingBy, standingIn};
+ghost use Rattle.live.specs.Live.{isRefused, FedBy, Fed, standingBy, standingIn};
 ghost use Rattle.live.specs.Runs.{LiveRun, RunsOn, LiveClaims};
 
 // The monitor's image and the chart's length.
@@ -23,9 +23,6 @@ const HEAD_SIZE: usize = 65;
 
 // The largest usize.
 const LARGEST: usize = 0xffff_ffff_ffff_ffff;
-
-// The number of the answer that a buffer has too few places.
-pub const TOO_SHORT: u8 = 12;
 
 // How opening went, and an offset in the chart or the size of the live monitor.
 pub struct Opened {
@@ -131,10 +128,10 @@ pub fn feed_chart(chart: Chart, bytes: &mut [u8], e: Record) -> u8
     let answer = s.answer;
     let next = s.next;
     if is_refused(answer) | (m.tally.broken.at != 0) {
-        return stepping::answer_number(answer);
+        return model::answer_number(answer);
     }
     image::put_monitor(bytes, next);
-    stepping::answer_number(answer)
+    model::answer_number(answer)
 }
 
 // One record fed to the live monitor.
@@ -143,7 +140,7 @@ pub fn feed(live: &mut [u8], e: Record) -> u8
     ensures run { λ r. ⌜ RunsOn (now (live .entry)) e r (now (live .exit)) ⌝ }
 {
     if live.len() < HEAD_SIZE {
-        return judge::NO_CHART;
+        return model::NOT_A_CHART;
     }
     feed_chart(chart_in(live), live, e)
 }
@@ -152,17 +149,9 @@ pub fn feed(live: &mut [u8], e: Record) -> u8
 fn refused(k: FeedRefusal) -> LiveVerdict
     ensures { λ r. ⌜ r ≡ record { number = feedRefusalNumber k; verdict = zeroVerdict } ⌝ }
 {
-    let verdict = Verdict {
-        standing: 0,
-        kept: 0,
-        dropped: 0,
-        records: 0,
-        broken: 0,
-        reason: 0,
-    };
     LiveVerdict {
-        number: stepping::refusal_number(k),
-        verdict,
+        number: model::feed_refusal_number(k),
+        verdict: model::zero_verdict(),
     }
 }
 

@@ -10,7 +10,8 @@ use lib.Dec.{leb, ltb, eqb}
 use Rattle.model.specs.declared.Record.{Record}
 use Rattle.log_reader.specs.declared.RecordRefusal.the-variants.{CutShort, UnknownByte}
 use Rattle.log_reader.specs.declared.Next.the-variants as next
-use Rattle.log_reader.specs.Record.{nextAt, messageAt, timeAt}
+use Rattle.log_reader.specs.Record.{messageAt, timeAt}
+use Rattle.log_reader.specs.Next.{nextAt}
 
 -- at or past the end there is no record
 pub at-end : (s : List ℕ) (at : ℕ) → length s ≤ at → nextAt s at ≡ next.End

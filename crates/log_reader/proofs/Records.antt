@@ -6,7 +6,7 @@ use native.Mathlib.Omega.{arith}
 use Rattle.model.specs.declared.Record.{Record}
 use Rattle.base.specs.Lists.{Snoc, _▸_}
 use Rattle.log_reader.specs.declared.Next.{Next}
-use Rattle.log_reader.specs.Record.{nextAt}
+use Rattle.log_reader.specs.Next.{nextAt}
 use Rattle.log_reader.specs.Records.{onRecord, recordsFrom}
 
 pub one-record : (s : List ℕ) (at left : ℕ) → 0 < left → (es : Snoc Record) (n : Next) → nextAt s at ≡ n

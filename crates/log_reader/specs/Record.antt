@@ -1,9 +1,7 @@
 -- One record of a log's bytes, read at a place (L1, L2, E1 to E5).
-use Prim.Native.Nat.{ℕ, _+_, _-_}
-use mathlib.Core.Bool.{cond}
+use Prim.Native.Nat.{ℕ, _+_}
 use mathlib.Core.List.{List}
-use lib.ListN.{getD, length}
-use lib.Dec.{eqb, leb, ltb}
+use lib.ListN.{getD}
 use Rattle.wire.specs.Bytes.{word16, word32}
 use Rattle.model.specs.declared.Record.{Record}
 use Rattle.model.specs.declared.Record.the-variants.{Message, Time}
@@ -38,28 +36,6 @@ timeSize = 5
 
 abbrev pub timeAt : List ℕ → ℕ → Record
 timeAt s at = Time (record { 0 = word32 s (at + 1) })
-
--- E3: the byte picks the record
-abbrev pub recordBy : List ℕ → ℕ → ℕ → Next
-recordBy s at b =
-    cond (eqb b messageByte)
-    (cond (ltb (length s - at) messageSize) (Refused CutShort) (Taken (messageAt s at) (at + messageSize)))
-    (cond (eqb b timeByte)
-    (cond (ltb (length s - at) timeSize) (Refused CutShort) (Taken (timeAt s at) (at + timeSize)))
-    (Refused UnknownByte))
-
--- E2 to E4: the end where no byte is left, else a refusal, or the record with the place just after it
-abbrev pub nextAt : List ℕ → ℕ → Next
-nextAt s at = cond (leb (length s) at) End (recordBy s at (getD s at 0))
-
--- E4: where the place is then
-abbrev pub placeOr : ℕ → Next → ℕ
-placeOr at End = at
-placeOr at (Refused k) = at
-placeOr at (Taken r place) = place
-
-abbrev pub placeBehind : List ℕ → ℕ → ℕ
-placeBehind s at = placeOr at (nextAt s at)
 
 -- What reading one record says, in numbers: the end, with the place; a refusal, 30 or 31, with the place; or a record,
 -- with the place just after it.

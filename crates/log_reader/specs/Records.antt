@@ -6,7 +6,7 @@ use Rattle.model.specs.declared.Record.{Record}
 use Rattle.base.specs.Lists.{Snoc, ε, _▸_}
 use Rattle.log_reader.specs.declared.Next.{Next}
 use Rattle.log_reader.specs.declared.Next.the-variants.{End, Refused, Taken}
-use Rattle.log_reader.specs.Record.{nextAt}
+use Rattle.log_reader.specs.Next.{nextAt}
 
 abbrev pub onRecord : (Record → ℕ → Snoc Record) → Next → Snoc Record → Snoc Record
 onRecord k End es = es

@@ -5,8 +5,9 @@ use model::Record;
 ghost use mathlib.Core.Path.{_≡_};
 ghost use Prim.Native.Nat.{_<_};
 ghost use lib.ListN.{length};
-ghost use Rattle.log_reader.specs.Record.{recordRefusalNumber, messageAt, timeAt, nextAt, placeOr};
-ghost use Rattle.log_reader.specs.Reader.{HandsOut};
+ghost use Rattle.log_reader.specs.Record.{recordRefusalNumber, messageAt, timeAt};
+ghost use Rattle.log_reader.specs.Next.{nextAt};
+ghost use Rattle.log_reader.specs.Reader.{HandsOut, placeOr};
 
 // Why no record is handed out.
 pub enum RecordRefusal {

@@ -6,8 +6,10 @@ use Prim.Native.Nat.{ℕ, _≤_, _<_}
 use borrow.Author.Tests.{lt-ltb, le-ltb}
 use lib.ListN.{length, drop}
 use Rattle.model.specs.declared.Chart.{Chart}
+use Rattle.model.specs.Answers.{tooShort}
+use Rattle.model.specs.Numbers.{places}
 use Rattle.chart_step.specs.declared.Refusal.the-variants as refusal
-use Rattle.chart_reader.specs.Read.{Said}
+use Rattle.chart_reader.specs.Said.{Said}
 use Rattle.chart_value.specs.WellFormed.{wellFormed}
 use Rattle.log_reader.specs.declared.RecordRefusal.the-variants.{CutShort, UnknownByte}
 use Rattle.judge.specs.declared.LogRefusal.the-variants.{NoRecord, TimeFalls, TooManyRecords}
@@ -21,8 +23,6 @@ use Rattle.live.proofs.Charts.{accepted-whole}
 use Rattle.listing.specs.declared.Part.{Part}
 use Rattle.listing.specs.declared.Report.{Report}
 use Rattle.listing.specs.declared.Report.the-variants.{Refused}
-use Rattle.live.specs.Live.{tooShort}
-use Rattle.numbers.specs.Numbers.{places}
 use Rattle.lsc.specs.Lsc.{partNumber, reportNumbers, reportNumber, judgedNumber, judgedOut, isJudgedNumber}
 
 -- six numbers that are those of a refusal

@@ -4,14 +4,14 @@ use mathlib.Core.Bool.{Bool, cond, _||_}
 use mathlib.Core.List.{List, [], _∷_, _++_}
 use lib.Dec.{eqb, leb, ltb}
 use lib.ListN.{length, drop}
+use Rattle.model.specs.Answers.{tooShort, timeFalls, tooManyRecords}
+use Rattle.model.specs.Numbers.{places, verdictNumbers}
 use Rattle.listing.specs.declared.Part.{Part}
 use Rattle.listing.specs.declared.Part.the-variants.{Input, Chart, Log}
 use Rattle.listing.specs.declared.Report.{Report}
 use Rattle.listing.specs.declared.Report.the-variants.{Judged, Refused}
 use Rattle.respond.specs.declared.Response.{Response}
 use Rattle.respond.specs.declared.Response.the-variants.{Written, TooShort}
-use Rattle.live.specs.Live.{tooShort}
-use Rattle.numbers.specs.Numbers.{places, verdictNumbers}
 
 -- "part (1 chart, 2 log)"; no report of a chart and a log has the part 0
 abbrev pub partNumber : Part → ℕ
@@ -38,7 +38,7 @@ judgedOut report out = cond (ltb (length out) places) out (reportNumbers report 
 
 -- the numbers that judging returns: 0, a chart's refusal from 1 to 11, 12, or a log's, 22, 23, 30 or 31
 abbrev pub isJudgedNumber : ℕ → Bool
-isJudgedNumber n = leb n tooShort || (eqb n 22 || (eqb n 23 || (eqb n 30 || eqb n 31)))
+isJudgedNumber n = leb n tooShort || (eqb n timeFalls || (eqb n tooManyRecords || (eqb n 30 || eqb n 31)))
 
 -- 0 printed, 12 where out may be too short
 abbrev pub printedNumber : Response → ℕ

@@ -1,16 +1,16 @@
 // V7, V8: the exported functions of whole logs. 0 is success, 12 a buffer with too few places.
 use listing::Part;
 use listing::Report;
-use live::TOO_SHORT;
-use numbers::PLACES;
+use model::PLACES;
+use model::TOO_SHORT;
 use respond::Response;
 ghost use mathlib.Core.Path.{_≡_};
 ghost use mathlib.Core.Bool.{true};
-ghost use mathlib.Core.List.{[], _∷_, _++_};
+ghost use mathlib.Core.List.{_++_};
 ghost use Prim.Native.Nat.{_≤_};
 ghost use lib.ListN.{length, drop};
+ghost use Rattle.model.specs.Numbers.{places};
 ghost use Rattle.respond.specs.Respond.{partsReport, textOf, responseOf, bufferAfter, countOf};
-ghost use Rattle.numbers.specs.Numbers.{places};
 ghost use Rattle.lsc.specs.Lsc.{partNumber, reportNumbers, reportNumber, judgedNumber, judgedOut};
 ghost use Rattle.lsc.specs.Lsc.{isJudgedNumber, printedNumber};
 
@@ -33,11 +33,11 @@ fn put_report(out: &mut [u64], report: Report) -> u8
 {
     match report {
         Report::Judged(v) => {
-            numbers::put_verdict(out, v);
+            model::put_verdict(out, v);
             0
         }
         Report::Refused(part, number, offset) => {
-            numbers::put_six(
+            model::put_six(
                 out,
                 part_number(part),
                 number as u64,

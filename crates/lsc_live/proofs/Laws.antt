@@ -4,9 +4,9 @@ use mathlib.Core.List.{List, _++_}
 use Prim.Native.Nat.{ℕ, _≤_, _<_}
 use borrow.Author.Tests.{lt-ltb, le-ltb, eq-eqb, ne-eqb}
 use lib.ListN.{length, drop}
-use Rattle.numbers.specs.Numbers.{places, verdictNumbers}
+use Rattle.model.specs.Numbers.{places, verdictNumbers}
+use Rattle.model.specs.Answers.{tooShort}
 use Rattle.live.specs.declared.LiveVerdict.{LiveVerdict}
-use Rattle.live.specs.Live.{tooShort}
 use Rattle.lsc_live.specs.Lsc.{standingNumber, standingOut}
 
 module _ (s t : LiveVerdict) (out : List ℕ) (p : s ≡ t) where

@@ -4,9 +4,9 @@ use mathlib.Core.Bool.{cond}
 use mathlib.Core.List.{List, _++_}
 use lib.Dec.{eqb, ltb}
 use lib.ListN.{length, drop}
-use Rattle.numbers.specs.Numbers.{places, verdictNumbers}
+use Rattle.model.specs.Numbers.{places, verdictNumbers}
+use Rattle.model.specs.Answers.{tooShort}
 use Rattle.live.specs.declared.LiveVerdict.{LiveVerdict}
-use Rattle.live.specs.Live.{tooShort}
 
 -- 20 and 21 before 12; only on 0 is out written
 abbrev pub standingNumber : LiveVerdict → List ℕ → ℕ

@@ -1,9 +1,9 @@
 // V9 to V12: the exported functions of live monitors. 0 is success, 12 a buffer with too few places.
-use live::TOO_SHORT;
 use model::Message;
 use model::Moment;
+use model::PLACES;
 use model::Record;
-use numbers::PLACES;
+use model::TOO_SHORT;
 ghost use mathlib.Core.Path.{_≡_};
 ghost use lib.ListN.{length};
 ghost use Rattle.model.specs.declared.Record.the-variants.{Message as MessageAt, Time as TimeAt};
@@ -76,6 +76,6 @@ pub extern "C" fn lsc_standing(live: &[u8], out: &mut [u64]) -> u8
     if out.len() < PLACES {
         return TOO_SHORT;
     }
-    numbers::put_verdict(out, standing.verdict);
+    model::put_verdict(out, standing.verdict);
     0
 }

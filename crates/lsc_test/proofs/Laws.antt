@@ -9,15 +9,15 @@ use lib.ListN.{length, drop}
 use Rattle.model.specs.declared.Chart.{Chart}
 use Rattle.model.specs.declared.Monitor.{Monitor}
 use Rattle.model.specs.declared.Record.{Record}
-use Rattle.stepping.specs.declared.FeedRefusal.the-variants.{NotAChart}
-use Rattle.stepping.specs.Answers.{feedRefusalNumber}
+use Rattle.model.specs.declared.FeedRefusal.the-variants.{NotAChart}
+use Rattle.model.specs.Answers.{feedRefusalNumber, tooShort}
 use Rattle.monitor.specs.Feed.{madeNumber, MadeOf}
 use Rattle.monitor.specs.declared.Made.{Made}
 use Rattle.chart_value.specs.WellFormed.{wellFormed}
 use Rattle.chart_image.specs.ChartImage.{chartValue}
 use Rattle.wire.specs.Writing.{Wrote}
 use Rattle.image.specs.Image.{monitorSize, monitorBytes, monitorIn}
-use Rattle.live.specs.Live.{tooShort, FedBy}
+use Rattle.live.specs.Live.{FedBy}
 use Rattle.live.proofs.Charts.{zero-refused}
 use Rattle.live.proofs.Feeding.{exactly-20, monitor-at-start}
 use Rattle.lsc_test.specs.Images.{newNumber, newBytes, FedImage}

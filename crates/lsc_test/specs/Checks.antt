@@ -1,6 +1,6 @@
 -- What checking a whole log returns.
 use Prim.Native.Nat.{ℕ, suc}
-use Rattle.rounds.specs.Feeds.{mostRecords}
+use Rattle.model.specs.Answers.{mostRecords}
 use Rattle.judge.specs.declared.Checked.{Checked}
 use Rattle.judge.specs.declared.Checked.the-variants as checked
 

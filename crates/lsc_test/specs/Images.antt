@@ -7,17 +7,16 @@ use lib.Dec.{ltb}
 use lib.ListN.{length, drop}
 use Rattle.model.specs.declared.Record.{Record}
 use Rattle.model.specs.Monitor.{zeroMonitor}
+use Rattle.model.specs.Answers.{tooShort, notAChart}
 use Rattle.chart_value.specs.WellFormed.{wellFormed}
-use Rattle.stepping.specs.declared.FeedRefusal.the-variants.{NotAChart}
-use Rattle.stepping.specs.Answers.{feedRefusalNumber}
 use Rattle.image.specs.Image.{monitorSize, monitorBytes}
 use Rattle.chart_image.specs.ChartImage.{isImage, chartValue}
-use Rattle.live.specs.Live.{tooShort, FedBy}
+use Rattle.live.specs.Live.{FedBy}
 
 -- 12 where the buffer has no room for a monitor, which then stays as it was; else 0 or 20, and a monitor of zeros
 unfoldable pub newNumber : List ℕ → List ℕ → ℕ
 newNumber image l =
-    cond (ltb (length l) monitorSize) tooShort (cond (wellFormed (chartValue image)) 0 (feedRefusalNumber NotAChart))
+    cond (ltb (length l) monitorSize) tooShort (cond (wellFormed (chartValue image)) 0 notAChart)
 
 unfoldable pub newBytes : List ℕ → List ℕ
 newBytes l = cond (ltb (length l) monitorSize) l (monitorBytes zeroMonitor ++ drop monitorSize l)
@@ -27,4 +26,4 @@ newBytes l = cond (ltb (length l) monitorSize) l (monitorBytes zeroMonitor ++ dr
 pub record FedImage (image l : List ℕ) (e : Record) (number : ℕ) (n : List ℕ) : Type 0 where
   pub short : length l < monitorSize → (number ≡ tooShort) × (n ≡ l)
   pub by-chart : monitorSize ≤ length l → FedBy (chartValue image) l e number n
-  pub none : monitorSize ≤ length l → isImage image ≡ false → number ≡ feedRefusalNumber NotAChart
+  pub none : monitorSize ≤ length l → isImage image ≡ false → number ≡ notAChart

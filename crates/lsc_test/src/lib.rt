@@ -1,10 +1,10 @@
 // The exported functions that only tests use: a monitor made and fed by its image, and the check of a log.
 // V16: 12 is a buffer with too few places.
 use judge::Checked;
-use live::TOO_SHORT;
 use model::Message;
 use model::Moment;
 use model::Record;
+use model::TOO_SHORT;
 use monitor::MadeAnswer;
 ghost use mathlib.Core.Path.{_≡_};
 ghost use Rattle.model.specs.declared.Record.the-variants.{Message as MessageAt, Time as TimeAt};
@@ -22,7 +22,7 @@ fn made_number(a: MadeAnswer) -> u8
 {
     match a {
         MadeAnswer::Fresh => 0,
-        MadeAnswer::NoChart => judge::NO_CHART,
+        MadeAnswer::NoChart => model::NOT_A_CHART,
     }
 }
 

@@ -1,10 +1,14 @@
-// The vocabulary: times, messages, terms, regions, charts, records and monitors, as values.
+// The vocabulary: times, messages, terms, regions, charts, records, monitors, answers and verdicts, as values.
 ghost use mathlib.Core.Path.{_≡_};
+ghost use mathlib.Core.List.{[], _∷_, _++_};
 ghost use Prim.Native.Nat.{ℕ, _-_, _<_, _≤_};
+ghost use lib.ListN.{length, drop};
 ghost use Rattle.bitset.specs.Set.{contains};
 ghost use Rattle.model.specs.Chart.{zeroTerm, zeroRegion, zeroChart, isPlain, isBare, lineSet, touched, touches};
 ghost use Rattle.model.specs.Chart.{mostLines};
 ghost use Rattle.model.specs.Monitor.{zeroMonitor};
+ghost use Rattle.model.specs.Answers.{feedRefusalNumber, answerNumber, zeroVerdict};
+ghost use Rattle.model.specs.Numbers.{places, verdictNumbers};
 
 pub const LEAST_LINES: u8 = 2;
 
@@ -209,4 +213,116 @@ pub fn zero_monitor() -> Monitor
         broken,
     };
     Monitor { at, tally }
+}
+
+// The number of the answer that a buffer has too few places.
+pub const TOO_SHORT: u8 = 12;
+
+// The numbers of the refusals of a feed.
+pub const NOT_A_CHART: u8 = 20;
+
+pub const NOT_FIT: u8 = 21;
+
+pub const TIME_FALLS: u8 = 22;
+
+pub const TOO_MANY_RECORDS: u8 = 23;
+
+// Why a record is refused.
+pub enum FeedRefusal {
+    NotAChart,
+    Unfit,
+    TimeFalls,
+    TooManyRecords,
+}
+
+// The answer for a record; a break with its record and reason.
+pub enum Answer {
+    Refused(FeedRefusal),
+    Broken(u32, u8),
+    Kept,
+    Dropped,
+    Entered,
+    Moved,
+    Quiet,
+}
+
+pub fn feed_refusal_number(k: FeedRefusal) -> u8
+    ensures { λ r. ⌜ r ≡ feedRefusalNumber k ⌝ }
+{
+    match k {
+        FeedRefusal::NotAChart => NOT_A_CHART,
+        FeedRefusal::Unfit => NOT_FIT,
+        FeedRefusal::TimeFalls => TIME_FALLS,
+        FeedRefusal::TooManyRecords => TOO_MANY_RECORDS,
+    }
+}
+
+pub fn answer_number(a: Answer) -> u8
+    ensures { λ r. ⌜ r ≡ answerNumber a ⌝ }
+{
+    match a {
+        Answer::Refused(k) => feed_refusal_number(k),
+        Answer::Broken(_, _) => 1,
+        Answer::Kept => 2,
+        Answer::Dropped => 3,
+        Answer::Entered => 4,
+        Answer::Moved => 5,
+        Answer::Quiet => 6,
+    }
+}
+
+// What is found of a log (J6).
+pub struct Verdict {
+    pub standing: u8,
+    pub kept: u32,
+    pub dropped: u32,
+    pub records: u32,
+    pub broken: u32,
+    pub reason: u8,
+}
+
+// What stands for the verdict where there is none.
+pub fn zero_verdict() -> Verdict
+    ensures { λ r. ⌜ r ≡ zeroVerdict ⌝ }
+{
+    Verdict {
+        standing: 0,
+        kept: 0,
+        dropped: 0,
+        records: 0,
+        broken: 0,
+        reason: 0,
+    }
+}
+
+// The places that a verdict or a refusal takes.
+pub const PLACES: usize = 6;
+
+// Six numbers at the start of a buffer.
+pub fn put_six(out: &mut [u64], a: u64, b: u64, c: u64, d: u64, e: u64, f: u64)
+    requires { ⌜ places ≤ length (now out) ⌝ }
+    ensures { λ r. ⌜ now (out .exit) ≡ (a ∷ b ∷ c ∷ d ∷ e ∷ f ∷ []) ++ drop places (now (out .entry)) ⌝ }
+{
+    out[0] = a;
+    out[1] = b;
+    out[2] = c;
+    out[3] = d;
+    out[4] = e;
+    out[5] = f;
+}
+
+// The numbers of a verdict.
+pub fn put_verdict(out: &mut [u64], v: Verdict)
+    requires { ⌜ places ≤ length (now out) ⌝ }
+    ensures { λ r. ⌜ now (out .exit) ≡ verdictNumbers v ++ drop places (now (out .entry)) ⌝ }
+{
+    put_six(
+        out,
+        v.standing as u64,
+        v.kept as u64,
+        v.dropped as u64,
+        v.records as u64,
+        v.broken as u64,
+        v.reason as u64,
+    );
 }

@@ -12,11 +12,11 @@ use Rattle.model.specs.declared.Monitor.{Monitor}
 use Rattle.model.specs.declared.Record.{Record}
 use Rattle.model.specs.declared.Record.the-variants.{Message, Time}
 use Rattle.model.specs.Chart.{mostRegions}
+use Rattle.model.specs.declared.FeedRefusal.the-variants.{NotAChart, Unfit}
 use Rattle.chart_value.specs.WellFormed.{wellFormed}
 use Rattle.chart_value.specs.View.{chartOf}
 use Rattle.rounds.specs.Chart.{Chart as Abstract}
 use Rattle.rounds.specs.Machine as machine
-use Rattle.stepping.specs.declared.FeedRefusal.the-variants.{NotAChart, Unfit}
 use Rattle.stepping.specs.Monitors.{monitorAt, recordOf}
 use Rattle.layout.specs.View.{Covers}
 use Rattle.plan.specs.Plan.{recordCode}

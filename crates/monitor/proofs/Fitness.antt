@@ -19,10 +19,11 @@ use Rattle.model.specs.declared.Moment.{Moment}
 use Rattle.model.specs.declared.Place.{Place}
 use Rattle.model.specs.declared.Monitor.{Monitor}
 use Rattle.model.specs.Chart.{mostClocks}
+use Rattle.model.specs.Answers.{mostRecords}
 use Rattle.base.specs.Lists.{allBelow, first}
 use Rattle.rounds.specs.Chart.{Chart as Abstract, Accepted}
 use Rattle.rounds.specs.Rows.{plain, Ready, Full}
-use Rattle.rounds.specs.Feeds.{mostRecords, noReadyRegion, conditionFails}
+use Rattle.rounds.specs.Feeds.{noReadyRegion, conditionFails}
 use Rattle.rounds.specs.Machine.{full, readyPlain, Fit}
 use Rattle.base.proofs.Bools.{split, clash, and-both, and-left, and-right, or-left, or-right, either}
 use Rattle.base.proofs.Facts.{all-of, all-at}

@@ -9,7 +9,7 @@ use Rattle.model.proofs.Monitor as monitor
 use Rattle.model.specs.declared.Monitor.{Monitor}
 use Rattle.stepping.proofs.Step as step
 use Rattle.stepping.specs.declared.Step.{Step}
-use Rattle.monitor.specs.Feed.{Stored}
+use Rattle.monitor.specs.Stored.{Stored}
 
 pub owned-monitor : (m : Monitor) (vs : List Val) → Is (row monitor.the-type) m vs → Stored m
 owned-monitor m vs p =

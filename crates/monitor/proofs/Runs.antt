@@ -14,22 +14,23 @@ use Rattle.model.specs.declared.Monitor.{Monitor}
 use Rattle.model.specs.declared.Record.{Record}
 use Rattle.model.specs.Chart.{mostRegions}
 use Rattle.model.specs.Monitor.{zeroMonitor}
+use Rattle.model.specs.declared.Answer.the-variants.{Refused}
+use Rattle.model.specs.declared.FeedRefusal.{FeedRefusal}
+use Rattle.model.specs.declared.FeedRefusal.the-variants.{NotAChart, Unfit}
+use Rattle.model.specs.Answers.{timeFalls, tooManyRecords, mostRecords, feedRefusalNumber}
 use Rattle.chart_value.specs.WellFormed.{wellFormed}
 use Rattle.chart_value.specs.View.{chartOf}
 use Rattle.chart_value.proofs.Facts.{wf-of}
 use Rattle.base.specs.Lists.{Snoc, ε, _▸_}
 use Rattle.rounds.specs.Chart.{Accepted}
 use Rattle.rounds.specs.Rows.{LogRecord}
-use Rattle.rounds.specs.Feeds.{Answer as Told, refused, toldBroken, timeFalls, tooManyRecords, mostRecords}
+use Rattle.rounds.specs.Feeds.{Answer as Told, refused, toldBroken}
 use Rattle.rounds.specs.Machine.{Monitor as AbstractMonitor, Step as AbstractStep, Fit, feed, after, answers}
 use Rattle.rounds.specs.Demand3.{Demand3}
 use Rattle.base.proofs.Bools.{split}
 use Rattle.rounds.proofs.Demand3.{demand-3}
-use Rattle.stepping.specs.declared.Answer.the-variants.{Refused}
-use Rattle.stepping.specs.declared.FeedRefusal.{FeedRefusal}
-use Rattle.stepping.specs.declared.FeedRefusal.the-variants.{NotAChart, Unfit}
 use Rattle.stepping.specs.declared.Step.{Step}
-use Rattle.stepping.specs.Answers.{answerOf, feedRefusalNumber}
+use Rattle.stepping.specs.Answers.{answerOf}
 use Rattle.stepping.specs.Monitors.{monitorAt, stepOf}
 use Rattle.stepping.proofs.Zeros.{zero-fresh}
 use Rattle.stepping.proofs.Back.{Taken, accept-taken}

@@ -19,20 +19,21 @@ use Rattle.model.specs.declared.Moment.{Moment}
 use Rattle.model.specs.declared.Tally.{Tally}
 use Rattle.model.specs.declared.Monitor.{Monitor}
 use Rattle.model.specs.Chart.{mostRegions, mostClocks}
+use Rattle.model.specs.declared.Answer.{Answer}
+use Rattle.model.specs.declared.Answer.the-variants.{Refused, Broken, Kept, Dropped, Entered, Moved, Quiet}
+use Rattle.model.specs.declared.FeedRefusal.the-variants.{TimeFalls, TooManyRecords}
+use Rattle.model.specs.Answers.{mostRecords}
 use Rattle.rounds.specs.Chart.{Chart as Abstract}
 use Rattle.rounds.specs.Rows.{LogRecord}
 use Rattle.rounds.specs.Tally.{Tally as AbstractTally}
-use Rattle.rounds.specs.Feeds.{Answer as Told, refused, toldBroken, toldKept, toldDropped, entered, moved, quiet, mostRecords}
+use Rattle.rounds.specs.Feeds.{Answer as Told, refused, toldBroken, toldKept, toldDropped, entered, moved, quiet}
 use Rattle.rounds.specs.Machine.{Monitor as AbstractMonitor, Fit, accept, feed}
 use Rattle.base.proofs.Bools.{split, or-right}
-use Rattle.stepping.specs.declared.Answer.{Answer}
-use Rattle.stepping.specs.declared.Answer.the-variants.{Refused, Broken, Kept, Dropped, Entered, Moved, Quiet}
-use Rattle.stepping.specs.declared.FeedRefusal.the-variants.{TimeFalls, TooManyRecords}
 use Rattle.stepping.specs.Answers.{answerOf}
 use Rattle.firing.specs.Places.{momentsOf}
 use Rattle.stepping.specs.Monitors.{monitorAt}
 use Rattle.stepping.proofs.Back.{Taken, accept-taken}
-use Rattle.monitor.specs.Feed.{Stored}
+use Rattle.monitor.specs.Stored.{Stored}
 
 -- the numbers below n that pass, as a set
 setOf : ℕ → (ℕ → Bool) → ℕ

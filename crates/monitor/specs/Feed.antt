@@ -1,40 +1,34 @@
--- Making a monitor and feeding it a record.
+-- Making a monitor and feeding it a record, as it is computed.
 use mathlib.Core.Path.{_≡_}
 use mathlib.Core.Bool.{cond, not}
-use Prim.Native.Nat.{ℕ, _<_, _^_}
-use lib.ListN.{length}
+use Prim.Native.Nat.{ℕ}
 use Rattle.model.specs.declared.Chart.{Chart}
 use Rattle.model.specs.declared.Monitor.{Monitor}
 use Rattle.model.specs.declared.Record.{Record}
-use Rattle.model.specs.Chart.{mostRegions, mostClocks}
 use Rattle.model.specs.Monitor.{zeroMonitor}
+use Rattle.model.specs.declared.FeedRefusal.{FeedRefusal}
+use Rattle.model.specs.declared.FeedRefusal.the-variants.{NotAChart, Unfit}
+use Rattle.model.specs.Answers.{notAChart, feedRefusalNumber}
 use Rattle.chart_value.specs.WellFormed.{wellFormed}
 use Rattle.chart_value.specs.Records.{logRecord}
 use Rattle.chart_value.specs.View.{chartOf}
 use Rattle.rounds.specs.Feeds.{refused}
 use Rattle.rounds.specs.Machine as machine
-use Rattle.stepping.specs.declared.FeedRefusal.{FeedRefusal}
-use Rattle.stepping.specs.declared.FeedRefusal.the-variants.{NotAChart, Unfit}
-use Rattle.stepping.specs.Answers.{feedRefusalNumber}
 use Rattle.stepping.specs.Monitors.{monitorAt}
 use Rattle.monitor.specs.declared.MadeAnswer.{MadeAnswer}
 use Rattle.monitor.specs.declared.MadeAnswer.the-variants.{Fresh, NoChart}
 use Rattle.monitor.specs.declared.Made.{Made}
+use Rattle.monitor.specs.Stored.{Stored}
 use Rattle.monitor.specs.Fit.{fits}
-
--- what the types say of a monitor: 32 bits for the fired regions, eight places for the reset moments
-pub record Stored (m : Monitor) : Type 0 where
-  pub bits : m .at .fired < 2 ^ mostRegions
-  pub places : length (m .at .resets) ≡ mostClocks
 
 -- M8: 0 made, 20 no chart
 abbrev pub madeNumber : MadeAnswer → ℕ
 madeNumber Fresh = 0
-madeNumber NoChart = feedRefusalNumber NotAChart
+madeNumber NoChart = notAChart
 
 -- Making a monitor: fresh, all zeros, or 20 with a monitor of zeros.
 pub record MadeOf (c : Chart) (r : Made) : Type 0 where
-  pub number : madeNumber (r .answer) ≡ cond (wellFormed c) 0 (feedRefusalNumber NotAChart)
+  pub number : madeNumber (r .answer) ≡ cond (wellFormed c) 0 notAChart
   pub monitor : r .monitor ≡ zeroMonitor
   pub stored : Stored (r .monitor)
 

@@ -11,9 +11,10 @@ use Rattle.model.specs.declared.Break.{Break}
 use Rattle.model.specs.declared.Tally.{Tally}
 use Rattle.model.specs.declared.Monitor.{Monitor}
 use Rattle.model.specs.Chart.{mostClocks}
+use Rattle.model.specs.Answers.{mostRecords}
 use Rattle.base.specs.Lists.{allBelow}
 use Rattle.rounds.specs.Chart.{Chart as Abstract}
-use Rattle.rounds.specs.Feeds.{mostRecords, noReadyRegion, conditionFails}
+use Rattle.rounds.specs.Feeds.{noReadyRegion, conditionFails}
 use Rattle.rounds.specs.Machine.{full, readyPlain}
 use Rattle.firing.specs.Places.{momentsOf}
 

@@ -5,16 +5,17 @@ use Rattle.model.specs.declared.Chart.{Chart}
 use Rattle.model.specs.declared.Monitor.{Monitor}
 use Rattle.model.specs.declared.Record.{Record}
 use Rattle.model.specs.Monitor.{zeroMonitor}
+use Rattle.model.specs.declared.Answer.the-variants.{Refused}
+use Rattle.model.specs.declared.FeedRefusal.the-variants.{NotAChart, Unfit}
 use Rattle.chart_value.specs.View.{chartOf}
 use Rattle.base.specs.Lists.{Snoc, ε, _▸_}
 use Rattle.rounds.specs.Feeds.{Answer as Told}
 use Rattle.rounds.specs.Machine.{Fit, feed, after, answers}
-use Rattle.stepping.specs.declared.Answer.the-variants.{Refused}
-use Rattle.stepping.specs.declared.FeedRefusal.the-variants.{NotAChart, Unfit}
 use Rattle.stepping.specs.declared.Step.{Step}
 use Rattle.stepping.specs.Answers.{answerOf}
 use Rattle.stepping.specs.Monitors.{monitorAt, stepOf}
-use Rattle.monitor.specs.Feed.{Stored, feedOf}
+use Rattle.monitor.specs.Feed.{feedOf}
+use Rattle.monitor.specs.Stored.{Stored}
 use Rattle.chart_value.specs.Records.{logRecord, logged}
 
 -- W10: a list of feeds of one chart, each with the monitor of the feed before it. Each feed gives what its definition

@@ -2,9 +2,11 @@
 use firing::Found;
 use layout::Head;
 use layout::TERM_PLACES;
+use model::Answer;
 use model::Break;
 use model::CLOCK_PLACES;
 use model::Chart;
+use model::FeedRefusal;
 use model::MOST_RECORDS;
 use model::MOST_REGIONS;
 use model::Moment;
@@ -12,9 +14,7 @@ use model::Monitor;
 use model::Place;
 use model::Record;
 use model::Tally;
-use stepping::Answer;
 use stepping::CONDITION_FAILS;
-use stepping::FeedRefusal;
 use stepping::NO_READY_REGION;
 use stepping::Step;
 ghost use mathlib.Core.Path.{_≡_};
@@ -32,7 +32,8 @@ ghost use Rattle.layout.specs.View.{planChart, Compiled};
 ghost use Rattle.firing.specs.Parts.{foundOf};
 ghost use Rattle.stepping.specs.Answers.{HandsBack};
 ghost use Rattle.monitor.specs.Fit.{isNone, momentsFit, breakFits, countsFit, placeFits, fits};
-ghost use Rattle.monitor.specs.Feed.{Stored, MadeOf, refuse, feedOf};
+ghost use Rattle.monitor.specs.Feed.{MadeOf, refuse, feedOf};
+ghost use Rattle.monitor.specs.Stored.{Stored};
 ghost use Rattle.chart_value.specs.Records.{logRecord};
 
 pub enum MadeAnswer {

@@ -5,20 +5,20 @@ use borrow.Author.Tests.{lt-ltb, le-ltb}
 use lib.ListN.{length}
 use Prim.Native.Nat.{ℕ, _≤_, _<_}
 use Rattle.model.specs.declared.Chart.{Chart}
+use Rattle.model.specs.declared.Verdict.{Verdict}
 use Rattle.chart_step.specs.declared.Refusal.{Refusal}
 use Rattle.chart_step.specs.declared.Refusal.the-variants as chart
 use Rattle.chart_step.specs.Refusal.{refusalNumber}
 use Rattle.chart_reader.specs.declared.ChartAnswer.{ChartAnswer}
 use Rattle.chart_reader.specs.declared.ChartAnswer.the-variants as read
-use Rattle.chart_reader.specs.Read as read-specs
+use Rattle.chart_reader.specs.Said as read-specs
 use Rattle.log_reader.specs.declared.RecordRefusal.the-variants as bytes
 use Rattle.judge.specs.declared.LogRefusal.{LogRefusal}
 use Rattle.judge.specs.declared.LogRefusal.the-variants as log
 use Rattle.judge.specs.declared.JudgeAnswer.{JudgeAnswer}
 use Rattle.judge.specs.declared.JudgeAnswer.the-variants as judge
-use Rattle.judge.specs.declared.Verdict.{Verdict}
-use Rattle.judge.specs.Check.{logRefusalNumber}
-use Rattle.judge.specs.Judge as judge-specs
+use Rattle.judge.specs.Verdict.{logRefusalNumber}
+use Rattle.judge.specs.Verdict as judge-specs
 use Rattle.listing.specs.declared.Part.the-variants as part
 use Rattle.listing.specs.declared.Report.{Report}
 use Rattle.listing.specs.declared.Report.the-variants.{Refused}

@@ -5,9 +5,9 @@ use mathlib.Core.List.{List}
 use lib.ListN.{length, take, drop}
 use lib.Dec.{eqb, ltb}
 use Rattle.wire.specs.Bytes.{word16}
-use Rattle.chart_reader.specs.Read as read
+use Rattle.chart_reader.specs.Said as read
 use Rattle.chart_reader.specs.Read.{readChart}
-use Rattle.judge.specs.Judge as judge
+use Rattle.judge.specs.Verdict as judge
 use Rattle.judge.specs.Judge.{judgeOf}
 use Rattle.listing.specs.Listing.{listingOf, listed, room}
 use Rattle.listing.specs.declared.Part.the-variants.{Input, Chart, Log}

@@ -7,7 +7,7 @@ use listing::Report;
 ghost use mathlib.Core.Path.{_≡_};
 ghost use Prim.Native.Nat.{_<_, _≤_};
 ghost use lib.ListN.{length};
-ghost use Rattle.judge.specs.Judge.{said};
+ghost use Rattle.judge.specs.Verdict.{said};
 ghost use Rattle.respond.specs.Respond.{logReport, partsReport, reportOf, textOf, responseOf, bufferAfter};
 ghost use Rattle.respond.specs.Respond.{countOf};
 
@@ -44,7 +44,7 @@ fn report_log(j: Judgement) -> Report
     let verdict = j.verdict;
     match answer {
         JudgeAnswer::Judged => Report::Judged(verdict),
-        JudgeAnswer::NoChart => Report::Refused(Part::Log, judge::NO_CHART, 0),
+        JudgeAnswer::NoChart => Report::Refused(Part::Log, model::NOT_A_CHART, 0),
         JudgeAnswer::Refused(k, offset) => {
             Report::Refused(Part::Log, judge::refusal_number(k), offset)
         }

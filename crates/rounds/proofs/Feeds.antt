@@ -7,9 +7,10 @@ use native.Mathlib.Omega.{arith}
 use lib.Dec.{eqb, ltb, leb}
 use borrow.Author.Tests.{eq-eqb, ne-eqb}
 use Rattle.base.specs.Lists.{Snoc, ε, _▸_, size, onFound}
+use Rattle.model.specs.Answers.{mostRecords}
 use Rattle.rounds.specs.Chart.{Chart, Accepted}
 use Rattle.rounds.specs.Rows.{LogRecord, Row, stands, chartMessages, messageRegions, opened, resetMoment, Lawful, Full}
-use Rattle.rounds.specs.Feeds.{mostRecords, lastMoment, refusal, Outcome, Stretch, Last, unended, behind, Ends, Answer, refused, toldBroken, ending, Onward, FedOne, refuses, runs-on, ends, again, Fed, none-yet, one-more}
+use Rattle.rounds.specs.Feeds.{lastMoment, refusal, Outcome, Stretch, Last, unended, behind, Ends, Answer, refused, toldBroken, ending, Onward, FedOne, refuses, runs-on, ends, again, Fed, none-yet, one-more}
 use Rattle.rounds.specs.Machine.{Monitor, Step, opening, goOn, keepRound, dropRound, breakRound, accept, feed, after, answers}
 use Rattle.rounds.specs.Demand3.{Unbroken, Broken, AtLast, Agrees, Meaning}
 use Rattle.base.proofs.Bools.{split}

@@ -7,10 +7,11 @@ use native.Mathlib.Omega.{arith}
 use lib.Dec.{eqb, ltb, leb}
 use borrow.Author.Tests.{eqb-true, ltb-false, ltb-true, leb-false, not-false}
 use Rattle.base.specs.Lists.{Snoc, ε, _▸_}
+use Rattle.model.specs.Answers.{mostRecords}
 use Rattle.rounds.specs.Chart.{Chart, Accepted}
 use Rattle.rounds.specs.Rows.{LogRecord, chartMessage, plain, Ready, values, opened, Full}
 use Rattle.rounds.specs.Tally.{noBreak, countedAs}
-use Rattle.rounds.specs.Feeds.{mostRecords, noReadyRegion, conditionFails}
+use Rattle.rounds.specs.Feeds.{noReadyRegion, conditionFails}
 use Rattle.rounds.specs.Machine.{Place, Monitor, fresh, Move, stuck, fails, rests, readyPlain, readyFor, fire, unfired, settle, place, opening, full, prechartDone, goOn, keepRound, dropRound, breakRound, conclude, accept, feed, after, Fit}
 use Rattle.base.proofs.Bools.{split, or-right, either}
 use Rattle.base.proofs.Facts.{found}

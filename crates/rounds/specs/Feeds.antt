@@ -1,24 +1,15 @@
 -- Stretches, how they end, and how feeds are answered (W11 to W25).
 use mathlib.Core.Path.{_≡_}
-use mathlib.Core.Logic.{_↔_}
+use mathlib.Core.Logic.{_↔_, _⊎_}
 use mathlib.Core.Bool.{Bool, true, false, cond, So}
 use mathlib.Core.Option.{Option, none, some}
 use Prim.Native.Nat.{ℕ, suc, _<_}
 use lib.Dec.{ltb, leb}
 use Rattle.base.specs.Lists.{Snoc, ε, _▸_, size, keep}
+use Rattle.model.specs.Answers.{timeFalls, tooManyRecords, mostRecords}
 use Rattle.rounds.specs.Chart.{Chart}
 use Rattle.rounds.specs.Rows.{LogRecord, Row, stands, chartMessages, Lawful, NoRow, Full, PrechartDone}
 use Rattle.rounds.specs.Rows.{LawfulButLast, firstFailing}
-
--- N9: the refusals of a record, and how many records there can be
-abbrev pub timeFalls : ℕ
-timeFalls = 22
-
-abbrev pub tooManyRecords : ℕ
-tooManyRecords = 23
-
-abbrev pub mostRecords : ℕ
-mostRecords = 1000000
 
 -- T19, T21: the reasons of a break
 abbrev pub noReadyRegion : ℕ
@@ -140,29 +131,17 @@ abbrev pub droppedAmong : Snoc Stretch → ℕ
 droppedAmong es = size (keep (λ x. isDropped (x .outcome)) es)
 
 -- W24: the answers by which the round goes on, and those by which it is dropped or broken
-abbrev pub saysRunsOn : Answer → Bool
-saysRunsOn (refused k) = false
-saysRunsOn (toldBroken n k) = false
-saysRunsOn toldKept = false
-saysRunsOn toldDropped = false
-saysRunsOn entered = true
-saysRunsOn moved = true
-saysRunsOn quiet = true
+abbrev pub SaysRunsOn : Answer → Type 0
+SaysRunsOn a = (a ≡ entered) ⊎ (a ≡ moved) ⊎ (a ≡ quiet)
 
-abbrev pub saysDroppedOrBroken : Answer → Bool
-saysDroppedOrBroken (refused k) = false
-saysDroppedOrBroken (toldBroken n k) = true
-saysDroppedOrBroken toldKept = false
-saysDroppedOrBroken toldDropped = true
-saysDroppedOrBroken entered = false
-saysDroppedOrBroken moved = false
-saysDroppedOrBroken quiet = false
+abbrev pub SaysDroppedOrBroken : Answer → Type 0
+SaysDroppedOrBroken a = (a ≡ toldDropped) ⊎ ((n : ℕ) × (k : ℕ) × (a ≡ toldBroken n k))
 
 -- W24, of the answer to record e after the stretch s
 pub record Exactly (C : Chart) (o : ℕ) (s : Snoc LogRecord) (e : LogRecord) (a : Answer) : Type 0 where
   -- kept: some lawful row is complete
   pub kept-exactly : (a ≡ toldKept) ↔ ((r : Row) × Lawful C o (s ▸ e) r × Full C (stands r))
   -- running on: some lawful row is not
-  pub runs-on-exactly : So (saysRunsOn a) ↔ ((r : Row) × Lawful C o (s ▸ e) r × (¬ Full C (stands r)))
+  pub runs-on-exactly : SaysRunsOn a ↔ ((r : Row) × Lawful C o (s ▸ e) r × (¬ Full C (stands r)))
   -- dropped or broken: no row is lawful
-  pub dropped-or-broken-exactly : So (saysDroppedOrBroken a) ↔ NoRow C o (s ▸ e)
+  pub dropped-or-broken-exactly : SaysDroppedOrBroken a ↔ NoRow C o (s ▸ e)

@@ -6,10 +6,11 @@ use mathlib.Core.Option.{Option}
 use Prim.Native.Nat.{ℕ, zero, suc, _+_, _≤_, _<_}
 use lib.Dec.{eqb, ltb, leb}
 use Rattle.base.specs.Lists.{Snoc, ε, _▸_, allBelow, countBelow, first, onFound}
+use Rattle.model.specs.Answers.{timeFalls, tooManyRecords, mostRecords}
 use Rattle.rounds.specs.Chart.{Chart}
 use Rattle.rounds.specs.Rows.{LogRecord, chartMessage, plain, Ready, Full, values, opened}
 use Rattle.rounds.specs.Tally.{Tally, freshTally, counted, countedKept, countedDropped, countedBroken}
-use Rattle.rounds.specs.Feeds.{timeFalls, tooManyRecords, mostRecords, noReadyRegion, conditionFails, Answer}
+use Rattle.rounds.specs.Feeds.{noReadyRegion, conditionFails, Answer}
 use Rattle.rounds.specs.Feeds.{refused, toldBroken, toldKept, toldDropped, entered, moved, quiet}
 
 -- T1: which regions are fired, and when each clock was last reset

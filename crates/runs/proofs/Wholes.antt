@@ -10,9 +10,10 @@ use native.Mathlib.Omega.{arith}
 use lib.Dec.{ltb}
 use borrow.Author.Tests.{ltb-false}
 use Rattle.base.specs.Lists.{Snoc, ε, _▸_}
+use Rattle.model.specs.Answers.{timeFalls}
 use Rattle.rounds.specs.Chart.{Chart, Accepted}
 use Rattle.rounds.specs.Rows.{LogRecord, Row, stands, chartMessage, chartMessages, Lawful, NoRow, Full, PrechartDone}
-use Rattle.rounds.specs.Feeds.{timeFalls, lastMoment, refusal, kept, dropped, broken, Outcome, Stretch, Last, unended, behindBreak, behind, Answer, refused, toldBroken, toldKept, toldDropped, entered, moved, quiet, saysDroppedOrBroken, Onward, completes-prechart, fires, stays, FedOne, refuses, runs-on, ends, again, Fed, none-yet, one-more, Exactly}
+use Rattle.rounds.specs.Feeds.{lastMoment, refusal, kept, dropped, broken, Outcome, Stretch, Last, unended, behindBreak, behind, Answer, refused, toldBroken, toldKept, toldDropped, entered, moved, quiet, Onward, completes-prechart, fires, stays, FedOne, refuses, runs-on, ends, again, Fed, none-yet, one-more, Exactly}
 use Rattle.rounds.specs.Machine.{Place, Move, stuck, fails, rests, place, prechartDone, full, Monitor, Step, goOn, keepRound, dropRound, breakRound, conclude, accept, feed, after}
 use Rattle.rounds.specs.Demand3.{Unbroken, AtLast}
 use Rattle.base.proofs.Bools.{split, clash}
@@ -385,7 +386,7 @@ module _ (C : Chart) where
               end = B .to;
               run = B .run;
               prechart = done-satisfies C A (prompt-run C (B .run)) (B .done);
-              none-whole = decided e h .dropped-or-broken-exactly .0 (ap saysDroppedOrBroken a);
+              none-whole = decided e h .dropped-or-broken-exactly .0 (inr (_, _, a));
             }
 
       pub broken-violates : (e : LogRecord) (n k : ℕ) → feed C (after C fs) e .answer ≡ toldBroken n k → Violated C o (s ▸ e)

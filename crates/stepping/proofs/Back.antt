@@ -1,16 +1,14 @@
 -- A record that is taken is not refused. Assumes nothing.
-use mathlib.Core.Path.{_≡_, refl, sym, subst}
+use mathlib.Core.Path.{_≡_, sym, subst}
 use mathlib.Core.Bool.{Bool, true, false, cond, not, _&&_}
 use Rattle.model.specs.declared.Monitor.{Monitor}
+use Rattle.model.specs.declared.Answer.{Answer}
 use Rattle.rounds.specs.Chart.{Chart}
 use Rattle.rounds.specs.Rows.{LogRecord, chartMessage}
 use Rattle.rounds.specs.Feeds.{Answer as AbstractAnswer, refused, toldBroken, toldKept, toldDropped, entered, moved, quiet}
 use Rattle.rounds.specs.Machine.{Monitor as AbstractMonitor, Step as AbstractStep, Move, stuck, fails, rests, place, full, prechartDone, goOn, keepRound, dropRound, breakRound, conclude, accept}
-use Rattle.base.proofs.Bools.{clash}
-use Rattle.stepping.specs.declared.Answer.{Answer}
-use Rattle.stepping.specs.declared.Answer.the-variants.{Refused, Broken, Kept, Dropped, Entered, Moved, Quiet}
 use Rattle.stepping.specs.declared.Step.{Step}
-use Rattle.stepping.specs.Answers.{answerOf, isRefused, HandsBack}
+use Rattle.stepping.specs.Answers.{answerOf, HandsBack}
 
 unfoldable pub Taken : AbstractAnswer → Type 0
 Taken (refused k) = ⊥
@@ -40,23 +38,14 @@ module _ (C : Chart) (m : AbstractMonitor) (e : LogRecord) where
   unfolding accept goOn Taken
   accept-taken = either-taken (chartMessage C e) (conclude C m e (place C (m .at) e)) (goOn C m e quiet (m .at)) (conclude-taken (place C (m .at) e)) tt
 
-not-refused : (a : Answer) → Taken (answerOf a) → isRefused a ≡ false
-unfolding Taken
-not-refused (Refused k) t = absurd t
-not-refused (Broken n k) t = refl
-not-refused Kept t = refl
-not-refused Dropped t = refl
-not-refused Entered t = refl
-not-refused Moved t = refl
-not-refused Quiet t = refl
-
 pub taken-back : (C : Chart) (v : AbstractMonitor) (e : LogRecord) (m : Monitor) (r : Step) → answerOf (r .answer) ≡ accept C v e .answer
     → m .tally .broken .at ≡ 0 → HandsBack m r
+unfolding Taken
 taken-back C v e m r q z = record {
-  refused = λ p. clash p (not-refused (r .answer) (subst Taken (sym q) (accept-taken C v e)));
+  refused = λ k p. absurd (subst (λ (a : Answer). Taken (answerOf a)) p (subst Taken (sym q) (accept-taken C v e)));
   broken = λ n. absurd (n z);
 }
 
 -- the monitor itself is handed back
 pub same-back : (m : Monitor) (r : Step) → r .next ≡ m → HandsBack m r
-same-back m r e = record { refused = λ p. e; broken = λ n. e }
+same-back m r e = record { refused = λ k p. e; broken = λ n. e }

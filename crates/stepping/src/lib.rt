@@ -4,7 +4,9 @@ use firing::Settled;
 use firing::Sought;
 use layout::Head;
 use layout::TERM_PLACES;
+use model::Answer;
 use model::Break;
+use model::FeedRefusal;
 use model::MOST_RECORDS;
 use model::MOST_REGIONS;
 use model::Moment;
@@ -16,8 +18,9 @@ ghost use mathlib.Core.Bool.{_&&_, not, cond};
 ghost use mathlib.Core.List.{List};
 ghost use Prim.Native.Nat.{ℕ, _<_, _≤_, _+_};
 ghost use Rattle.model.specs.Chart.{mostRegions, mostClocks};
+ghost use Rattle.model.specs.Answers.{mostRecords};
 ghost use Rattle.rounds.specs.Chart.{Chart};
-ghost use Rattle.rounds.specs.Feeds.{mostRecords, entered, moved};
+ghost use Rattle.rounds.specs.Feeds.{entered, moved};
 ghost use Rattle.rounds.specs.Tally.{countedAs, counted as tallied, countedKept, countedDropped, countedBroken};
 ghost use Rattle.rounds.specs.Machine.{stuck, goOn, keepRound, dropRound};
 ghost use Rattle.rounds.specs.Machine.{breakRound, conclude as concluded, accept as accepted, feed as fed, Fit};
@@ -25,7 +28,7 @@ ghost use Rattle.layout.specs.View.{planChart, Compiled, Covers};
 ghost use Rattle.firing.specs.declared.Rest.the-variants.{Fails as FailsAt};
 ghost use Rattle.firing.specs.Places.{momentsOf, placeAt};
 ghost use Rattle.firing.specs.Parts.{moveOf};
-ghost use Rattle.stepping.specs.Answers.{feedRefusalNumber, answerNumber, answerOf, HandsBack};
+ghost use Rattle.stepping.specs.Answers.{answerOf, HandsBack};
 ghost use Rattle.stepping.specs.Monitors.{breakAt, tallyAt, monitorAt, stepOf, recordOf};
 
 // The reasons of a break.
@@ -33,56 +36,10 @@ pub const NO_READY_REGION: u8 = 1;
 
 pub const CONDITION_FAILS: u8 = 2;
 
-// Why a record is refused.
-pub enum FeedRefusal {
-    NotAChart,
-    Unfit,
-    TimeFalls,
-    TooManyRecords,
-}
-
-// The answer for a record; a break with its record and reason.
-pub enum Answer {
-    Refused(FeedRefusal),
-    Broken(u32, u8),
-    Kept,
-    Dropped,
-    Entered,
-    Moved,
-    Quiet,
-}
-
 // What a feed gives.
 pub struct Step {
     pub answer: Answer,
     pub next: Monitor,
-}
-
-// The refusal's number.
-pub fn refusal_number(k: FeedRefusal) -> u8
-    ensures { λ r. ⌜ r ≡ feedRefusalNumber k ⌝ }
-{
-    match k {
-        FeedRefusal::NotAChart => 20,
-        FeedRefusal::Unfit => 21,
-        FeedRefusal::TimeFalls => 22,
-        FeedRefusal::TooManyRecords => 23,
-    }
-}
-
-// The answer's number.
-pub fn answer_number(a: Answer) -> u8
-    ensures { λ r. ⌜ r ≡ answerNumber a ⌝ }
-{
-    match a {
-        Answer::Refused(k) => refusal_number(k),
-        Answer::Broken(_, _) => 1,
-        Answer::Kept => 2,
-        Answer::Dropped => 3,
-        Answer::Entered => 4,
-        Answer::Moved => 5,
-        Answer::Quiet => 6,
-    }
 }
 
 // A record at moment t is counted, with these counts of rounds and this break.

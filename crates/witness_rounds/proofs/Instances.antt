@@ -12,7 +12,7 @@ use Rattle.model.specs.declared.Monitor.{Monitor}
 use Rattle.model.specs.declared.Record.{Record}
 use Rattle.model.specs.Chart.{zeroChart}
 use Rattle.model.specs.Monitor.{zeroMonitor}
-use Rattle.chart_reader.specs.Read.{acceptedAs}
+use Rattle.chart_reader.specs.Said.{acceptedAs}
 use Rattle.chart_value.specs.Given.{Given}
 use Rattle.chart_value.proofs.Sound.{sound}
 use Rattle.base.specs.Lists.{Snoc, ε, _▸_, size}

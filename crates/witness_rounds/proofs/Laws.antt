@@ -12,9 +12,10 @@ use lib.Dec.{eqb, ltb, leb}
 use lib.ListN.{getD, length, List·getD-eq-default}
 use borrow.Author.Tests.{eqb-true, ltb-true, ltb-false, leb-true, le-ltb}
 use Rattle.base.specs.Lists.{Snoc, _▸_}
+use Rattle.model.specs.Answers.{mostRecords}
 use Rattle.rounds.specs.Chart.{Chart, Accepted}
 use Rattle.rounds.specs.Rows.{LogRecord, Row, stands, chartMessage, values, Ready}
-use Rattle.rounds.specs.Feeds.{mostRecords, Answer}
+use Rattle.rounds.specs.Feeds.{Answer}
 use Rattle.rounds.specs.Machine.{Place, fails, ready, readyPlain, place, opening, Monitor, Step, feed, after}
 use Rattle.base.specs.Table.{table}
 use Rattle.base.proofs.Bools.{split, and-left, and-right}

@@ -6,8 +6,9 @@ use mathlib.Core.List.{[], _∷_}
 use Prim.Native.Nat.{ℕ}
 use native.Mathlib.Omega.{arith}
 use Rattle.base.specs.Lists.{Snoc, ε, _▸_}
+use Rattle.model.specs.Answers.{timeFalls}
 use Rattle.rounds.specs.Rows.{LogRecord, Row, stands, plain, Lawful, LawfulButLast, PrechartDone}
-use Rattle.rounds.specs.Feeds.{timeFalls, noReadyRegion, dropped, broken, Ends, unplaced-main, unplaced-prechart, toldDropped, toldBroken, entered, moved, quiet, Onward, completes-prechart, fires, stays, refuses, runs-on, ends, again, none-yet, one-more}
+use Rattle.rounds.specs.Feeds.{noReadyRegion, dropped, broken, Ends, unplaced-main, unplaced-prechart, toldDropped, toldBroken, entered, moved, quiet, Onward, completes-prechart, fires, stays, refuses, runs-on, ends, again, none-yet, one-more}
 use Rattle.rounds.specs.Machine.{after}
 use Rattle.rounds.proofs.Endings.{unlawful}
 use Rattle.rounds.proofs.Tested.{lawful-tested, no-region}

@@ -8,7 +8,7 @@ use Rattle.model.specs.Chart.{zeroChart}
 use Rattle.model.specs.Monitor.{zeroMonitor}
 use Rattle.base.specs.Lists.{ε, _▸_}
 use Rattle.rounds.specs.Feeds.{refused, toldBroken, entered}
-use Rattle.chart_reader.specs.Read.{acceptedAs}
+use Rattle.chart_reader.specs.Said.{acceptedAs}
 use Rattle.log_reader.specs.Record as found
 use Rattle.monitor.specs.declared.MadeAnswer.the-variants.{Fresh, NoChart}
 use Rattle.claims.specs.Examples.{chartU}

@@ -6,7 +6,9 @@ use Prim.Native.Nat.{ℕ}
 use lib.ListN.{getD}
 use Rattle.model.specs.declared.Chart.{Chart}
 use Rattle.model.specs.declared.Record.{Record}
-use Rattle.chart_reader.specs.Read.{readChart, acceptedAs}
+use Rattle.model.specs.declared.Verdict.{Verdict}
+use Rattle.chart_reader.specs.Read.{readChart}
+use Rattle.chart_reader.specs.Said.{acceptedAs}
 use Rattle.chart_value.specs.View.{chartOf}
 use Rattle.log_reader.specs.Records.{recordsIn}
 use Rattle.base.specs.Lists.{Snoc, ε, _▸_}
@@ -18,7 +20,6 @@ use Rattle.rounds.specs.Machine.{after}
 use Rattle.runs.specs.Paper.{Config, initial}
 use Rattle.runs.specs.Taken.{Status, Taken, caseOf, statusOf}
 use Rattle.chart_value.specs.Records.{logRecord, logged}
-use Rattle.judge.specs.declared.Verdict.{Verdict}
 use Rattle.judge.specs.Judge.{judgeOf}
 use Rattle.claims.specs.Examples.{chartU}
 use Rattle.witness_rounds.specs.Charts.{chartA, chartB, undo, headings, references}

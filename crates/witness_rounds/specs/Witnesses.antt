@@ -5,10 +5,11 @@ use mathlib.Core.List.{[], _∷_}
 use mathlib.Core.Option.{some}
 use Prim.Native.Nat.{ℕ}
 use Rattle.model.specs.declared.Record.{Record}
+use Rattle.model.specs.Answers.{timeFalls}
 use Rattle.base.specs.Lists.{Snoc, ε, _▸_}
 use Rattle.rounds.specs.Chart.{Chart}
 use Rattle.rounds.specs.Rows.{Row, plain, NoRow, LawfulButLast}
-use Rattle.rounds.specs.Feeds.{timeFalls, noReadyRegion, Outcome, dropped, broken, behindBreak, Ends}
+use Rattle.rounds.specs.Feeds.{noReadyRegion, Outcome, dropped, broken, behindBreak, Ends}
 use Rattle.rounds.specs.Feeds.{refused, toldDropped, toldBroken, entered, moved, quiet, Onward, Fed}
 use Rattle.rounds.specs.Machine.{after}
 use Rattle.runs.specs.Paper.{Config, Letter, message, silent, delay, initial, Advance, by, Prompt, Over, spelled}

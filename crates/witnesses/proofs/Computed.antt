@@ -15,7 +15,8 @@ use Rattle.monitor.specs.Fit.{closedUpward, restsUnlessBroken, momentsFit, brea
 use Rattle.monitor.specs.Feed.{feedOf}
 use Rattle.log_reader.specs.Records.{recordsFrom, recordsIn}
 use Rattle.judge.specs.Check.{stepAt, checkFrom, checkLog}
-use Rattle.judge.specs.Judge.{standingOf, judgeOf}
+use Rattle.judge.specs.Judge.{judgeOf}
+use Rattle.judge.specs.Verdict.{standingOf}
 use Rattle.text.specs.Text.{bytesOf, digitsOf}
 use Rattle.listing.specs.Listing.{verdictLines, refusalLine}
 use Rattle.respond.specs.Respond.{partsReport, reportOf, textOf}

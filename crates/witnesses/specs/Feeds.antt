@@ -7,11 +7,12 @@ use Rattle.model.specs.declared.Record.{Record}
 use Rattle.model.specs.declared.Record.the-variants as event
 use Rattle.model.specs.declared.Monitor.{Monitor}
 use Rattle.model.specs.Monitor.{zeroMonitor}
+use Rattle.model.specs.declared.Answer.{Answer}
+use Rattle.model.specs.declared.Answer.the-variants as answer
+use Rattle.model.specs.declared.FeedRefusal.the-variants.{NotAChart, Unfit, TimeFalls, TooManyRecords}
+use Rattle.model.specs.Answers.{answerNumber}
 use Rattle.chart_reader.specs.Read.{readChart}
-use Rattle.stepping.specs.declared.Answer.{Answer}
-use Rattle.stepping.specs.declared.Answer.the-variants as answer
-use Rattle.stepping.specs.declared.FeedRefusal.the-variants.{NotAChart, Unfit, TimeFalls, TooManyRecords}
-use Rattle.stepping.specs.Answers.{answerNumber, answerOf}
+use Rattle.stepping.specs.Answers.{answerOf}
 use Rattle.monitor.specs.Feed.{feedOf}
 use Rattle.witnesses.specs.Hex.{hex}
 use Rattle.witnesses.specs.Rounds.{chartP}

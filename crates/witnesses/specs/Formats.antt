@@ -4,12 +4,13 @@ use mathlib.Core.List.{List, [], _∷_, _++_}
 use Prim.Native.String.{String}
 use Prim.Native.Nat.{ℕ, _<_}
 use lib.ListN.{length}
-use Rattle.rounds.specs.Feeds.{mostRecords}
+use Rattle.model.specs.Answers.{mostRecords}
 use Rattle.judge.specs.declared.LogRefusal.the-variants as log
 use Rattle.judge.specs.declared.Checked.the-variants as checked
 use Rattle.judge.specs.declared.CheckStep.{CheckStep}
 use Rattle.judge.specs.declared.CheckStep.the-variants as check
-use Rattle.judge.specs.Check.{logRefusalNumber, stepAt}
+use Rattle.judge.specs.Check.{stepAt}
+use Rattle.judge.specs.Verdict.{logRefusalNumber}
 use Rattle.text.specs.Text.{bytesOf}
 use Rattle.respond.specs.Respond.{textOf}
 use Rattle.witnesses.specs.Hex.{hex}

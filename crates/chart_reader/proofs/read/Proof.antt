@@ -6,7 +6,8 @@ use Rattle.chart_step.specs.declared.Reading.{Reading}
 use Rattle.chart_reader.proofs.Laws.{read-step}
 use borrow.Author.Needs.{needs}
 use mathlib.Core.Path.{_≡_, refl, sym, ap, _∙_}
-use Rattle.chart_reader.specs.Read.{said, readFrom, readChart}
+use Rattle.chart_reader.specs.Read.{readFrom, readChart}
+use Rattle.chart_reader.specs.Said.{said}
 use Rattle.chart_reader.proofs.Count.{any-count}
 use Rattle.chart_reader.proofs.read.Statement.{statement}
 use Rattle.chart_reader.proofs.read.Tie as tie

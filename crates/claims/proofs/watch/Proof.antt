@@ -1,6 +1,6 @@
 -- `claims::watch` meets its contract: by what reading the chart said. Assumes nothing.
 use mathlib.Core.Path.{refl, sym, ap, _∙_}
-use Rattle.chart_reader.specs.Read.{Said, numberOf}
+use Rattle.chart_reader.specs.Said.{Said, numberOf}
 use Rattle.chart_step.proofs.Numbers.{refusal-nonzero}
 use Rattle.claims.proofs.Watching.{watched}
 use borrow.Author.Needs.{needs}

@@ -1,5 +1,5 @@
 -- `live::chart_in` meets its contract: the tests in their order, then what the reader gives. Assumes nothing.
-use Rattle.chart_reader.specs.Read.{Said}
+use Rattle.chart_reader.specs.Said.{Said}
 use native.Mathlib.Omega.{arith}
 use Rattle.live.proofs.Charts.{too-few, beyond, framed}
 use mathlib.Core.Path.{sym, ap, _∙_}

@@ -51,7 +51,8 @@ use denote.Triple.Spec.{Meets, tripleOf}
 use denote.Triple.Table.{entered, cited}
 use denote.Triple.Walked.{says, Stays, stay-ref, walkOf, goes-ref, Walks, ends-at, walked, walk-meets}
 use denote.Triple.Clauses.{ensured, lasts}
-use Rattle.log_reader.specs.Record.{nextAt, placeOr, placeBehind}
+use Rattle.log_reader.specs.Next.{nextAt}
+use Rattle.log_reader.specs.Reader.{placeOr, placeAfter}
 use Rattle.log_reader.specs.declared.LogReader.{LogReader}
 use Rattle.log_reader.specs.declared.Next.{Next}
 use Rattle.log_reader.proofs.LogReader as T
@@ -191,7 +192,7 @@ module _ {M : Type 1} (𝓤 : URA M) (H : Heap 𝓤) (A : Atoms 𝓤) (W : Given
   again p fits = qed W (‵ Own ∷ []) ∵ owned ! usize (Is usize) (uint-makes 𝓤 H A W w64) p _ (refl, fits) $
       move ! (1 ∷ 0 ∷ []) $ by ! (own-put 𝓤 H A W D L 1 vd p (T′.lowered h))
 
-  exits : (r : Next) (u : Val) (p : ℕ) → r ≡ found → p ≡ placeBehind (now (h .log)) (h .at)
+  exits : (r : Next) (u : Val) (p : ℕ) → r ≡ found → p ≡ placeAfter (now (h .log)) (h .at)
       → ent 𝓤 (⋆ 𝓤 H A (‵ (fobs γ (B κ′ .coded .code (h′ p))) ∷ ‵ (fbor κ (Body (mem (B κ′)) b o γ)) ∷ ‵ (flft κ q) ∷
       ‵ (S.the-row .own r (u ∷ [])) ∷ (‵ (flft κ′ q′) ⊛ ‵ ftrue) ∷ [])) (Post u)
   exits r u p e f =

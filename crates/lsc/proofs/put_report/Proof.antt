@@ -1,6 +1,6 @@
 -- `lsc::put_report` meets its contract: by the report's two cases. Assumes nothing.
+use Rattle.model.specs.Numbers.{places}
 use Rattle.lsc.proofs.Laws.{put-refusal}
-use Rattle.numbers.specs.Numbers.{places}
 use Rattle.lsc.specs.Lsc.{reportNumber, reportNumbers}
 use Rattle.listing.specs.declared.Report.{Report}
 use lib.ListN.{drop}

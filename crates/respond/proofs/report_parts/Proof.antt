@@ -1,8 +1,8 @@
 use mathlib.Core.Path.{sym, ap, _∙_}
 use borrow.Author.Needs.{needs}
 use Prim.Native.Nat.{ℕ}
-use Rattle.judge.specs.Judge as judge
-use Rattle.chart_reader.specs.Read as read
+use Rattle.judge.specs.Verdict as judge
+use Rattle.chart_reader.specs.Said as read
 use Rattle.listing.specs.declared.Part.the-variants as part
 use Rattle.listing.specs.declared.Report.the-variants.{Refused}
 use Rattle.respond.specs.Respond.{logReport, chartReport, partsReport}

@@ -1,7 +1,7 @@
 -- A verdict as numbers, in the order of its fields.
 use Prim.Native.Nat.{ℕ}
 use mathlib.Core.List.{List, [], _∷_}
-use Rattle.judge.specs.declared.Verdict.{Verdict}
+use Rattle.model.specs.declared.Verdict.{Verdict}
 
 -- the places that a verdict or a refusal takes
 abbrev pub places : ℕ

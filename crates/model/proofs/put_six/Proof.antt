@@ -1,11 +1,11 @@
--- `numbers::put_six` meets its contract: six stores from the start. Assumes nothing.
+-- `model::put_six` meets its contract: six stores from the start. Assumes nothing.
 use mathlib.Core.List.{[], _∷_}
 use native.Mathlib.Omega.{arith}
 use lib.ListN.{length-set}
 use lib.Seq.{sets-eq}
 use borrow.Author.Needs.{needs}
-use Rattle.numbers.proofs.put_six.Statement.{statement}
-use Rattle.numbers.proofs.put_six.Tie as tie
+use Rattle.model.proofs.put_six.Statement.{statement}
+use Rattle.model.proofs.put_six.Tie as tie
 
 slice-write-out : tie.Need-slice-write-out
 slice-write-out c = search needs

@@ -1,0 +1,83 @@
+-- What judging a log says: the refusals and their numbers, the standing and the verdict of a monitor (J3, J6 to J8).
+use mathlib.Core.Bool.{cond, not}
+use Prim.Native.Nat.{ℕ}
+use lib.Dec.{eqb}
+use Rattle.model.specs.declared.Moment.{Moment}
+use Rattle.model.specs.declared.Record.{Record}
+use Rattle.model.specs.declared.Record.the-variants.{Message, Time}
+use Rattle.model.specs.declared.Verdict.{Verdict}
+use Rattle.model.specs.Answers.{notAChart, timeFalls, tooManyRecords}
+use Rattle.base.specs.Lists.{allBelow}
+use Rattle.rounds.specs.Chart.{Chart as Abstract}
+use Rattle.rounds.specs.Tally.{Tally}
+use Rattle.rounds.specs.Machine.{Monitor as AbstractMonitor, prechartDone}
+use Rattle.log_reader.specs.Record.{recordRefusalNumber}
+use Rattle.judge.specs.declared.LogRefusal.{LogRefusal}
+use Rattle.judge.specs.declared.LogRefusal.the-variants.{NoRecord, TimeFalls, TooManyRecords}
+use Rattle.judge.specs.declared.JudgeAnswer.{JudgeAnswer}
+use Rattle.judge.specs.declared.JudgeAnswer.the-variants.{Judged, NoChart, Refused}
+use Rattle.judge.specs.declared.Judgement.{Judgement}
+
+-- J3: 31 and 30 as in E, 22 a time that falls, 23 too many records
+abbrev pub logRefusalNumber : LogRefusal → ℕ
+logRefusalNumber (NoRecord k) = recordRefusalNumber k
+logRefusalNumber TimeFalls = timeFalls
+logRefusalNumber TooManyRecords = tooManyRecords
+
+abbrev pub timeOf : Record → Moment
+timeOf (Message m t) = t
+timeOf (Time t) = t
+
+-- J8: the standing
+abbrev pub broken : ℕ
+broken = 3
+
+abbrev pub nothingFired : ℕ
+nothingFired = 0
+
+abbrev pub inPrechart : ℕ
+inPrechart = 1
+
+abbrev pub owed : ℕ
+owed = 2
+
+unfoldable pub standingOf : Abstract → AbstractMonitor → ℕ
+standingOf C m =
+    cond (not (eqb (m .tally .broken .at) 0)) broken
+    (cond (allBelow (C .regions) (λ i. not (m .at .fired i))) nothingFired
+    (cond (not (prechartDone C (m .at .fired))) inPrechart owed))
+
+-- J6: the verdict, by the standing and the counts
+abbrev pub verdictWith : ℕ → Tally → Verdict
+verdictWith standing t =
+    record {
+      standing = standing;
+      kept = t .kept;
+      dropped = t .dropped;
+      records = t .records;
+      broken = t .broken .at;
+      reason = t .broken .reason;
+    }
+
+abbrev pub verdictOf : Abstract → AbstractMonitor → Verdict
+verdictOf C m = verdictWith (standingOf C m) (m .tally)
+
+-- What judging says: 0 and the verdict, or a refusal with its offset and zeros for the verdict.
+pub record Said : Type 0 where
+  pub number : ℕ
+  pub offset : ℕ
+  pub verdict : Verdict
+
+-- the number and the offset of each answer
+abbrev pub numberOf : JudgeAnswer → ℕ
+numberOf Judged = 0
+numberOf NoChart = notAChart
+numberOf (Refused k offset) = logRefusalNumber k
+
+abbrev pub offsetOf : JudgeAnswer → ℕ
+offsetOf Judged = 0
+offsetOf NoChart = 0
+offsetOf (Refused k offset) = offset
+
+abbrev pub said : Judgement → Said
+said r = record { number = numberOf (r .answer); offset = offsetOf (r .answer); verdict = r .verdict }
