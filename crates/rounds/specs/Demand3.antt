@@ -81,9 +81,9 @@ pub record Demand3 (C : Chart) : Type 0 where
       → M .last ≡ unended o s → RunsOn C o s
   -- W9: a stretch has one lawful row at most
   pub one-row : (o : ℕ) (s : Snoc LogRecord) (r r′ : Row) → Lawful C o s r → Lawful C o s r′ → r ≡ r′
-  -- W18: and so does one that has ended, where the last conditions are waived
-  pub one-row-waived : (o : ℕ) (s : Snoc LogRecord) (e : LogRecord) (q : Row) → Lawful C o s q → NoRow C o (s ▸ e)
-      → (r r′ : Row) → LawfulButLast C o s e r → LawfulButLast C o s e r′ → r ≡ r′
+  -- W18: and so it has where the conditions of its last record are waived
+  pub one-row-waived : (o : ℕ) (s : Snoc LogRecord) (e : LogRecord) (r r′ : Row)
+      → LawfulButLast C o s e r → LawfulButLast C o s e r′ → r ≡ r′
   -- W22 to W28: every answer, and the monitor in the end
   pub monitor-agrees : {fs : Snoc LogRecord} (M : Meaning C fs)
       → (answers C fs ≡ M .told) × Agrees C (M .accepted) (M .stretches) (M .last) (after C fs)
