@@ -5,7 +5,7 @@ use mathlib.Core.Option.{none}
 use Prim.Native.Nat.{ℕ}
 use Rattle.base.specs.Lists.{Snoc, _▸_, size, EachIn, Beginning}
 use Rattle.rounds.specs.Chart.{Chart}
-use Rattle.rounds.specs.Rows.{LogRecord, Row, stands, chartMessages, resetMoment, Lawful, NoRow, Full}
+use Rattle.rounds.specs.Rows.{LogRecord, Row, stands, chartMessages, resetMoment, Lawful, Full}
 use Rattle.rounds.specs.Rows.{LawfulButLast}
 use Rattle.rounds.specs.Feeds.{lastMoment, refusal, Stretch, Last, unended, behindBreak, Ends, Answer, Fed}
 use Rattle.rounds.specs.Feeds.{keptAmong, droppedAmong, Exactly}
