@@ -41,7 +41,7 @@ extern "C" {
 #define LSC_VERDICT_PLACES 6
 #define LSC_TEXT_ROOM 169
 
-/* The part at fault, behind a refused lsc_judge. */
+/* The part at fault, after a refused lsc_judge. */
 #define LSC_PART_CHART 1
 #define LSC_PART_LOG 2
 
@@ -61,10 +61,10 @@ uint8_t lsc_judge(const uint8_t *chart, size_t chart_length,
 /*
  * The printing program as a function. The input is the chart's length (2 bytes), the chart,
  * the log. Two lines with the verdict, or one with the refusal, are written to the start of
- * out, without a zero byte behind.
+ * out, without a zero byte after.
  *
  * Answers 0, and *written is the text's length; or 12 if out has fewer than 169 bytes, then
- * *written is 0 and out stays as it was. Bytes behind the text stay as they were.
+ * *written is 0 and out stays as it was. Bytes after the text stay as they were.
  */
 uint8_t lsc_print(const uint8_t *input, size_t input_length,
                   uint8_t *out, size_t out_length, uint64_t *written);
@@ -89,10 +89,10 @@ uint8_t lsc_open(const uint8_t *chart, size_t chart_length,
 /*
  * Feeds one message to a live monitor.
  *
- * Answers 1 to 6 (LSC_BROKEN to LSC_QUIET), and the image in live is the monitor behind the
+ * Answers 1 to 6 (LSC_BROKEN to LSC_QUIET), and the image in live is the monitor after the
  * record; all other bytes stay as they were. A broken monitor answers 1 again and nothing
  * changes. Or 20 if live holds no live monitor, 21 if the monitor is unfit, 22 if the time is
- * below the last one, 23 behind 1,000,000 records; live then stays as it was.
+ * below the last one, 23 after 1,000,000 records; live then stays as it was.
  */
 uint8_t lsc_feed_message(uint8_t *live, size_t live_length, uint8_t source,
                          uint8_t destination, uint16_t label, uint32_t time);

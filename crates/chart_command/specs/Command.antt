@@ -9,7 +9,7 @@ use Rattle.chart_command.specs.declared.Command.{Command}
 use Rattle.chart_command.specs.declared.Command.the-variants.{Heading, Message, Plain, ClockTerm, DifferenceTerm}
 use Rattle.chart_command.specs.declared.Command.the-variants.{Hot, Resets, Main, End}
 use Rattle.chart_command.specs.declared.Decoded.{Decoded}
-use Rattle.chart_command.specs.declared.Decoded.the-variants.{CutShort, Unknown, Taken}
+use Rattle.chart_command.specs.declared.Decoded.the-variants.{CutShort, Unknown, Known}
 
 -- The command bytes.
 abbrev pub headingByte : ℕ
@@ -39,9 +39,9 @@ mainByte = 0x50
 abbrev pub endByte : ℕ
 endByte = 0x7f
 
--- A command at `at` with n operand bytes, and the place of the next one; or R4: 1, too few bytes are left
+-- A command at `at` with n operand bytes, and the offset of the next one; or R4: 1, too few bytes are left
 abbrev pub operands : List ℕ → ℕ → ℕ → Command → Decoded
-operands s at n c = cond (leb (length s - at) n) CutShort (Taken c (at + 1 + n))
+operands s at n c = cond (leb (length s - at) n) CutShort (Known c (at + 1 + n))
 
 -- B1: the byte picks the operands and their meaning; or R4: 2, none of the nine bytes
 abbrev pub decodeByte : List ℕ → ℕ → ℕ → Decoded
@@ -59,6 +59,6 @@ decodeByte s at b =
     (cond (eqb b endByte) (operands s at 0 End)
     Unknown))))))))
 
--- The command at a place; or R4: 1, the bytes are used up
+-- The command at an offset; or R4: 1, the bytes are used up
 abbrev pub decodeAt : List ℕ → ℕ → Decoded
 decodeAt s at = cond (leb (length s) at) CutShort (decodeByte s at (getD s at 0))

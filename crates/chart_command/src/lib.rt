@@ -22,11 +22,11 @@ pub enum Command {
     End,
 }
 
-// What stands at a place: a command with the place just after it, or why there is no command.
+// What stands at an offset: a command with the offset just after it, or why there is no command.
 pub enum Decoded {
     CutShort,
     Unknown,
-    Taken(Command, usize),
+    Known(Command, usize),
 }
 
 const HEADING: u8 = 0x10;
@@ -55,10 +55,10 @@ fn with_operands(s: &[u8], at: usize, n: usize, c: Command) -> Decoded
     if s.len() - at <= n {
         return Decoded::CutShort;
     }
-    Decoded::Taken(c, at + 1 + n)
+    Decoded::Known(c, at + 1 + n)
 }
 
-// The command whose byte stands at a place.
+// The command whose byte stands at an offset.
 fn decode_byte(s: &[u8], at: usize) -> Decoded
     requires { ⌜ at < length (now s) ⌝ }
     ensures { λ r. ⌜ r ≡ decodeByte (now (s .entry)) at (getD (now (s .entry)) at 0) ⌝ }
@@ -89,7 +89,7 @@ fn decode_byte(s: &[u8], at: usize) -> Decoded
     }
 }
 
-// The command at a place.
+// The command at an offset.
 pub fn decode(s: &[u8], at: usize) -> Decoded
     ensures command { λ r. ⌜ r ≡ decodeAt (now (s .entry)) at ⌝ }
     ensures unchanged { λ r. ⌜ now (s .exit) ≡ now (s .entry) ⌝ }

@@ -51,7 +51,7 @@ advance-past s at r =
     decode-cases s at (λ d. Past at (length s) (advanceBy s at r d .outcome)) tt tt (λ n c. by n c (leb (length s - at) n) refl)
   where
     by : (n : ℕ) (c : Command) (t : Bool) → leb (length s - at) n ≡ t
-        → Past at (length s) (advanceBy s at r (cond t decoded.CutShort (decoded.Taken c (at + 1 + n))) .outcome)
+        → Past at (length s) (advanceBy s at r (cond t decoded.CutShort (decoded.Known c (at + 1 + n))) .outcome)
     by n c true e = tt
     by n c false e =
         decided-past at (length s) (at + 1 + n) (omega arith) (omega (arith, leb-false (length s - at) n e))

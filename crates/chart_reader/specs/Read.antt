@@ -8,7 +8,7 @@ use Rattle.model.specs.Chart.{zeroRegion, zeroChart}
 use Rattle.chart_command.specs.declared.Decoded.{Decoded}
 use Rattle.chart_command.specs.declared.Decoded.the-variants as decoded
 use Rattle.chart_command.specs.Command.{decodeAt}
-use Rattle.chart_step.specs.declared.Refusal.the-variants.{CutShort, UnknownCommand}
+use Rattle.chart_step.specs.declared.Refusal.the-variants.{CutShort, Unknown}
 use Rattle.chart_step.specs.declared.Reading.{Reading}
 use Rattle.chart_step.specs.declared.Step.{Step}
 use Rattle.chart_step.specs.declared.Outcome.{Outcome}
@@ -29,11 +29,11 @@ startReading =
       chart = zeroChart;
     }
 
--- R4 at one place: decoding finds 1 and 2, the command's own checks come after
+-- R4 at one offset: decoding finds 1 and 2, the command's own checks come after
 abbrev pub advanceBy : List ℕ → ℕ → Reading → Decoded → Step
 advanceBy s at r decoded.CutShort = record { outcome = Refused CutShort at; reading = r }
-advanceBy s at r decoded.Unknown = record { outcome = Refused UnknownCommand at; reading = r }
-advanceBy s at r (decoded.Taken c next) = stepOf r at next (ltb next (length s)) c
+advanceBy s at r decoded.Unknown = record { outcome = Refused Unknown at; reading = r }
+advanceBy s at r (decoded.Known c next) = stepOf r at next (ltb next (length s)) c
 
 unfoldable pub advanceOf : List ℕ → ℕ → Reading → Step
 advanceOf s at r = advanceBy s at r (decodeAt s at)
@@ -43,7 +43,7 @@ continueBy k (Going next) r = k next r
 continueBy k Ended r = acceptedAs (r .chart)
 continueBy k (Refused refusal offset) r = refusedFor refusal offset
 
--- R1, R2: at most n commands from a place on, up to the first with a fault
+-- R1, R2: at most n commands from an offset on, up to the first with a fault
 unfoldable pub readFrom : ℕ → List ℕ → ℕ → Reading → Said
 readFrom zero s at r = refusedFor CutShort (length s)
 readFrom (suc n) s at r = continueBy (readFrom n s) (advanceOf s at r .outcome) (advanceOf s at r .reading)

@@ -59,7 +59,7 @@ fn accepted(r: Reading) -> ChartRead
     }
 }
 
-// One command at a place.
+// One command at an offset.
 fn advance(s: &[u8], at: usize, r: Reading) -> Step
     ensures { λ o. ⌜ o ≡ advanceOf (now (s .entry)) at r ⌝ }
 {
@@ -70,10 +70,10 @@ fn advance(s: &[u8], at: usize, r: Reading) -> Step
             reading: r,
         },
         Decoded::Unknown => Step {
-            outcome: Outcome::Refused(Refusal::UnknownCommand, at),
+            outcome: Outcome::Refused(Refusal::Unknown, at),
             reading: r,
         },
-        Decoded::Taken(c, next) => chart_step::take(r, at, next, next < s.len(), c),
+        Decoded::Known(c, next) => chart_step::take(r, at, next, next < s.len(), c),
     }
 }
 

@@ -5,42 +5,42 @@ use Prim.Native.Nat.{ℕ}
 use native.Mathlib.Omega.{arith}
 use lib.Dec.{eqb}
 use Rattle.chart_step.specs.declared.Refusal.{Refusal}
-use Rattle.chart_step.specs.declared.Refusal.the-variants.{CutShort, UnknownCommand, OutOfPlace, OutOfRange, NoRoom, BareRegion, HotWithoutTerm, HotInPrechart, NoneAbove, NoMainRegion, BytesAfterEnd}
+use Rattle.chart_step.specs.declared.Refusal.the-variants.{CutShort, Unknown, Misplaced, Outside, Excess, Bare, HotAlone, Early, Unanchored, Mainless, Trailing}
 use Rattle.chart_step.specs.Refusal.{refusalNumber}
 
 pub refusal-nonzero : (f : Refusal) → refusalNumber f ≡ 0 → ⊥
 refusal-nonzero CutShort e = omega arith
-refusal-nonzero UnknownCommand e = omega arith
-refusal-nonzero OutOfPlace e = omega arith
-refusal-nonzero OutOfRange e = omega arith
-refusal-nonzero NoRoom e = omega arith
-refusal-nonzero BareRegion e = omega arith
-refusal-nonzero HotWithoutTerm e = omega arith
-refusal-nonzero HotInPrechart e = omega arith
-refusal-nonzero NoneAbove e = omega arith
-refusal-nonzero NoMainRegion e = omega arith
-refusal-nonzero BytesAfterEnd e = omega arith
+refusal-nonzero Unknown e = omega arith
+refusal-nonzero Misplaced e = omega arith
+refusal-nonzero Outside e = omega arith
+refusal-nonzero Excess e = omega arith
+refusal-nonzero Bare e = omega arith
+refusal-nonzero HotAlone e = omega arith
+refusal-nonzero Early e = omega arith
+refusal-nonzero Unanchored e = omega arith
+refusal-nonzero Mainless e = omega arith
+refusal-nonzero Trailing e = omega arith
 
 -- the refusal with a number
 refusalWith : ℕ → Refusal
 refusalWith n =
-    cond (eqb n 1) CutShort (cond (eqb n 2) UnknownCommand (cond (eqb n 3) OutOfPlace (cond (eqb n 4) OutOfRange (cond (eqb n 5) NoRoom
-    (cond (eqb n 6) BareRegion (cond (eqb n 7) HotWithoutTerm (cond (eqb n 8) HotInPrechart (cond (eqb n 9) NoneAbove
-    (cond (eqb n 10) NoMainRegion BytesAfterEnd)))))))))
+    cond (eqb n 1) CutShort (cond (eqb n 2) Unknown (cond (eqb n 3) Misplaced (cond (eqb n 4) Outside (cond (eqb n 5) Excess
+    (cond (eqb n 6) Bare (cond (eqb n 7) HotAlone (cond (eqb n 8) Early (cond (eqb n 9) Unanchored
+    (cond (eqb n 10) Mainless Trailing)))))))))
 
 with-number : (f : Refusal) → refusalWith (refusalNumber f) ≡ f
 unfolding refusalWith
 with-number CutShort = refl
-with-number UnknownCommand = refl
-with-number OutOfPlace = refl
-with-number OutOfRange = refl
-with-number NoRoom = refl
-with-number BareRegion = refl
-with-number HotWithoutTerm = refl
-with-number HotInPrechart = refl
-with-number NoneAbove = refl
-with-number NoMainRegion = refl
-with-number BytesAfterEnd = refl
+with-number Unknown = refl
+with-number Misplaced = refl
+with-number Outside = refl
+with-number Excess = refl
+with-number Bare = refl
+with-number HotAlone = refl
+with-number Early = refl
+with-number Unanchored = refl
+with-number Mainless = refl
+with-number Trailing = refl
 
 pub refusal-injective : (f g : Refusal) → refusalNumber f ≡ refusalNumber g → f ≡ g
 refusal-injective f g e = sym (with-number f) ∙ ap refusalWith e ∙ with-number g

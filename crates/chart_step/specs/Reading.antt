@@ -19,9 +19,9 @@ use Rattle.chart_command.specs.declared.Command.{Command}
 use Rattle.chart_command.specs.declared.Command.the-variants.{Heading, Message, Plain, ClockTerm, DifferenceTerm, Hot}
 use Rattle.chart_command.specs.declared.Command.the-variants.{Resets, Main, End}
 use Rattle.chart_step.specs.declared.Refusal.{Refusal}
-use Rattle.chart_step.specs.declared.Refusal.the-variants.{OutOfPlace, OutOfRange, NoRoom, BareRegion}
-use Rattle.chart_step.specs.declared.Refusal.the-variants.{HotWithoutTerm, HotInPrechart, NoneAbove, NoMainRegion}
-use Rattle.chart_step.specs.declared.Refusal.the-variants.{BytesAfterEnd}
+use Rattle.chart_step.specs.declared.Refusal.the-variants.{Misplaced, Outside, Excess, Bare}
+use Rattle.chart_step.specs.declared.Refusal.the-variants.{HotAlone, Early, Unanchored, Mainless}
+use Rattle.chart_step.specs.declared.Refusal.the-variants.{Trailing}
 use Rattle.chart_step.specs.declared.Reading.{Reading}
 use Rattle.chart_step.specs.declared.Fault.{Fault}
 use Rattle.chart_step.specs.declared.Fault.the-variants.{Nothing, Found}
@@ -56,22 +56,22 @@ closed r =
     (r .chart)
 
 -- R5: 3, the command has no place here
-abbrev pub outOfPlace : Reading → Command → Bool
-outOfPlace r (Heading l k) = r .headed
-outOfPlace r (Message s d l) = not (r .headed)
-outOfPlace r (Plain l) = not (r .headed)
-outOfPlace r (ClockTerm k e n) = not (r .started)
-outOfPlace r (DifferenceTerm a b e n) = not (r .started)
-outOfPlace r Hot = not (r .started) || r .region .hot
-outOfPlace r (Resets k) = not (r .started) || not (eqb (r .region .resets) 0)
-outOfPlace r Main = not (r .headed) || r .main
-outOfPlace r End = not (r .headed)
+abbrev pub isMisplaced : Reading → Command → Bool
+isMisplaced r (Heading l k) = r .headed
+isMisplaced r (Message s d l) = not (r .headed)
+isMisplaced r (Plain l) = not (r .headed)
+isMisplaced r (ClockTerm k e n) = not (r .started)
+isMisplaced r (DifferenceTerm a b e n) = not (r .started)
+isMisplaced r Hot = not (r .started) || r .region .hot
+isMisplaced r (Resets k) = not (r .started) || not (eqb (r .region .resets) 0)
+isMisplaced r Main = not (r .headed) || r .main
+isMisplaced r End = not (r .headed)
 
 -- R4: 6 and 7, what the region that is closed lacks, at the offset of its own command
 abbrev pub closingFault : Reading → Fault
 closingFault r =
-    orElse (when (r .started && isBare (r .region)) BareRegion (r .start))
-    (when (r .started && (r .region .hot && eqb (r .region .count) 0)) HotWithoutTerm (r .start))
+    orElse (when (r .started && isBare (r .region)) Bare (r .start))
+    (when (r .started && (r .region .hot && eqb (r .region .count) 0)) HotAlone (r .start))
 
 -- R6: the commands that close a region
 abbrev pub closes : Reading → Command → Fault
@@ -86,52 +86,52 @@ closes r Main = closingFault r
 closes r End = closingFault r
 
 -- R7: 4, an operand out of its range
-abbrev pub outOfRange : Chart → Command → Bool
-outOfRange c (Heading l k) = not (leb leastLines l && (leb l mostLines && leb k mostClocks))
-outOfRange c (Message s d l) = leb (c .lines) s || (leb (c .lines) d || eqb s d)
-outOfRange c (Plain l) = eqb l 0 || not (within (c .lines) l)
-outOfRange c (ClockTerm k e n) = leb (c .clocks) k || leb relationCount e
-outOfRange c (DifferenceTerm a b e n) = leb (c .clocks) a || (leb (c .clocks) b || (eqb a b || leb relationCount e))
-outOfRange c Hot = false
-outOfRange c (Resets k) = eqb k 0 || not (within (c .clocks) k)
-outOfRange c Main = false
-outOfRange c End = false
+abbrev pub isOutside : Chart → Command → Bool
+isOutside c (Heading l k) = not (leb leastLines l && (leb l mostLines && leb k mostClocks))
+isOutside c (Message s d l) = leb (c .lines) s || (leb (c .lines) d || eqb s d)
+isOutside c (Plain l) = eqb l 0 || not (within (c .lines) l)
+isOutside c (ClockTerm k e n) = leb (c .clocks) k || leb relationCount e
+isOutside c (DifferenceTerm a b e n) = leb (c .clocks) a || (leb (c .clocks) b || (eqb a b || leb relationCount e))
+isOutside c Hot = false
+isOutside c (Resets k) = eqb k 0 || not (within (c .clocks) k)
+isOutside c Main = false
+isOutside c End = false
 
 -- R4: 5, one region or one term too many
-abbrev pub noRoom : Reading → Command → Bool
-noRoom r (Heading l k) = false
-noRoom r (Message s d l) = leb mostRegions (closed r .count)
-noRoom r (Plain l) = leb mostRegions (closed r .count)
-noRoom r (ClockTerm k e n) = leb mostTerms (r .region .count)
-noRoom r (DifferenceTerm a b e n) = leb mostTerms (r .region .count)
-noRoom r Hot = false
-noRoom r (Resets k) = false
-noRoom r Main = false
-noRoom r End = false
+abbrev pub isExcess : Reading → Command → Bool
+isExcess r (Heading l k) = false
+isExcess r (Message s d l) = leb mostRegions (closed r .count)
+isExcess r (Plain l) = leb mostRegions (closed r .count)
+isExcess r (ClockTerm k e n) = leb mostTerms (r .region .count)
+isExcess r (DifferenceTerm a b e n) = leb mostTerms (r .region .count)
+isExcess r Hot = false
+isExcess r (Resets k) = false
+isExcess r Main = false
+isExcess r End = false
 
 -- R4: 8, hot before the 50
-abbrev pub hotInPrechart : Reading → Command → Bool
-hotInPrechart r (Heading l k) = false
-hotInPrechart r (Message s d l) = false
-hotInPrechart r (Plain l) = false
-hotInPrechart r (ClockTerm k e n) = false
-hotInPrechart r (DifferenceTerm a b e n) = false
-hotInPrechart r Hot = not (r .main)
-hotInPrechart r (Resets k) = false
-hotInPrechart r Main = false
-hotInPrechart r End = false
+abbrev pub isEarly : Reading → Command → Bool
+isEarly r (Heading l k) = false
+isEarly r (Message s d l) = false
+isEarly r (Plain l) = false
+isEarly r (ClockTerm k e n) = false
+isEarly r (DifferenceTerm a b e n) = false
+isEarly r Hot = not (r .main)
+isEarly r (Resets k) = false
+isEarly r Main = false
+isEarly r End = false
 
 -- R8: 9, a plain region of the opening half, of whose lines no earlier region touches one
-abbrev pub noneAbove : Reading → Command → Bool
-noneAbove r (Heading l k) = false
-noneAbove r (Message s d l) = false
-noneAbove r (Plain l) = (not (r .main) || eqb (r .chart .prechart) 0) && eqb (bitAnd l (r .touched)) 0
-noneAbove r (ClockTerm k e n) = false
-noneAbove r (DifferenceTerm a b e n) = false
-noneAbove r Hot = false
-noneAbove r (Resets k) = false
-noneAbove r Main = false
-noneAbove r End = false
+abbrev pub isUnanchored : Reading → Command → Bool
+isUnanchored r (Heading l k) = false
+isUnanchored r (Message s d l) = false
+isUnanchored r (Plain l) = (not (r .main) || eqb (r .chart .prechart) 0) && eqb (bitAnd l (r .touched)) 0
+isUnanchored r (ClockTerm k e n) = false
+isUnanchored r (DifferenceTerm a b e n) = false
+isUnanchored r Hot = false
+isUnanchored r (Resets k) = false
+isUnanchored r Main = false
+isUnanchored r End = false
 
 -- the command is the 7F
 abbrev pub isEnd : Command → Bool
@@ -146,30 +146,30 @@ isEnd Main = false
 isEnd End = true
 
 -- R4: 10, at the 7F no 50 has come, or no region since
-abbrev pub noMainRegion : Reading → Command → Bool
-noMainRegion r c = isEnd c && (not (r .main) || eqb (closed r .count) (closed r .prechart))
+abbrev pub isMainless : Reading → Command → Bool
+isMainless r c = isEnd c && (not (r .main) || eqb (closed r .count) (closed r .prechart))
 
 -- R4: 11, a byte stands after the 7F
-abbrev pub bytesAfter : Bool → Command → Bool
-bytesAfter more c = isEnd c && more
+abbrev pub isTrailing : Bool → Command → Bool
+isTrailing more c = isEnd c && more
 
 -- R4: the checks of one command, the first that fails. Closing's fault brings its offset; 11 is at the byte after the
 -- command, every other fault at the command itself.
 abbrev pub firstFault : Bool → Fault → Bool → Bool → Bool → Bool → Bool → Bool → ℕ → ℕ → Fault
-firstFault misplaced closing beyond full early alone empty trailing at next =
-    orElse (when misplaced OutOfPlace at)
+firstFault misplaced closing outside excess early unanchored mainless trailing at next =
+    orElse (when misplaced Misplaced at)
     (orElse closing
-    (orElse (when beyond OutOfRange at)
-    (orElse (when full NoRoom at)
-    (orElse (when early HotInPrechart at)
-    (orElse (when alone NoneAbove at)
-    (orElse (when empty NoMainRegion at) (when trailing BytesAfterEnd next)))))))
+    (orElse (when outside Outside at)
+    (orElse (when excess Excess at)
+    (orElse (when early Early at)
+    (orElse (when unanchored Unanchored at)
+    (orElse (when mainless Mainless at) (when trailing Trailing next)))))))
 
 -- The fault of the command c at `at`, with the next at `next`; `more`: bytes follow.
 abbrev pub faultOf : Reading → ℕ → ℕ → Bool → Command → Fault
 faultOf r at next more c =
-    firstFault (outOfPlace r c) (closes r c) (outOfRange (r .chart) c) (noRoom r c) (hotInPrechart r c) (noneAbove r c)
-    (noMainRegion r c) (bytesAfter more c) at next
+    firstFault (isMisplaced r c) (closes r c) (isOutside (r .chart) c) (isExcess r c) (isEarly r c) (isUnanchored r c)
+    (isMainless r c) (isTrailing more c) at next
 
 abbrev pub withHeading : Reading → ℕ → ℕ → Reading
 withHeading r l k =

@@ -1,19 +1,19 @@
 -- R4: the numbers of the reader's refusals.
 use Prim.Native.Nat.{ℕ}
 use Rattle.chart_step.specs.declared.Refusal.{Refusal}
-use Rattle.chart_step.specs.declared.Refusal.the-variants.{CutShort, UnknownCommand, OutOfPlace, OutOfRange}
-use Rattle.chart_step.specs.declared.Refusal.the-variants.{NoRoom, BareRegion, HotWithoutTerm, HotInPrechart}
-use Rattle.chart_step.specs.declared.Refusal.the-variants.{NoneAbove, NoMainRegion, BytesAfterEnd}
+use Rattle.chart_step.specs.declared.Refusal.the-variants.{CutShort, Unknown, Misplaced, Outside}
+use Rattle.chart_step.specs.declared.Refusal.the-variants.{Excess, Bare, HotAlone, Early}
+use Rattle.chart_step.specs.declared.Refusal.the-variants.{Unanchored, Mainless, Trailing}
 
 abbrev pub refusalNumber : Refusal → ℕ
 refusalNumber CutShort = 1
-refusalNumber UnknownCommand = 2
-refusalNumber OutOfPlace = 3
-refusalNumber OutOfRange = 4
-refusalNumber NoRoom = 5
-refusalNumber BareRegion = 6
-refusalNumber HotWithoutTerm = 7
-refusalNumber HotInPrechart = 8
-refusalNumber NoneAbove = 9
-refusalNumber NoMainRegion = 10
-refusalNumber BytesAfterEnd = 11
+refusalNumber Unknown = 2
+refusalNumber Misplaced = 3
+refusalNumber Outside = 4
+refusalNumber Excess = 5
+refusalNumber Bare = 6
+refusalNumber HotAlone = 7
+refusalNumber Early = 8
+refusalNumber Unanchored = 9
+refusalNumber Mainless = 10
+refusalNumber Trailing = 11

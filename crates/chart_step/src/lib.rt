@@ -23,19 +23,21 @@ ghost use Rattle.chart_step.specs.Reading.{withChart, decided, stepOf};
 
 const RELATIONS: u8 = 5;
 
-// Why a chart is refused.
+// Why a chart is refused (R4), from 1 to 11: too few bytes are left; no command's byte; a command out of place; an
+// operand out of its range; a region or a term too many; a plain region with neither term nor reset; a hot region
+// without a term; hot in the prechart; a plain region with none above it; no main region; bytes after the end.
 pub enum Refusal {
     CutShort,
-    UnknownCommand,
-    OutOfPlace,
-    OutOfRange,
-    NoRoom,
-    BareRegion,
-    HotWithoutTerm,
-    HotInPrechart,
-    NoneAbove,
-    NoMainRegion,
-    BytesAfterEnd,
+    Unknown,
+    Misplaced,
+    Outside,
+    Excess,
+    Bare,
+    HotAlone,
+    Early,
+    Unanchored,
+    Mainless,
+    Trailing,
 }
 
 // What stands between two commands: whether the heading and 50 were read, whether a region was started in this half
@@ -73,16 +75,16 @@ pub fn number(r: Refusal) -> u8
 {
     match r {
         Refusal::CutShort => 1,
-        Refusal::UnknownCommand => 2,
-        Refusal::OutOfPlace => 3,
-        Refusal::OutOfRange => 4,
-        Refusal::NoRoom => 5,
-        Refusal::BareRegion => 6,
-        Refusal::HotWithoutTerm => 7,
-        Refusal::HotInPrechart => 8,
-        Refusal::NoneAbove => 9,
-        Refusal::NoMainRegion => 10,
-        Refusal::BytesAfterEnd => 11,
+        Refusal::Unknown => 2,
+        Refusal::Misplaced => 3,
+        Refusal::Outside => 4,
+        Refusal::Excess => 5,
+        Refusal::Bare => 6,
+        Refusal::HotAlone => 7,
+        Refusal::Early => 8,
+        Refusal::Unanchored => 9,
+        Refusal::Mainless => 10,
+        Refusal::Trailing => 11,
     }
 }
 
@@ -109,11 +111,11 @@ fn or_else(f: Fault, g: Fault) -> Fault
 // What each check found; closing's fault stands beside it.
 struct Checks {
     misplaced: bool,
-    beyond: bool,
-    full: bool,
+    outside: bool,
+    excess: bool,
     early: bool,
-    alone: bool,
-    empty: bool,
+    unanchored: bool,
+    mainless: bool,
     trailing: bool,
 }
 
@@ -121,21 +123,21 @@ fn no_fault() -> Checks
     ensures { λ o. ⌜ o
         ≡ record {
           misplaced = false;
-          beyond = false;
-          full = false;
+          outside = false;
+          excess = false;
           early = false;
-          alone = false;
-          empty = false;
+          unanchored = false;
+          mainless = false;
           trailing = false;
         } ⌝ }
 {
     Checks {
         misplaced: false,
-        beyond: false,
-        full: false,
+        outside: false,
+        excess: false,
         early: false,
-        alone: false,
-        empty: false,
+        unanchored: false,
+        mainless: false,
         trailing: false,
     }
 }
@@ -143,17 +145,17 @@ fn no_fault() -> Checks
 // The checks of a command in the order of R4, put together from the last to the first.
 fn first_fault(closing: Fault, k: Checks, at: usize, next: usize) -> Fault
     ensures { λ o. ⌜ o
-        ≡ firstFault (k .misplaced) closing (k .beyond) (k .full) (k .early) (k .alone) (k .empty) (k .trailing)
-        at next ⌝ }
+        ≡ firstFault (k .misplaced) closing (k .outside) (k .excess) (k .early) (k .unanchored) (k .mainless)
+        (k .trailing) at next ⌝ }
 {
-    let f = when(k.trailing, Refusal::BytesAfterEnd, next);
-    let f = or_else(when(k.empty, Refusal::NoMainRegion, at), f);
-    let f = or_else(when(k.alone, Refusal::NoneAbove, at), f);
-    let f = or_else(when(k.early, Refusal::HotInPrechart, at), f);
-    let f = or_else(when(k.full, Refusal::NoRoom, at), f);
-    let f = or_else(when(k.beyond, Refusal::OutOfRange, at), f);
+    let f = when(k.trailing, Refusal::Trailing, next);
+    let f = or_else(when(k.mainless, Refusal::Mainless, at), f);
+    let f = or_else(when(k.unanchored, Refusal::Unanchored, at), f);
+    let f = or_else(when(k.early, Refusal::Early, at), f);
+    let f = or_else(when(k.excess, Refusal::Excess, at), f);
+    let f = or_else(when(k.outside, Refusal::Outside, at), f);
     let f = or_else(closing, f);
-    or_else(when(k.misplaced, Refusal::OutOfPlace, at), f)
+    or_else(when(k.misplaced, Refusal::Misplaced, at), f)
 }
 
 // The fault if there is one, else the step.
@@ -172,7 +174,7 @@ fn decide(f: Fault, r: Reading, s: Step) -> Step
 // The first fault that the checks found, else the reading that the command leaves.
 fn answer(r: Reading, closing: Fault, k: Checks, at: usize, next: usize, left: Reading) -> Step
     ensures { λ o. ⌜ o
-        ≡ decided (firstFault (k .misplaced) closing (k .beyond) (k .full) (k .early) (k .alone) (k .empty)
+        ≡ decided (firstFault (k .misplaced) closing (k .outside) (k .excess) (k .early) (k .unanchored) (k .mainless)
         (k .trailing) at next) r (record { outcome = Outcome.Going next; reading = left }) ⌝ }
 {
     let f = first_fault(closing, k, at, next);
@@ -192,9 +194,9 @@ fn closing_fault(r: Reading) -> Fault
 {
     let g = r.region;
     let offset = r.start;
-    let bare = when(r.started & model::is_bare(g), Refusal::BareRegion, offset);
+    let bare = when(r.started & model::is_bare(g), Refusal::Bare, offset);
     let hot = g.hot & (g.count == 0);
-    or_else(bare, when(r.started & hot, Refusal::HotWithoutTerm, offset))
+    or_else(bare, when(r.started & hot, Refusal::HotAlone, offset))
 }
 
 // The chart with the region last started in its place.
@@ -229,7 +231,7 @@ fn heading_step(r: Reading, at: usize, next: usize, lines: u8, clocks: u8) -> St
 {
     let mut k = no_fault();
     k.misplaced = r.headed;
-    k.beyond = !((LEAST_LINES <= lines) & ((lines <= MOST_LINES) & (clocks <= MOST_CLOCKS)));
+    k.outside = !((LEAST_LINES <= lines) & ((lines <= MOST_LINES) & (clocks <= MOST_CLOCKS)));
     answer(
         r,
         Fault::Nothing,
@@ -264,17 +266,24 @@ fn begun(r: Reading, at: usize, e: Event) -> Reading
     }
 }
 
-fn region_step(r: Reading, at: usize, next: usize, e: Event, beyond: bool, alone: bool) -> Step
+fn region_step(
+    r: Reading,
+    at: usize,
+    next: usize,
+    e: Event,
+    outside: bool,
+    unanchored: bool,
+) -> Step
     ensures { λ o. ⌜ o
-        ≡ decided (firstFault (not (r .headed)) (closingFault r) beyond (leb mostRegions (closed r .count)) false alone
-        false false at next) r (record { outcome = Outcome.Going next; reading = begunWith r at e }) ⌝ }
+        ≡ decided (firstFault (not (r .headed)) (closingFault r) outside (leb mostRegions (closed r .count)) false
+        unanchored false false at next) r (record { outcome = Outcome.Going next; reading = begunWith r at e }) ⌝ }
 {
     let chart = close(r);
     let mut k = no_fault();
     k.misplaced = !r.headed;
-    k.beyond = beyond;
-    k.full = MOST_REGIONS <= chart.count as usize;
-    k.alone = alone;
+    k.outside = outside;
+    k.excess = MOST_REGIONS <= chart.count as usize;
+    k.unanchored = unanchored;
     answer(r, closing_fault(r), k, at, next, begun(r, at, e))
 }
 
@@ -282,22 +291,22 @@ fn message_step(r: Reading, at: usize, next: usize, source: u8, destination: u8,
     ensures { λ o. ⌜ o ≡ stepOf r at next false (Command.Message source destination label) ⌝ }
 {
     let lines = r.chart.lines;
-    let beyond = (lines <= source) | ((lines <= destination) | (source == destination));
+    let outside = (lines <= source) | ((lines <= destination) | (source == destination));
     let m = Message {
         source,
         destination,
         label,
     };
-    region_step(r, at, next, Event::Message(m), beyond, false)
+    region_step(r, at, next, Event::Message(m), outside, false)
 }
 
 fn plain_step(r: Reading, at: usize, next: usize, lines: u16) -> Step
     ensures { λ o. ⌜ o ≡ stepOf r at next false (Command.Plain lines) ⌝ }
 {
     let c = r.chart;
-    let beyond = (lines == 0) | !bitset::within(c.lines as u32, lines as u32);
-    let alone = (!r.main | (c.prechart == 0)) & ((lines & r.touched) == 0);
-    region_step(r, at, next, Event::Plain(lines), beyond, alone)
+    let outside = (lines == 0) | !bitset::within(c.lines as u32, lines as u32);
+    let unanchored = (!r.main | (c.prechart == 0)) & ((lines & r.touched) == 0);
+    region_step(r, at, next, Event::Plain(lines), outside, unanchored)
 }
 
 // A relation, by its code from 0 to 4.
@@ -340,16 +349,16 @@ fn term_step(
     left: Left,
     relation: u8,
     n: u32,
-    beyond: bool,
+    outside: bool,
 ) -> Step
     ensures { λ o. ⌜ o
-        ≡ decided (firstFault (not (r .started)) Fault.Nothing beyond (leb mostTerms (r .region .count)) false false
+        ≡ decided (firstFault (not (r .started)) Fault.Nothing outside (leb mostTerms (r .region .count)) false false
         false false at next) r (record { outcome = Outcome.Going next; reading = withTerm r left relation n }) ⌝ }
 {
     let mut k = no_fault();
     k.misplaced = !r.started;
-    k.beyond = beyond;
-    k.full = MOST_TERMS <= r.region.count as usize;
+    k.outside = outside;
+    k.excess = MOST_TERMS <= r.region.count as usize;
     answer(
         r,
         Fault::Nothing,
@@ -363,8 +372,8 @@ fn term_step(
 fn clock_term_step(r: Reading, at: usize, next: usize, clock: u8, relation: u8, n: u32) -> Step
     ensures { λ o. ⌜ o ≡ stepOf r at next false (Command.ClockTerm clock relation n) ⌝ }
 {
-    let beyond = (r.chart.clocks <= clock) | (RELATIONS <= relation);
-    term_step(r, at, next, Left::Clock(clock), relation, n, beyond)
+    let outside = (r.chart.clocks <= clock) | (RELATIONS <= relation);
+    term_step(r, at, next, Left::Clock(clock), relation, n, outside)
 }
 
 fn difference_term_step(
@@ -379,8 +388,8 @@ fn difference_term_step(
     ensures { λ o. ⌜ o ≡ stepOf r at next false (Command.DifferenceTerm a b relation n) ⌝ }
 {
     let clocks = r.chart.clocks;
-    let beyond = (clocks <= a) | ((clocks <= b) | ((a == b) | (RELATIONS <= relation)));
-    term_step(r, at, next, Left::Difference(a, b), relation, n, beyond)
+    let outside = (clocks <= a) | ((clocks <= b) | ((a == b) | (RELATIONS <= relation)));
+    term_step(r, at, next, Left::Difference(a, b), relation, n, outside)
 }
 
 // 32: the condition is hot.
@@ -415,7 +424,7 @@ fn resets_step(r: Reading, at: usize, next: usize, clocks: u8) -> Step
 {
     let mut k = no_fault();
     k.misplaced = !r.started | (r.region.resets != 0);
-    k.beyond = (clocks == 0) | !bitset::within(r.chart.clocks as u32, clocks as u32);
+    k.outside = (clocks == 0) | !bitset::within(r.chart.clocks as u32, clocks as u32);
     answer(r, Fault::Nothing, k, at, next, with_resets(r, clocks))
 }
 
@@ -454,7 +463,7 @@ fn end_step(r: Reading, at: usize, next: usize, more: bool) -> Step
     let chart = close(r);
     let mut k = no_fault();
     k.misplaced = !r.headed;
-    k.empty = !r.main | (chart.count == chart.prechart);
+    k.mainless = !r.main | (chart.count == chart.prechart);
     k.trailing = more;
     let f = first_fault(closing_fault(r), k, at, next);
     let reading = with_chart(r, r.main, chart);

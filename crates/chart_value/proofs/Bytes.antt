@@ -62,13 +62,13 @@ module _ (s : List ℕ) (x : Said) where
     after k = sym (drop-drop k at s) ∙ ap (λ (l : List ℕ). drop k l) here
 
     -- the command of a byte whose operands are there
-    pub decoded-here : (n : ℕ) (c : Command) → decodeByte s at b ≡ operands s at n c → n ≤ length xs → decodeAt s at ≡ decoded.Taken c (at + 1 + n)
+    pub decoded-here : (n : ℕ) (c : Command) → decodeByte s at b ≡ operands s at n c → n ≤ length xs → decodeAt s at ≡ decoded.Known c (at + 1 + n)
     decoded-here n c e h =
         let l = left in
         let g : getD s at 0 ≡ b = rw add-zero at (operand 0) in
         ap (λ (t : Bool). cond t decoded.CutShort (decodeByte s at (getD s at 0))) (lt-leb (length s) at (omega arith))
         ∙ ap (decodeByte s at) g ∙ e
-        ∙ ap (λ (t : Bool). cond t decoded.CutShort (decoded.Taken c (at + 1 + n))) (lt-leb (length s - at) n (omega arith))
+        ∙ ap (λ (t : Bool). cond t decoded.CutShort (decoded.Known c (at + 1 + n))) (lt-leb (length s - at) n (omega arith))
 
     -- the command at a place, where nothing refuses it
     pub taken : (r : Reading) (n : ℕ) (c : Command) → decodeByte s at b ≡ operands s at n c → n ≤ length xs

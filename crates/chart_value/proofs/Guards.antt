@@ -15,10 +15,10 @@ use Rattle.model.specs.Chart.{mostLines, mostRegions, mostTerms}
 use Rattle.chart_command.specs.declared.Command.the-variants.{Message, ClockTerm, DifferenceTerm}
 use Rattle.chart_step.specs.declared.Reading.{Reading}
 use Rattle.chart_step.specs.declared.Fault.the-variants.{Nothing}
-use Rattle.chart_step.specs.declared.Refusal.the-variants.{CutShort, OutOfPlace, OutOfRange, NoRoom}
+use Rattle.chart_step.specs.declared.Refusal.the-variants.{CutShort, Misplaced, Outside, Excess}
 use Rattle.chart_step.specs.declared.Outcome.{Outcome}
 use Rattle.chart_step.specs.declared.Outcome.the-variants.{Going, Ended, Refused}
-use Rattle.chart_step.specs.Reading.{faultOf, outOfRange, closingFault}
+use Rattle.chart_step.specs.Reading.{faultOf, isOutside, closingFault}
 use Rattle.chart_reader.specs.Read.{readChart, readFrom, continueBy, advanceOf, startReading}
 use Rattle.chart_reader.specs.Said.{Said, acceptedAs}
 use Rattle.chart_reader.proofs.Count.{any-count}
@@ -51,9 +51,9 @@ high r (inr v) h = by (v .state)
 
 lines : (r : Reading) → Ready r → (at n a b l : ℕ) (more : Bool) → faultOf r at n more (Message a b l) ≡ Nothing → (a < mostLines) × (b < mostLines)
 lines r v at n a b l more e =
-    let p = clear (not (r .headed)) OutOfPlace at _ e in
+    let p = clear (not (r .headed)) Misplaced at _ e in
     let q = first-clear (closingFault r) _ (p .1) in
-    let u = clear (outOfRange (r .chart) (Message a b l)) OutOfRange at _ (q .1) in
+    let u = clear (isOutside (r .chart) (Message a b l)) Outside at _ (q .1) in
     let x = neither (leb (r .chart .lines) a) _ (u .0) in
     let y = neither (leb (r .chart .lines) b) _ (x .1) in
     let h : r .chart .lines ≤ mostLines = high r v (headed (r .headed) (p .0)) in
@@ -118,11 +118,11 @@ never-fire =
       room = λ s at r q. room r (reached-ready q);
       lines = λ s at r q. lines r (reached-ready q) at;
       clock-term = λ r at m k e n more f.
-          let p = clear (not (r .started)) OutOfPlace at _ f in
-          let u = clear (outOfRange (r .chart) (ClockTerm k e n)) OutOfRange at _ (p .1) in
-          leb-false _ _ (clear (leb mostTerms (r .region .count)) NoRoom at _ (u .1) .0);
+          let p = clear (not (r .started)) Misplaced at _ f in
+          let u = clear (isOutside (r .chart) (ClockTerm k e n)) Outside at _ (p .1) in
+          leb-false _ _ (clear (leb mostTerms (r .region .count)) Excess at _ (u .1) .0);
       difference-term = λ r at m a b e n more f.
-          let p = clear (not (r .started)) OutOfPlace at _ f in
-          let u = clear (outOfRange (r .chart) (DifferenceTerm a b e n)) OutOfRange at _ (p .1) in
-          leb-false _ _ (clear (leb mostTerms (r .region .count)) NoRoom at _ (u .1) .0);
+          let p = clear (not (r .started)) Misplaced at _ f in
+          let u = clear (isOutside (r .chart) (DifferenceTerm a b e n)) Outside at _ (p .1) in
+          leb-false _ _ (clear (leb mostTerms (r .region .count)) Excess at _ (u .1) .0);
     }

@@ -28,7 +28,7 @@ use Rattle.chart_command.specs.Command.{resetsByte, mainByte, endByte}
 use Rattle.chart_command.specs.declared.Command.the-variants.{Message, Plain}
 use Rattle.chart_step.specs.declared.Reading.{Reading}
 use Rattle.chart_step.specs.declared.Fault.the-variants.{Nothing}
-use Rattle.chart_step.specs.declared.Refusal.the-variants.{BareRegion, HotWithoutTerm}
+use Rattle.chart_step.specs.declared.Refusal.the-variants.{Bare, HotAlone}
 use Rattle.chart_step.specs.Reading.{firstFault, closingFault, closed, orElse, when, withTerm, relationOf, relationCount, begunWith, withMain, withHeading}
 use Rattle.chart_reader.specs.Read.{readChart, startReading}
 use Rattle.chart_reader.specs.Said.{Said, acceptedAs}
@@ -261,7 +261,7 @@ module _ (c : Chart) where
           lines = ap (λ (c : Chart). c .lines) (b .chart);
           prechart = ap (λ (c : Chart). c .prechart) (b .chart);
           touched = ap (λ (t : ℕ). union t (touched (regionAt c i .event))) (b .touched);
-          fine = λ j. orElse (when (f .bare j) BareRegion at) (when (cold (regionAt c i .hot) main (eqb (regionAt c i .count) 0) (f .hot) j) HotWithoutTerm at);
+          fine = λ j. orElse (when (f .bare j) Bare at) (when (cold (regionAt c i .hot) main (eqb (regionAt c i .count) 0) (f .hot) j) HotAlone at);
           chart =
               (λ j. put (b .chart j) (ltb (b .chart j .count) 32))
               ∙ ap (λ (t : Bool). put (soFar main i) t) (lt-ltb i 32 small)

@@ -36,9 +36,9 @@ use Rattle.chart_step.specs.declared.Fault.the-variants.{Nothing, Found}
 use Rattle.chart_step.specs.declared.Outcome.{Outcome}
 use Rattle.chart_step.specs.declared.Outcome.the-variants.{Going, Ended, Refused}
 use Rattle.chart_step.specs.declared.Refusal.{Refusal}
-use Rattle.chart_step.specs.declared.Refusal.the-variants.{CutShort, OutOfPlace, OutOfRange, NoRoom, BareRegion, HotWithoutTerm, HotInPrechart, NoneAbove, NoMainRegion}
+use Rattle.chart_step.specs.declared.Refusal.the-variants.{CutShort, Misplaced, Outside, Excess, Bare, HotAlone, Early, Unanchored, Mainless}
 use Rattle.chart_step.proofs.Numbers.{refusal-nonzero}
-use Rattle.chart_step.specs.Reading.{stepOf, faultOf, decided, applied, outcomeOf, closingFault, closed, orElse, when, withTerm, relationOf, begunWith, withRegion, withMain, withHeading, outOfRange, noneAbove, noMainRegion}
+use Rattle.chart_step.specs.Reading.{stepOf, faultOf, decided, applied, outcomeOf, closingFault, closed, orElse, when, withTerm, relationOf, begunWith, withRegion, withMain, withHeading, isOutside, isUnanchored, isMainless}
 use Rattle.chart_reader.specs.Read.{readChart, readFrom, continueBy, advanceOf, advanceBy, startReading}
 use Rattle.chart_reader.specs.Said.{Said, acceptedAs, refusedFor}
 use Rattle.chart_value.specs.WellFormed.{wellFormed, placeFits, regionFits, eventFits, leftFits, touchedBefore, isZeroRegion}
@@ -190,7 +190,7 @@ close r (idle e s t) f =
       touched = t ∙ sym (ap (λ (c : Chart). touchedBefore (c .regions) (c .count)) q);
     }
 close r (busy e s w t) f =
-    let a = first-clear (when (r .started && isBare (r .region)) BareRegion (r .start)) (when (r .started && (r .region .hot && eqb (r .region .count) 0)) HotWithoutTerm (r .start)) f in
+    let a = first-clear (when (r .started && isBare (r .region)) Bare (r .start)) (when (r .started && (r .region .hot && eqb (r .region .count) 0)) HotAlone (r .start)) f in
     let bare : isBare (r .region) ≡ false =
     ap (λ (b : Bool). b && isBare (r .region)) (sym e) ∙ quiet _ _ _ (a .0) in
     let hot : (r .region .hot && eqb (r .region .count) 0) ≡ false =
@@ -372,57 +372,57 @@ nand false y e = refl
 module _ (r : Reading) (h : r .headed ≡ true) (s : State r) (at next : ℕ) (more : Bool) where
   kept : (c : Command) → faultOf r at next more c ≡ Nothing → AfterBy (outcomeOf next c) (applied r at c)
   unfolding AfterBy
-  kept (Heading l k) e = absurd (true≢false (sym h ∙ clear (r .headed) OutOfPlace at _ e .0))
+  kept (Heading l k) e = absurd (true≢false (sym h ∙ clear (r .headed) Misplaced at _ e .0))
   kept (Message a b l) e =
-      let p = clear (not (r .headed)) OutOfPlace at _ e in
+      let p = clear (not (r .headed)) Misplaced at _ e in
       let q = first-clear (closingFault r) _ (p .1) in
-      let u = clear (outOfRange (r .chart) (Message a b l)) OutOfRange at _ (q .1) in
-      let v = clear (leb 32 (closed r .count)) NoRoom at _ (u .1) in
+      let u = clear (isOutside (r .chart) (Message a b l)) Outside at _ (q .1) in
+      let v = clear (leb 32 (closed r .count)) Excess at _ (u .1) in
       let x = neither (leb (r .chart .lines) a) _ (u .0) in
       let y = neither (leb (r .chart .lines) b) _ (x .1) in
       begin r h (close r s (q .0)) at (event.Message (record { source = a; destination = b; label = l })) (v .0)
       (and-both (inside a (r .chart .lines) (x .0)) (and-both (inside b (r .chart .lines) (y .0)) (ap not (y .1))))
   kept (Plain l) e =
-      let p = clear (not (r .headed)) OutOfPlace at _ e in
+      let p = clear (not (r .headed)) Misplaced at _ e in
       let q = first-clear (closingFault r) _ (p .1) in
-      let u = clear (outOfRange (r .chart) (Plain l)) OutOfRange at _ (q .1) in
-      let v = clear (leb 32 (closed r .count)) NoRoom at _ (u .1) in
-      let w = clear (noneAbove r (Plain l)) NoneAbove at _ (v .1) in
+      let u = clear (isOutside (r .chart) (Plain l)) Outside at _ (q .1) in
+      let v = clear (leb 32 (closed r .count)) Excess at _ (u .1) in
+      let w = clear (isUnanchored r (Plain l)) Unanchored at _ (v .1) in
       let x = neither (eqb l 0) _ (u .0) in
       begin r h (close r s (q .0)) at (event.Plain l) (v .0)
       (and-both (ap not (x .0)) (and-both (not-false (within (r .chart .lines) l) (x .1)) (nand (not (r .main) || eqb (r .chart .prechart) 0) (eqb (bitAnd l (r .touched)) 0) (w .0))))
   kept (ClockTerm k e n) f =
-      let p = clear (not (r .started)) OutOfPlace at _ f in
-      let u = clear (outOfRange (r .chart) (ClockTerm k e n)) OutOfRange at _ (p .1) in
-      let v = clear (leb 4 (r .region .count)) NoRoom at _ (u .1) in
+      let p = clear (not (r .started)) Misplaced at _ f in
+      let u = clear (isOutside (r .chart) (ClockTerm k e n)) Outside at _ (p .1) in
+      let v = clear (leb 4 (r .region .count)) Excess at _ (u .1) in
       let x = neither (leb (r .chart .clocks) k) _ (u .0) in
       grow r h s (p .0) (Clock k) e n (v .0) (inside k (r .chart .clocks) (x .0))
   kept (DifferenceTerm a b e n) f =
-      let p = clear (not (r .started)) OutOfPlace at _ f in
-      let u = clear (outOfRange (r .chart) (DifferenceTerm a b e n)) OutOfRange at _ (p .1) in
-      let v = clear (leb 4 (r .region .count)) NoRoom at _ (u .1) in
+      let p = clear (not (r .started)) Misplaced at _ f in
+      let u = clear (isOutside (r .chart) (DifferenceTerm a b e n)) Outside at _ (p .1) in
+      let v = clear (leb 4 (r .region .count)) Excess at _ (u .1) in
       let x = neither (leb (r .chart .clocks) a) _ (u .0) in
       let y = neither (leb (r .chart .clocks) b) _ (x .1) in
       let z = neither (eqb a b) _ (y .1) in
       grow r h s (p .0) (Difference a b) e n (v .0)
       (and-both (inside a (r .chart .clocks) (x .0)) (and-both (inside b (r .chart .clocks) (y .0)) (ap not (z .0))))
   kept Hot e =
-      let p = clear (not (r .started) || r .region .hot) OutOfPlace at _ e in
-      let u = clear (not (r .main)) HotInPrechart at _ (p .1) in
+      let p = clear (not (r .started) || r .region .hot) Misplaced at _ e in
+      let u = clear (not (r .main)) Early at _ (p .1) in
       change r true (r .region .resets) h s (neither (not (r .started)) _ (p .0) .0) (λ w. (not-false _ (u .0), w .resets))
   kept (Resets k) e =
-      let p = clear (not (r .started) || not (eqb (r .region .resets) 0)) OutOfPlace at _ e in
-      let u = clear (outOfRange (r .chart) (Resets k)) OutOfRange at _ (p .1) in
+      let p = clear (not (r .started) || not (eqb (r .region .resets) 0)) Misplaced at _ e in
+      let u = clear (isOutside (r .chart) (Resets k)) Outside at _ (p .1) in
       change r (r .region .hot) k h s (neither (not (r .started)) _ (p .0) .0)
       (λ w. (w .hot, within-true _ _ (not-false _ (neither (eqb k 0) _ (u .0) .1))))
   kept Main e =
-      let p = clear (not (r .headed) || r .main) OutOfPlace at _ e in
+      let p = clear (not (r .headed) || r .main) Misplaced at _ e in
       let q = first-clear (closingFault r) _ (p .1) in
       cross r h (close r s (q .0)) (neither (not (r .headed)) _ (p .0) .1)
   kept End e =
-      let p = clear (not (r .headed)) OutOfPlace at _ e in
+      let p = clear (not (r .headed)) Misplaced at _ e in
       let q = first-clear (closingFault r) _ (p .1) in
-      let u = clear (noMainRegion r End) NoMainRegion at _ (q .1) in
+      let u = clear (isMainless r End) Mainless at _ (q .1) in
       let x = neither (not (r .main)) _ (u .0) in
       finish r (close r s (q .0)) (not-false _ (x .0)) (x .1)
 
@@ -431,7 +431,7 @@ started : (at next : ℕ) (more : Bool) (c : Command) → After (stepOf startRea
 unfolding AfterBy touchedBefore
 started at next more (Heading l k) =
     decided-after (faultOf startReading at next more (Heading l k)) startReading (record { outcome = Going next; reading = withHeading startReading l k })
-    (λ e. by (clear (not (leb 2 l && (leb l 16 && leb k 8))) OutOfRange at Nothing e .0))
+    (λ e. by (clear (not (leb 2 l && (leb l 16 && leb k 8))) Outside at Nothing e .0))
   where
     by : not (leb 2 l && (leb l 16 && leb k 8)) ≡ false → Inv (withHeading startReading l k)
     by e =
@@ -482,7 +482,7 @@ advance-keeps s at r v = by (decodeAt s at)
     by : (d : Decoded) → After (advanceBy s at r d)
     by decoded.CutShort = tt
     by decoded.Unknown = tt
-    by (decoded.Taken c next) = command-keeps r v at next (ltb next (length s)) c
+    by (decoded.Known c next) = command-keeps r v at next (ltb next (length s)) c
 
 -- the whole reading, by the count of commands
 pub never : {A : Type 0} (f : Refusal) (o : ℕ) (c : Chart) → refusedFor f o ≡ acceptedAs c → A

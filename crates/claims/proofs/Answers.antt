@@ -8,7 +8,7 @@ use Rattle.model.specs.declared.FeedRefusal.the-variants.{NotAChart, Unfit, Tim
 use Rattle.model.specs.declared.Answer.{Answer}
 use Rattle.model.specs.declared.Answer.the-variants.{Refused, Broken, Kept, Dropped, Entered, Moved, Quiet}
 use Rattle.model.specs.Answers.{feedRefusalNumber}
-use Rattle.rounds.specs.Feeds.{Answer as Told, refused, toldBroken, toldKept, toldDropped, entered, moved, quiet}
+use Rattle.rounds.specs.Feeds.{Answer as AbstractAnswer, refused, brokenAt, keptNow, droppedNow, entered, moved, quiet}
 use Rattle.chart_step.proofs.Numbers.{refusal-nonzero, refusal-injective}
 use Rattle.chart_reader.specs.declared.ChartAnswer.{ChartAnswer}
 use Rattle.chart_reader.specs.declared.ChartAnswer.the-variants as chart
@@ -17,7 +17,7 @@ use Rattle.chart_reader.specs.Said as read
 use Rattle.stepping.specs.Answers.{answerOf}
 use Rattle.log_reader.specs.declared.RecordRefusal.{RecordRefusal}
 use Rattle.log_reader.specs.declared.RecordRefusal.the-variants.{CutShort, UnknownByte}
-use Rattle.log_reader.proofs.Told.{said-tells}
+use Rattle.log_reader.proofs.Said.{said-tells}
 use Rattle.judge.specs.declared.LogRefusal.the-variants as log
 use Rattle.judge.specs.declared.JudgeAnswer.{JudgeAnswer}
 use Rattle.judge.specs.declared.JudgeAnswer.the-variants as judged
@@ -71,29 +71,29 @@ judgements-tell x y e =
     = sym (judge-answer (x .answer)) ∙ ap (λ (s : judge.Said). judgeAnswer (s .number) (s .offset)) e ∙ judge-answer (y .answer) in
     λ i. record { answer = a i; verdict = e i .verdict }
 
-told : Told → Answer
-told (refused k) = Refused (feedRefusal k)
-told (toldBroken n k) = Broken n k
-told toldKept = Kept
-told toldDropped = Dropped
-told entered = Entered
-told moved = Moved
-told quiet = Quiet
+ans : AbstractAnswer → Answer
+ans (refused k) = Refused (feedRefusal k)
+ans (brokenAt n k) = Broken n k
+ans keptNow = Kept
+ans droppedNow = Dropped
+ans entered = Entered
+ans moved = Moved
+ans quiet = Quiet
 
-told-answer : (x : Answer) → told (answerOf x) ≡ x
-unfolding told
-told-answer (Refused k) = ap Refused (feed-refusal k)
-told-answer (Broken n k) = refl
-told-answer Kept = refl
-told-answer Dropped = refl
-told-answer Entered = refl
-told-answer Moved = refl
-told-answer Quiet = refl
+answered-answer : (x : Answer) → ans (answerOf x) ≡ x
+unfolding ans
+answered-answer (Refused k) = ap Refused (feed-refusal k)
+answered-answer (Broken n k) = refl
+answered-answer Kept = refl
+answered-answer Dropped = refl
+answered-answer Entered = refl
+answered-answer Moved = refl
+answered-answer Quiet = refl
 
 pub answers-tell : AnswersTell
 answers-tell = record {
   charts = charts-tell;
   judgements = judgements-tell;
   records = said-tells;
-  feeds = λ x y e. sym (told-answer x) ∙ ap told e ∙ told-answer y;
+  feeds = λ x y e. sym (answered-answer x) ∙ ap ans e ∙ answered-answer y;
 }

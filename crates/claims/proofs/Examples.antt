@@ -6,7 +6,7 @@ use Rattle.condition.specs.Condition.{termsHold}
 use Rattle.chart_reader.specs.Read.{readChart, readFrom, advanceOf}
 use Rattle.chart_value.specs.WellFormed.{isZeroTerm, termPlaced, termsFit, regionFits, isZeroRegion, touchedBefore, regionPlaced, wellFormed}
 use Rattle.rounds.specs.Rows.{chartMessage, plain, values, opened}
-use Rattle.rounds.specs.Machine.{ready, readyFor, readyPlain, fire, unfired, settle, place, opening, full, prechartDone, goOn, keepRound, dropRound, breakRound, conclude, accept, feed, after}
+use Rattle.rounds.specs.Machine.{ready, readyFor, readyPlain, fire, unfired, settle, offer, opening, full, prechartDone, goOn, keepRound, dropRound, breakRound, conclude, accept, feed, after}
 use Rattle.log_reader.specs.Records.{recordsFrom, recordsIn}
 use Rattle.judge.specs.Check.{stepAt, checkFrom, checkLog}
 use Rattle.judge.specs.Judge.{judgeOf}
@@ -15,5 +15,5 @@ use Rattle.respond.specs.Respond.{partsReport}
 use Rattle.claims.specs.Examples.{examples, AllSaid}
 
 pub examples-said : AllSaid examples
-unfolding contains single inserted union isSubset within isOver gathered aboveSets termsHold readChart readFrom advanceOf isZeroTerm termPlaced termsFit regionFits isZeroRegion touchedBefore regionPlaced wellFormed chartMessage plain values opened ready readyFor readyPlain fire unfired settle place opening full prechartDone goOn keepRound dropRound breakRound conclude accept feed after recordsFrom recordsIn stepAt checkFrom checkLog standingOf judgeOf partsReport
+unfolding contains single inserted union isSubset within isOver gathered aboveSets termsHold readChart readFrom advanceOf isZeroTerm termPlaced termsFit regionFits isZeroRegion touchedBefore regionPlaced wellFormed chartMessage plain values opened ready readyFor readyPlain fire unfired settle offer opening full prechartDone goOn keepRound dropRound breakRound conclude accept feed after recordsFrom recordsIn stepAt checkFrom checkLog standingOf judgeOf partsReport
 examples-said = (refl, (refl, (refl, (refl, (refl, (refl, (refl, (refl, (refl, (refl, (refl, (refl, tt))))))))))))

@@ -1,4 +1,4 @@
--- One record at a place, and a whole log, read case by case. The records walked without a fault decide where the check of the log stands, so
+-- One record at an offset, and a whole log, read case by case. The records walked without a fault decide where the check of the log stands, so
 -- two walks end alike. Assumes nothing.
 use mathlib.Core.Path.{_≡_, refl, sym, ap, subst, _∙_}
 use mathlib.Core.Logic.{inl, inr, _↔_}
@@ -27,7 +27,7 @@ use Rattle.log_reader.specs.declared.RecordRefusal.the-variants.{CutShort, Unkn
 use Rattle.log_reader.specs.declared.Next.{Next}
 use Rattle.log_reader.specs.declared.Next.the-variants as next
 use Rattle.log_reader.specs.Record as found
-use Rattle.log_reader.specs.Record.{recordRefusalNumber, messageByte, timeByte, messageSize, timeSize, messageAt, timeAt, said}
+use Rattle.log_reader.specs.Record.{recordRefusalNumber, messageTag, timeTag, messageSize, timeSize, messageAt, timeAt, said}
 use Rattle.log_reader.specs.Next.{nextAt}
 use Rattle.log_reader.specs.Records.{recordsFrom, recordsIn}
 use Rattle.log_reader.proofs.Places.{taken-past}
@@ -44,16 +44,16 @@ use Rattle.judge.proofs.Laws.{Left, left-first, left-step, left-going}
 use Rattle.claims.specs.Demand1.{Just, FindsAs, ends, unknown, message-cut, time-cut, message, time, Walk, start, step, JudgesAs, not-given, no-record, falls, overflows, judges}
 use Rattle.claims.proofs.Demand1.{given-not}
 
--- one record at a place
+-- one record at an offset
 finds-as : (s : List ℕ) (at : ℕ) → FindsAs s at (said at (nextAt s at))
 finds-as s at = elim (split (leb (length s) at)) [
   | inl a ↦ rw a (ends (leb-true _ _ a))
-  | inr a ↦ elim (split (eqb (getD s at 0) messageByte)) [
+  | inr a ↦ elim (split (eqb (getD s at 0) messageTag)) [
     | inl b ↦ elim (split (ltb (length s - at) messageSize)) [
       | inl k ↦ rw (a, b, k) (message-cut (eqb-true _ _ b) (omega (arith, leb-false (length s) at a, ltb-true (length s - at) messageSize k)))
       | inr k ↦ rw (a, b, k) (message (eqb-true _ _ b) (omega (arith, leb-false (length s) at a, ltb-false (length s - at) messageSize k)))
     ]
-    | inr b ↦ elim (split (eqb (getD s at 0) timeByte)) [
+    | inr b ↦ elim (split (eqb (getD s at 0) timeTag)) [
       | inl t ↦ elim (split (ltb (length s - at) timeSize)) [
         | inl k ↦ rw (a, b, t, k) (time-cut (eqb-true _ _ t) (omega (arith, leb-false (length s) at a, ltb-true (length s - at) timeSize k)))
         | inr k ↦ rw (a, b, t, k) (time (eqb-true _ _ t) (omega (arith, leb-false (length s) at a, ltb-false (length s - at) timeSize k)))
@@ -71,11 +71,11 @@ finds-next s at x (message-cut a l) =
     (next.Refused CutShort, rw (lt-leb _ _ h, eq-eqb _ _ a, lt-ltb (length s - at) messageSize (omega (arith, h, l))), refl)
 finds-next s at x (time-cut a l) =
     let h : at < length s = inside s at (λ z. omega (arith, z, a)) in
-    (next.Refused CutShort, rw (lt-leb _ _ h, ne-eqb (getD s at 0) messageByte (λ z. omega (arith, z, a)), eq-eqb _ _ a, lt-ltb (length s - at) timeSize (omega (arith, h, l))), refl)
+    (next.Refused CutShort, rw (lt-leb _ _ h, ne-eqb (getD s at 0) messageTag (λ z. omega (arith, z, a)), eq-eqb _ _ a, lt-ltb (length s - at) timeSize (omega (arith, h, l))), refl)
 finds-next s at x (message a l) =
-    (next.Taken (messageAt s at) (at + messageSize), rw (lt-leb (length s) at (omega (arith, l)), eq-eqb _ _ a, le-ltb (length s - at) messageSize (omega (arith, l))), refl)
+    (next.Handed (messageAt s at) (at + messageSize), rw (lt-leb (length s) at (omega (arith, l)), eq-eqb _ _ a, le-ltb (length s - at) messageSize (omega (arith, l))), refl)
 finds-next s at x (time a l) =
-    (next.Taken (timeAt s at) (at + timeSize), rw (lt-leb (length s) at (omega (arith, l)), ne-eqb (getD s at 0) messageByte (λ z. omega (arith, z, a)), eq-eqb _ _ a, le-ltb (length s - at) timeSize (omega (arith, l))), refl)
+    (next.Handed (timeAt s at) (at + timeSize), rw (lt-leb (length s) at (omega (arith, l)), ne-eqb (getD s at 0) messageTag (λ z. omega (arith, z, a)), eq-eqb _ _ a, le-ltb (length s - at) timeSize (omega (arith, l))), refl)
 
 pub finds-just : (s : List ℕ) (at : ℕ) (n : Next) → n ≡ nextAt s at → Just (FindsAs s at) (said at n)
 finds-just s at n e = record {
@@ -90,7 +90,7 @@ found-end s at F = by (nextAt s at) refl (finds-next s at (found.end at) F)
     by : (x : Next) → nextAt s at ≡ x → (n : Next) × (nextAt s at ≡ n) × (found.end at ≡ said at n) → nextAt s at ≡ next.End
     by next.End q N = q
     by (next.Refused k) q N = absurd (let w : found.end at ≡ found.refused (recordRefusalNumber k) at = N .2 ∙ ap (said at) (sym (N .1) ∙ q) in let z : _≡_ {A = ℕ} 0 1 = cc in omega arith)
-    by (next.Taken e p) q N = absurd (let w : found.end at ≡ found.handed e p = N .2 ∙ ap (said at) (sym (N .1) ∙ q) in let z : _≡_ {A = ℕ} 0 1 = cc in omega arith)
+    by (next.Handed e p) q N = absurd (let w : found.end at ≡ found.handed e p = N .2 ∙ ap (said at) (sym (N .1) ∙ q) in let z : _≡_ {A = ℕ} 0 1 = cc in omega arith)
 
 found-refused : (s : List ℕ) (at k : ℕ) → FindsAs s at (found.refused k at) → (f : RecordRefusal) × (nextAt s at ≡ next.Refused f) × (k ≡ recordRefusalNumber f)
 found-refused s at k F = by (nextAt s at) refl (finds-next s at (found.refused k at) F)
@@ -99,15 +99,15 @@ found-refused s at k F = by (nextAt s at) refl (finds-next s at (found.refused k
         → (f : RecordRefusal) × (nextAt s at ≡ next.Refused f) × (k ≡ recordRefusalNumber f)
     by next.End q N = absurd (let w : found.refused k at ≡ found.end at = N .2 ∙ ap (said at) (sym (N .1) ∙ q) in let z : _≡_ {A = ℕ} 0 1 = cc in omega arith)
     by (next.Refused f) q N = let w : found.refused k at ≡ found.refused (recordRefusalNumber f) at = N .2 ∙ ap (said at) (sym (N .1) ∙ q) in (f, q, cc)
-    by (next.Taken e p) q N = absurd (let w : found.refused k at ≡ found.handed e p = N .2 ∙ ap (said at) (sym (N .1) ∙ q) in let z : _≡_ {A = ℕ} 0 1 = cc in omega arith)
+    by (next.Handed e p) q N = absurd (let w : found.refused k at ≡ found.handed e p = N .2 ∙ ap (said at) (sym (N .1) ∙ q) in let z : _≡_ {A = ℕ} 0 1 = cc in omega arith)
 
-found-handed : (s : List ℕ) (at : ℕ) (e : Record) (p : ℕ) → FindsAs s at (found.handed e p) → nextAt s at ≡ next.Taken e p
+found-handed : (s : List ℕ) (at : ℕ) (e : Record) (p : ℕ) → FindsAs s at (found.handed e p) → nextAt s at ≡ next.Handed e p
 found-handed s at e p F = by (nextAt s at) refl (finds-next s at (found.handed e p) F)
   where
-    by : (x : Next) → nextAt s at ≡ x → (n : Next) × (nextAt s at ≡ n) × (found.handed e p ≡ said at n) → nextAt s at ≡ next.Taken e p
+    by : (x : Next) → nextAt s at ≡ x → (n : Next) × (nextAt s at ≡ n) × (found.handed e p ≡ said at n) → nextAt s at ≡ next.Handed e p
     by next.End q N = absurd (let w : found.handed e p ≡ found.end at = N .2 ∙ ap (said at) (sym (N .1) ∙ q) in let z : _≡_ {A = ℕ} 0 1 = cc in omega arith)
     by (next.Refused f) q N = absurd (let w : found.handed e p ≡ found.refused (recordRefusalNumber f) at = N .2 ∙ ap (said at) (sym (N .1) ∙ q) in let z : _≡_ {A = ℕ} 0 1 = cc in omega arith)
-    by (next.Taken f o) q N = let w : found.handed e p ≡ found.handed f o = N .2 ∙ ap (said at) (sym (N .1) ∙ q) in q ∙ cc
+    by (next.Handed f o) q N = let w : found.handed e p ≡ found.handed f o = N .2 ∙ ap (said at) (sym (N .1) ∙ q) in q ∙ cc
 
 finds-of : (s : List ℕ) (at : ℕ) (n : Next) → nextAt s at ≡ n → FindsAs s at (said at n)
 finds-of s at n q = subst (λ (x : Next). FindsAs s at (said at x)) q (finds-as s at)
@@ -120,8 +120,8 @@ record Stands (s : List ℕ) (es : Snoc Record) (at last : ℕ) : Type 0 where
   rest : recordsFrom more s at es ≡ recordsIn s
 
 module _ (s : List ℕ) where
-  -- what the check makes of a record found at a place
-  took : (at : ℕ) (last : Moment) (n : ℕ) (e : Record) (p : ℕ) → nextAt s at ≡ next.Taken e p → (a b : Bool) → ltb (timeOf e .0) (last .0) ≡ a
+  -- what the check makes of a record found at an offset
+  took : (at : ℕ) (last : Moment) (n : ℕ) (e : Record) (p : ℕ) → nextAt s at ≡ next.Handed e p → (a b : Bool) → ltb (timeOf e .0) (last .0) ≡ a
       → leb mostRecords n ≡ b
       → stepAt s at last n ≡ cond a (Over (checked.Refused TimeFalls at)) (cond b (Over (checked.Refused TooManyRecords at)) (Going p (timeOf e) (n + 1)))
   unfolding stepAt
@@ -140,7 +140,7 @@ module _ (s : List ℕ) where
             (took at (record { 0 = last }) (size es) e p q false false (le-ltb _ _ t) (lt-leb _ _ k)));
         more = S .more - 1;
         room = omega (arith, l, S .room);
-        rest = sym (one-record s at (S .more) h es (next.Taken e p) q) ∙ S .rest;
+        rest = sym (one-record s at (S .more) h es (next.Handed e p) q) ∙ S .rest;
       }
 
   -- the records of a log without a fault
@@ -162,9 +162,9 @@ data Checks (s : List ℕ) : Checked → Type 0 where
   fine : {es : Snoc Record} {at last : ℕ} → Walk s es at last → FindsAs s at (found.end at) → Checks s (checked.Fine (size es))
   bad-bytes : {es : Snoc Record} {at last : ℕ} → Walk s es at last → (k : RecordRefusal) → FindsAs s at (found.refused (recordRefusalNumber k) at)
       → Checks s (checked.Refused (NoRecord k) at)
-  bad-time : {es : Snoc Record} {at last : ℕ} → Walk s es at last → (e : Record) (place : ℕ) → FindsAs s at (found.handed e place) → timeOf e .0 < last
+  bad-time : {es : Snoc Record} {at last : ℕ} → Walk s es at last → (e : Record) (past : ℕ) → FindsAs s at (found.handed e past) → timeOf e .0 < last
       → Checks s (checked.Refused TimeFalls at)
-  bad-count : {es : Snoc Record} {at last : ℕ} → Walk s es at last → (e : Record) (place : ℕ) → FindsAs s at (found.handed e place) → last ≤ timeOf e .0
+  bad-count : {es : Snoc Record} {at last : ℕ} → Walk s es at last → (e : Record) (past : ℕ) → FindsAs s at (found.handed e past) → last ≤ timeOf e .0
       → mostRecords ≤ size es → Checks s (checked.Refused TooManyRecords at)
 
 module _ (s : List ℕ) where
@@ -173,7 +173,7 @@ module _ (s : List ℕ) where
   checks zero es at last W h = fine W (ends (omega arith))
   checks (suc f) es at last W h = by (nextAt s at) refl (λ ds p t X l. checks f ds p t X l)
     where
-      taken : (e : Record) (p : ℕ) → nextAt s at ≡ next.Taken e p
+      taken : (e : Record) (p : ℕ) → nextAt s at ≡ next.Handed e p
           → ((ds : Snoc Record) (q : ℕ) (t : Moment) → Walk s ds q (t .0) → length s < q + f → Checks s (checkFrom f s q t (size ds)))
           → (a b : Bool) → ltb (timeOf e .0) (last .0) ≡ a → leb mostRecords (size es) ≡ b
           → Checks s (checkOn (checkFrom f s) (cond a (Over (checked.Refused TimeFalls at)) (cond b (Over (checked.Refused TooManyRecords at)) (Going p (timeOf e) (size es + 1)))))
@@ -188,7 +188,7 @@ module _ (s : List ℕ) where
           → Checks s (checkOn (checkFrom f s) (stepBy at last (size es) x))
       by next.End q i = fine W (finds-of s at _ q)
       by (next.Refused k) q i = bad-bytes W k (finds-of s at _ q)
-      by (next.Taken e p) q i = taken e p q i (ltb (timeOf e .0) (last .0)) (leb mostRecords (size es)) refl refl
+      by (next.Handed e p) q i = taken e p q i (ltb (timeOf e .0) (last .0)) (leb mostRecords (size es)) refl refl
 
   log-checks : Checks s (checkLog s)
   unfolding checkLog
@@ -209,7 +209,7 @@ module _ (c : Chart) (G : (wellFormed c ≡ true) ↔ Given c) (s : List ℕ) wh
     | inr w ↦ rw w (not-given (given-not c G w))
   ]
 
-  -- the check ends at the place to which the records walked lead
+  -- the check ends at the offset to which the records walked lead
   checked-at : {es : Snoc Record} {at last : ℕ} → Walk s es at last → (x : Checked) → stepAt s at (record { 0 = last }) (size es) ≡ Over x → x ≡ checkLog s
   checked-at {es} {at} {last} W x q = left-step s at (record { 0 = last }) (size es) (walked s W .left) (Over x) q
 

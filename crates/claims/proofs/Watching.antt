@@ -14,13 +14,13 @@ use Rattle.chart_reader.specs.Said.{Said, said, acceptedAs, numberOf, offsetOf}
 use Rattle.chart_value.proofs.Shown.{shown-of, shown}
 use Rattle.chart_value.proofs.Sound.{sound}
 use Rattle.log_reader.specs.declared.RecordRefusal.{RecordRefusal}
-use Rattle.log_reader.specs.declared.Next.the-variants.{End, Refused, Taken}
+use Rattle.log_reader.specs.declared.Next.the-variants.{End, Refused, Handed}
 use Rattle.log_reader.specs.Next.{nextAt}
 use Rattle.base.specs.Lists.{Snoc, ε, _▸_}
-use Rattle.rounds.specs.Feeds.{Answer as Told}
+use Rattle.rounds.specs.Feeds.{Answer as AbstractAnswer}
 use Rattle.rounds.specs.Machine.{after}
 use Rattle.rounds.specs.Demand3.{Meaning, Agrees}
-use Rattle.runs.proofs.Demand2.{demand-2}
+use Rattle.paper.proofs.Demand2.{demand-2}
 use Rattle.rounds.proofs.Demand3.{demand-3}
 use Rattle.chart_value.specs.View.{chartOf}
 use Rattle.log_reader.specs.Record as found
@@ -29,9 +29,9 @@ use Rattle.claims.specs.Demand1.{FindsAs, Walk, judges}
 use Rattle.stepping.specs.declared.Step.{Step}
 use Rattle.stepping.specs.Monitors.{stepOf}
 use Rattle.monitor.specs.Feed.{feedOf}
-use Rattle.monitor.specs.Runs.{Run, none-yet, one-more}
+use Rattle.monitor.specs.History.{History, none-yet, one-more}
 use Rattle.chart_value.specs.Records.{logged}
-use Rattle.monitor.proofs.Runs.{feeding}
+use Rattle.monitor.proofs.History.{feeding}
 use Rattle.claims.specs.declared.Watched.{Watched}
 use Rattle.claims.specs.Judged.{JudgedBy}
 use Rattle.claims.specs.Watch.{FedAll, Watches}
@@ -45,31 +45,31 @@ demands-read bytes c e =
     let A = shown-of bytes c e .accepted in
     record { second = demand-2 (chartOf c) A; third = demand-3 (chartOf c) A; feeding = feeding c (sound bytes c e .fine) A }
 
--- the records fed before a place, and what is left gives the whole
+-- the records fed before an offset, and what is left gives the whole
 pub record SoFar (c : Chart) (s : List ℕ) (m : Monitor) (at left : ℕ) : Type 0 where
   pub before : Snoc Record
-  pub told : Snoc Told
-  pub run : Run c before told m
+  pub ans : Snoc AbstractAnswer
+  pub run : History c before ans m
   pub rest : recordsFrom left s at before ≡ recordsIn s
 
 pub at-start : {c : Chart} {s : List ℕ} (m : Monitor) → m ≡ zeroMonitor → SoFar c s m 0 (length s)
 unfolding recordsIn
-at-start {c} m e = record { before = ε; told = ε; run = subst (λ (x : Monitor). Run c ε ε x) (sym e) none-yet; rest = refl }
+at-start {c} m e = record { before = ε; ans = ε; run = subst (λ (x : Monitor). History c ε ε x) (sym e) none-yet; rest = refl }
 
 module _ {c : Chart} {s : List ℕ} {m : Monitor} {at left : ℕ} (S : SoFar c s m at left) where
-  pub fed-one : 0 < left → (e : Record) (place : ℕ) → nextAt s at ≡ Taken e place → (r : Step) → stepOf r ≡ feedOf c m e
-      → SoFar c s (r .next) place (left - 1)
-  fed-one h e place q r f = record {
+  pub fed-one : 0 < left → (e : Record) (past : ℕ) → nextAt s at ≡ Handed e past → (r : Step) → stepOf r ≡ feedOf c m e
+      → SoFar c s (r .next) past (left - 1)
+  fed-one h e past q r f = record {
     before = S .before ▸ e;
-    told = _;
+    ans = _;
     run = one-more e r (S .run) f;
-    rest = sym (one-record s at left h (S .before) (Taken e place) q) ∙ S .rest;
+    rest = sym (one-record s at left h (S .before) (Handed e past) q) ∙ S .rest;
   }
 
   done : S .before ≡ recordsIn s → FedAll c (recordsIn s) m
-  done e = record { told = S .told; run = subst (λ (es : Snoc Record). Run c es (S .told) m) e (S .run) }
+  done e = record { ans = S .ans; run = subst (λ (es : Snoc Record). History c es (S .ans) m) e (S .run) }
 
-  -- no record stands at the place
+  -- no record stands at the offset
   pub fed-none : 0 < left → nextAt s at ≡ End → FedAll c (recordsIn s) m
   fed-none h q = done (sym (one-record s at left h (S .before) End q) ∙ S .rest)
 

@@ -18,14 +18,14 @@ use Rattle.chart_value.specs.View.{chartOf, Shown, CodesTell}
 use Rattle.chart_value.specs.Guards.{NeverFire}
 use Rattle.base.specs.Lists.{Snoc}
 use Rattle.rounds.specs.Demand3.{Demand3, Meaning}
-use Rattle.runs.specs.Demand2.{Demand2}
+use Rattle.paper.specs.Demand2.{Demand2}
 use Rattle.stepping.specs.Answers.{answerOf}
 use Rattle.stepping.specs.declared.Step.{Step}
 use Rattle.stepping.specs.Monitors.{monitorAt, stepOf}
 use Rattle.log_reader.specs.declared.Next.{Next}
 use Rattle.log_reader.specs.Record as found
 use Rattle.log_reader.specs.Records.{recordsIn}
-use Rattle.monitor.specs.Runs.{Feeding, ViewTells}
+use Rattle.monitor.specs.History.{Feeding, ViewTells}
 use Rattle.chart_value.specs.Records.{logged}
 use Rattle.judge.specs.declared.Judgement.{Judgement}
 use Rattle.judge.specs.Verdict as judge
@@ -42,8 +42,8 @@ pub record AnswersTell : Type 0 where
 
 -- the view of a stored monitor shows each field as it is stored
 pub record Views (m : Monitor) : Type 0 where
-  pub fired : (i : ℕ) → monitorAt m .at .fired i ≡ contains (m .at .fired) i
-  pub clocks : (k : ℕ) → monitorAt m .at .clocks k ≡ getD (m .at .resets) k (record { 0 = 0 }) .0
+  pub fired : (i : ℕ) → monitorAt m .place .fired i ≡ contains (m .place .fired) i
+  pub clocks : (k : ℕ) → monitorAt m .place .clocks k ≡ getD (m .place .resets) k (record { 0 = 0 }) .0
   pub now : monitorAt m .tally .now ≡ m .tally .now .0
   pub records : monitorAt m .tally .records ≡ m .tally .records
   pub kept : monitorAt m .tally .kept ≡ m .tally .kept

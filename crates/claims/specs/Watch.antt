@@ -11,18 +11,18 @@ use Rattle.chart_reader.specs.Read.{readChart}
 use Rattle.chart_reader.specs.Said.{acceptedAs, numberOf, offsetOf}
 use Rattle.log_reader.specs.Records.{recordsIn}
 use Rattle.base.specs.Lists.{Snoc}
-use Rattle.rounds.specs.Feeds.{Answer as Told}
+use Rattle.rounds.specs.Feeds.{Answer as AbstractAnswer}
 use Rattle.rounds.specs.Demand3.{Meaning, Agrees}
 use Rattle.chart_value.specs.View.{chartOf}
 use Rattle.stepping.specs.Monitors.{monitorAt}
-use Rattle.monitor.specs.Runs.{Run}
+use Rattle.monitor.specs.History.{History}
 use Rattle.chart_value.specs.Records.{logged}
 use Rattle.claims.specs.declared.Watched.{Watched}
 
 -- the monitor m after feeding these records to a fresh one, with the answers given
 pub record FedAll (c : Chart) (es : Snoc Record) (m : Monitor) : Type 0 where
-  pub told : Snoc Told
-  pub run : Run c es told m
+  pub ans : Snoc AbstractAnswer
+  pub run : History c es ans m
 
 pub record Watches (chart log : List ℕ) (r : Watched) : Type 0 where
   -- reading the chart says this

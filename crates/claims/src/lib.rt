@@ -42,12 +42,12 @@ pub fn feed_record(chart: Chart, m: Monitor, e: Record) -> Step
     monitor::feed(chart, m, e)
 }
 
-// Reading one record: every byte string and place.
-pub fn read_record(log: &[u8], place: usize) -> Next
-    ensures demand { λ r. ⌜ Just (FindsAs (now (log .entry)) place) (recordSaid place r) ⌝ }
+// Reading one record: every byte string and offset.
+pub fn read_record(log: &[u8], offset: usize) -> Next
+    ensures demand { λ r. ⌜ Just (FindsAs (now (log .entry)) offset) (recordSaid offset r) ⌝ }
     ensures unchanged { λ r. ⌜ now (log .exit) ≡ now (log .entry) ⌝ }
 {
-    log_reader::read_record(log, place)
+    log_reader::read_record(log, offset)
 }
 
 // Judging a whole log: every chart value and byte string.
@@ -81,10 +81,10 @@ fn feed_all(chart: Chart, log: &[u8], fresh: Monitor) -> Monitor
             Next::Refused(_) => {
                 return m;
             }
-            Next::Taken(e, place) => {
+            Next::Handed(e, past) => {
                 let s = monitor::feed(chart, m, e);
                 m = s.next;
-                at = place;
+                at = past;
                 left -= 1;
             }
         }

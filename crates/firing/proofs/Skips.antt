@@ -17,17 +17,17 @@ use Rattle.layout.specs.View.{Covers}
 use Rattle.base.proofs.Loops.{SoFar}
 
 -- what is known of the first number that is no member
-pub record Run (s r : ℕ) : Type 0 where
+pub record FirstGap (s r : ℕ) : Type 0 where
   pub before : (j : ℕ) → j < r → So (contains s j)
   pub gap : contains s r ≡ false
   pub few : r ≤ 32
 
-pub run-of : {s r : ℕ} → ((j : ℕ) → j < r → So (contains s j)) × ((contains s r ≡ false) × (r ≤ 32)) → Run s r
-run-of h = record { before = h .0; gap = h .1 .0; few = h .1 .1 }
+pub gap-of : {s r : ℕ} → ((j : ℕ) → j < r → So (contains s j)) × ((contains s r ≡ false) × (r ≤ 32)) → FirstGap s r
+gap-of h = record { before = h .0; gap = h .1 .0; few = h .1 .1 }
 
 -- a number more is skipped, and the place moves on
-run-grows : {s i u r : ℕ} → Run s i → u ≡ inserted s i → Run u r → i < r
-run-grows {s} {i} {u} {r} A e R = elim (decLt i r) [
+gap-grows : {s i u r : ℕ} → FirstGap s i → u ≡ inserted s i → FirstGap u r → i < r
+gap-grows {s} {i} {u} {r} A e R = elim (decLt i r) [
   | yes l ↦ l
   | no l ↦ elim (ℕ-discrete r i) [
     | yes z ↦ clash (rw (e, z) (contains-inserted s i i ∙ rw (eq-eqb i i refl) (or-true (contains s i)))) (R .gap)
@@ -36,16 +36,16 @@ run-grows {s} {i} {u} {r} A e R = elim (decLt i r) [
 ]
 
 -- so what is left of the search grows less
-pub run-less : {s i u r : ℕ} → Run s i → u ≡ inserted s i → Run u r → i < 32 → 32 - r < 32 - i
-run-less A e R l = omega (arith, run-grows A e R)
+pub run-less : {s i u r : ℕ} → FirstGap s i → u ≡ inserted s i → FirstGap u r → i < 32 → 32 - r < 32 - i
+run-less A e R l = omega (arith, gap-grows A e R)
 
 -- of the numbers below n those that are skipped fail; those of the first set are skipped; the place is the first that is not
 pub record Skips (n : ℕ) (t : ℕ → Bool) (first s i : ℕ) : Type 0 where
   pub fails : (j : ℕ) → j < n → So (contains s j) → t j ≡ false
   pub all : (j : ℕ) → So (contains first j) → So (contains s j)
-  pub at : Run s i
+  pub at : FirstGap s i
 
-pub skips-start : {n : ℕ} {t : ℕ → Bool} {s r : ℕ} → ((j : ℕ) → j < n → So (contains s j) → t j ≡ false) → Run s r → Skips n t s s r
+pub skips-start : {n : ℕ} {t : ℕ → Bool} {s r : ℕ} → ((j : ℕ) → j < n → So (contains s j) → t j ≡ false) → FirstGap s r → Skips n t s s r
 skips-start h R = record { fails = h; all = λ j m. m; at = R }
 
 module _ {n : ℕ} {t : ℕ → Bool} {first s i : ℕ} (S : Skips n t first s i) where
@@ -53,7 +53,7 @@ module _ {n : ℕ} {t : ℕ → Bool} {first s i : ℕ} (S : Skips n t first s i
   not-first = elim (split (contains first i)) [ inl m ↦ clash (S .all i m) (S .at .gap) | inr m ↦ m ]
 
   module _ {u r : ℕ} (e : u ≡ inserted s i) where
-    pub skips-more : t i ≡ false → Run u r → Skips n t first u r
+    pub skips-more : t i ≡ false → FirstGap u r → Skips n t first u r
     skips-more f R = record {
       fails = λ j l m. elim (either (contains s j) (eqb j i) (sym (contains-inserted s i j) ∙ rw (← e) m)) [
         | inl k ↦ S .fails j l k

@@ -25,8 +25,8 @@ use Rattle.rounds.proofs.Fitness.{after-fit}
 use Rattle.log_reader.specs.declared.RecordRefusal.{RecordRefusal}
 use Rattle.log_reader.specs.declared.RecordRefusal.the-variants.{CutShort, UnknownByte}
 use Rattle.log_reader.specs.declared.Next.{Next}
-use Rattle.log_reader.specs.declared.Next.the-variants.{End, Refused, Taken}
-use Rattle.log_reader.specs.Record.{messageByte, timeByte, messageSize, timeSize, messageAt, timeAt}
+use Rattle.log_reader.specs.declared.Next.the-variants.{End, Refused, Handed}
+use Rattle.log_reader.specs.Record.{messageTag, timeTag, messageSize, timeSize, messageAt, timeAt}
 use Rattle.log_reader.specs.Next.{nextAt}
 use Rattle.log_reader.specs.Records.{onRecord, recordsFrom, recordsIn}
 use Rattle.log_reader.proofs.Records.{one-record}
@@ -38,7 +38,7 @@ use Rattle.stepping.proofs.Zeros.{zero-fresh}
 use Rattle.judge.specs.Verdict.{timeOf, standingOf, verdictWith, verdictOf}
 use Rattle.judge.specs.Parts.{codeAt, standingBy, verdictBy}
 
-taken-record : {r e : Record} {p q : ℕ} → Taken r p ≡ Taken e q → r ≡ e
+taken-record : {r e : Record} {p q : ℕ} → Handed r p ≡ Handed e q → r ≡ e
 taken-record x = cc
 
 same-record : (e : Record) (code t : ℕ) → code ≡ recordCode e → t ≡ timeOf e .0 → recordOf code t ≡ logRecord e
@@ -46,17 +46,17 @@ same-record (Message m u) code t p q = λ i. record { time = q i; code = p i }
 same-record (Time u) code t p q = λ i. record { time = q i; code = p i }
 
 -- the code in the bytes is that of the record
-pub code-of : (s : List ℕ) (at : ℕ) (e : Record) (place : ℕ) → nextAt s at ≡ Taken e place → codeAt s at ≡ recordCode e
-code-of s at e place q = by (leb (length s) at) (eqb (getD s at 0) messageByte) (ltb (length s - at) messageSize) (eqb (getD s at 0) timeByte) (ltb (length s - at) timeSize) q
+pub code-of : (s : List ℕ) (at : ℕ) (e : Record) (offer : ℕ) → nextAt s at ≡ Handed e offer → codeAt s at ≡ recordCode e
+code-of s at e offer q = by (leb (length s) at) (eqb (getD s at 0) messageTag) (ltb (length s - at) messageSize) (eqb (getD s at 0) timeTag) (ltb (length s - at) timeSize) q
   where
     same : word16 s (at + 3) * 65536 + word16 s (at + 1) + 1 ≡ recordCode (messageAt s at)
     same = let z : at + 1 + 1 ≡ at + 2 = omega arith in rw z (omega arith)
 
-    code : {r : Record} {p : ℕ} → Taken r p ≡ Taken e place → recordCode r ≡ recordCode e
+    code : {r : Record} {p : ℕ} → Handed r p ≡ Handed e offer → recordCode r ≡ recordCode e
     code {r} x = ap recordCode (taken-record x)
 
     by : (a b c d f : Bool)
-        → cond a End (cond b (cond c (Refused CutShort) (Taken (messageAt s at) (at + messageSize))) (cond d (cond f (Refused CutShort) (Taken (timeAt s at) (at + timeSize))) (Refused UnknownByte))) ≡ Taken e place
+        → cond a End (cond b (cond c (Refused CutShort) (Handed (messageAt s at) (at + messageSize))) (cond d (cond f (Refused CutShort) (Handed (timeAt s at) (at + timeSize))) (Refused UnknownByte))) ≡ Handed e offer
         → cond b (word16 s (at + 3) * 65536 + word16 s (at + 1) + 1) 0 ≡ recordCode e
     by true b c d f x = let z : _≡_ {A = ℕ} 0 1 = cc in absurd (omega arith)
     by false true true d f x = let z : _≡_ {A = ℕ} 0 1 = cc in absurd (omega arith)
@@ -77,14 +77,14 @@ still C zero s at es b = refl
 still C (suc n) s at es b = by (nextAt s at) (λ p e c. still C n s p (es ▸ e) c)
   where
     by : (x : Next) → ((p : ℕ) (e : Record) → after C (logged (es ▸ e)) .tally .broken .at ≢ 0 → after C (logged (recordsFrom n s p (es ▸ e))) ≡ after C (logged (es ▸ e)))
-        → after C (logged (onRecord (λ e place. recordsFrom n s place (es ▸ e)) x es)) ≡ after C (logged es)
+        → after C (logged (onRecord (λ e offer. recordsFrom n s offer (es ▸ e)) x es)) ≡ after C (logged es)
     by End i = refl
     by (Refused f) i = refl
-    by (Taken e p) i =
+    by (Handed e p) i =
         let u = unmoved C (after C (logged es)) (logRecord e) b in
         i p e (λ z. b (sym (ap (λ (x : AbstractMonitor). x .tally .broken .at) u) ∙ z)) ∙ u
 
--- the records fed before a place, and what is left gives the whole
+-- the records fed before a offer, and what is left gives the whole
 pub record SoFar (C : Abstract) (s : List ℕ) (m : Monitor) (at left : ℕ) : Type 0 where
   pub before : Snoc Record
   pub monitor : monitorAt m ≡ after C (logged before)
@@ -98,15 +98,15 @@ module _ {C : Abstract} {s : List ℕ} {m : Monitor} {at left : ℕ} (S : SoFar 
   pub fit-here : Accepted C → Fit C (monitorAt m)
   fit-here A = subst (λ (x : AbstractMonitor). Fit C x) (sym (S .monitor)) (after-fit C A (logged (S .before)))
 
-  pub fed-one : 0 < left → (e : Record) (place : ℕ) → nextAt s at ≡ Taken e place → (r : Step) (code t : ℕ) → code ≡ recordCode e → t ≡ timeOf e .0
-      → stepOf r ≡ feed C (monitorAt m) (recordOf code t) → SoFar C s (r .next) place (left - 1)
+  pub fed-one : 0 < left → (e : Record) (offer : ℕ) → nextAt s at ≡ Handed e offer → (r : Step) (code t : ℕ) → code ≡ recordCode e → t ≡ timeOf e .0
+      → stepOf r ≡ feed C (monitorAt m) (recordOf code t) → SoFar C s (r .next) offer (left - 1)
   unfolding after
-  fed-one h e place q r code t p u f = record {
+  fed-one h e offer q r code t p u f = record {
     before = S .before ▸ e;
     monitor =
         ap (λ (x : AbstractStep). x .next) f
         ∙ ap₂ (λ (x : AbstractMonitor) (y : LogRecord). feed C x y .next) (S .monitor) (same-record e code t p u);
-    rest = sym (one-record s at left h (S .before) (Taken e place) q) ∙ S .rest;
+    rest = sym (one-record s at left h (S .before) (Handed e offer) q) ∙ S .rest;
   }
 
   -- said of the chart that C shows
@@ -148,5 +148,5 @@ pub verdict-same : (C : Abstract) (p : ℕ) (m : Monitor) → p ≡ C .prechart 
 unfolding standingBy standingOf prechartDone
 verdict-same C p m e F = λ i. verdictWith
     (cond (not (eqb (m .tally .broken .at) 0)) 3
-    (cond (none-fired (C .regions) (m .at .fired) (F .within) i) 0 (cond (not (allBelow (e i) (contains (m .at .fired)))) 1 2)))
+    (cond (none-fired (C .regions) (m .place .fired) (F .within) i) 0 (cond (not (allBelow (e i) (contains (m .place .fired)))) 1 2)))
     (tallyAt (m .tally))

@@ -18,9 +18,9 @@ use Rattle.model.specs.Answers.{mostRecords}
 use Rattle.rounds.specs.Chart.{Chart as Abstract}
 use Rattle.rounds.specs.Rows.{LogRecord, chartMessage}
 use Rattle.rounds.specs.Feeds.{noReadyRegion, conditionFails, entered, moved, quiet}
-use Rattle.rounds.specs.Machine.{Monitor as AbstractMonitor, Step as AbstractStep, Move, stuck, fails, rests, place, full, prechartDone, goOn, keepRound, dropRound, breakRound, conclude, accept, feed, after}
+use Rattle.rounds.specs.Machine.{Monitor as AbstractMonitor, Step as AbstractStep, Move, stuck, fails, rests, offer, full, prechartDone, goOn, keepRound, dropRound, breakRound, conclude, accept, feed, after}
 use Rattle.base.proofs.Bools.{clash}
-use Rattle.log_reader.specs.declared.Next.the-variants.{Taken}
+use Rattle.log_reader.specs.declared.Next.the-variants.{Handed}
 use Rattle.log_reader.specs.Next.{nextAt}
 use Rattle.log_reader.specs.Records.{recordsIn}
 use Rattle.log_reader.proofs.Places.{at-end, taken-past}
@@ -47,23 +47,23 @@ slot-covers {slots = slots} S n code = record {
 }
 
 -- a record that the check lets pass
-record Passed (s : List ℕ) (last : Moment) (n : ℕ) (e : Record) (place : ℕ) : Type 0 where
+record Passed (s : List ℕ) (last : Moment) (n : ℕ) (e : Record) (offer : ℕ) : Type 0 where
   later : ltb (timeOf e .0) (last .0) ≡ false
   few : leb mostRecords n ≡ false
-  rest : Left s place (timeOf e) (n + 1)
+  rest : Left s offer (timeOf e) (n + 1)
 
-passed : (s : List ℕ) (at : ℕ) (last : Moment) (n : ℕ) → Left s at last n → So (isFine (checkLog s)) → (e : Record) (place : ℕ) → nextAt s at ≡ Taken e place
-    → Passed s last n e place
+passed : (s : List ℕ) (at : ℕ) (last : Moment) (n : ℕ) → Left s at last n → So (isFine (checkLog s)) → (e : Record) (offer : ℕ) → nextAt s at ≡ Handed e offer
+    → Passed s last n e offer
 unfolding stepAt
-passed s at last n l f e place q = by (ltb (timeOf e .0) (last .0)) (leb mostRecords n) refl refl
+passed s at last n l f e offer q = by (ltb (timeOf e .0) (last .0)) (leb mostRecords n) refl refl
   where
-    step : stepAt s at last n ≡ takeRecord (timeOf e) place at last n
+    step : stepAt s at last n ≡ takeRecord (timeOf e) offer at last n
     step = ap (stepBy at last n) q
 
-    by : (a b : Bool) → ltb (timeOf e .0) (last .0) ≡ a → leb mostRecords n ≡ b → Passed s last n e place
+    by : (a b : Bool) → ltb (timeOf e .0) (last .0) ≡ a → leb mostRecords n ≡ b → Passed s last n e offer
     by true b x y = clash f (sym (ap isFine (left-step s at last n l (Over (Refused TimeFalls at)) (step ∙ rw x))))
     by false true x y = clash f (sym (ap isFine (left-step s at last n l (Over (Refused TooManyRecords at)) (step ∙ rw (x, y)))))
-    by false false x y = record { later = x; few = y; rest = left-going s at last n l place (timeOf e) (n + 1) (step ∙ rw (x, y)) }
+    by false false x y = record { later = x; few = y; rest = left-going s at last n l offer (timeOf e) (n + 1) (step ∙ rw (x, y)) }
 
 module _ (C : Abstract) (m : AbstractMonitor) (e : LogRecord) where
   -- the record is counted, and now is its time
@@ -77,21 +77,21 @@ module _ (C : Abstract) (m : AbstractMonitor) (e : LogRecord) where
 
   conclude-counted : (v : Move) → Counted (conclude C m e v)
   unfolding conclude goOn keepRound dropRound breakRound
-  conclude-counted stuck = either-counted (prechartDone C (m .at .fired)) (breakRound C m e noReadyRegion (m .at)) (dropRound C m e) (record { now = refl; records = refl }) (record { now = refl; records = refl })
+  conclude-counted stuck = either-counted (prechartDone C (m .place .fired)) (breakRound C m e noReadyRegion (m .place)) (dropRound C m e) (record { now = refl; records = refl }) (record { now = refl; records = refl })
   conclude-counted (fails i p) = either-counted (C .hot i) (breakRound C m e conditionFails p) (dropRound C m e) (record { now = refl; records = refl }) (record { now = refl; records = refl })
   conclude-counted (rests p) =
-      either-counted (full C (p .fired)) (keepRound C m e) (goOn C m e (cond (not (prechartDone C (m .at .fired)) && prechartDone C (p .fired)) entered moved) p)
+      either-counted (full C (p .fired)) (keepRound C m e) (goOn C m e (cond (not (prechartDone C (m .place .fired)) && prechartDone C (p .fired)) entered moved) p)
       (record { now = refl; records = refl }) (record { now = refl; records = refl })
 
   accept-counted : Counted (accept C m e)
   unfolding accept goOn
-  accept-counted = either-counted (chartMessage C e) (conclude C m e (place C (m .at) e)) (goOn C m e quiet (m .at)) (conclude-counted (place C (m .at) e)) (record { now = refl; records = refl })
+  accept-counted = either-counted (chartMessage C e) (conclude C m e (offer C (m .place) e)) (goOn C m e quiet (m .place)) (conclude-counted (offer C (m .place) e)) (record { now = refl; records = refl })
 
   accept-fed : m .tally .broken .at ≡ 0 → ltb (e .time) (m .tally .now) ≡ false → leb mostRecords (m .tally .records) ≡ false → accept C m e ≡ feed C m e
   unfolding feed
   accept-fed b t n = rw (eq-eqb (m .tally .broken .at) 0 b, t, n)
 
--- the records taken before a place, the check as far, and no break
+-- the records taken before a offer, the check as far, and no break
 pub record Going (C : Abstract) (s : List ℕ) (m : Monitor) (at : ℕ) : Type 0 where
   pub left : ℕ
   pub room : length s ≤ at + left
@@ -118,7 +118,7 @@ module _ {C : Abstract} {s : List ℕ} {m : Monitor} {at : ℕ} (G : Going C s m
     | no z ↦ fed-none (G .taken) D shows (omega arith) (at-end s at h)
   ]
 
-  module _ (f : So (isFine (checkLog s))) (e : Record) (to : ℕ) (q : nextAt s at ≡ Taken e to) where
+  module _ (f : So (isFine (checkLog s))) (e : Record) (to : ℕ) (q : nextAt s at ≡ Handed e to) where
     here : Passed s (m .tally .now) (m .tally .records) e to
     here = passed s at (m .tally .now) (m .tally .records) (G .checked) f e to q
 

@@ -26,7 +26,7 @@ module _ (s : List ℕ) (at : ℕ) (last : Moment) (n : ℕ) where
   unfolding stepAt
   going-past p t k g = by (nextAt s at) refl g
     where
-      tests : (r : Record) (q : ℕ) (a b : Bool) → nextAt s at ≡ next.Taken r q
+      tests : (r : Record) (q : ℕ) (a b : Bool) → nextAt s at ≡ next.Handed r q
           → cond a (Over (Refused TimeFalls at)) (cond b (Over (Refused TooManyRecords at)) (Going q (timeOf r) (n + 1))) ≡ Going p t k → (at < p) × (p ≤ length s)
       tests r q true b e g = let z : _≡_ {A = ℕ} 0 1 = cc in absurd (omega arith)
       tests r q false true e g = let z : _≡_ {A = ℕ} 0 1 = cc in absurd (omega arith)
@@ -35,7 +35,7 @@ module _ (s : List ℕ) (at : ℕ) (last : Moment) (n : ℕ) where
       by : (x : Next) → nextAt s at ≡ x → stepBy at last n x ≡ Going p t k → (at < p) × (p ≤ length s)
       by next.End e g = let z : _≡_ {A = ℕ} 0 1 = cc in absurd (omega arith)
       by (next.Refused code) e g = let z : _≡_ {A = ℕ} 0 1 = cc in absurd (omega arith)
-      by (next.Taken r q) e g = tests r q (ltb (timeOf r .0) (last .0)) (leb mostRecords n) e g
+      by (next.Handed r q) e g = tests r q (ltb (timeOf r .0) (last .0)) (leb mostRecords n) e g
 
   pub ended-fine : (f : ℕ) → length s ≤ at → checkFrom f s at last n ≡ Fine n
   unfolding checkFrom stepAt
@@ -54,7 +54,7 @@ more-fuel (suc f) (suc g) s at last n h k =
     by (Over c) e i = refl
     by (Going p t j) e i = i p t j (omega (arith, going-past s at last n p t j e)) (omega (arith, going-past s at last n p t j e))
 
--- what is left of the check at a place, whatever count is large enough
+-- what is left of the check at a offer, whatever count is large enough
 pub Left : List ℕ → ℕ → Moment → ℕ → Type 0
 Left s at last n = checkFrom (length s + 1) s at last n ≡ checkLog s
 

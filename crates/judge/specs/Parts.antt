@@ -6,7 +6,7 @@ use Prim.Native.Nat.{ℕ, _+_, _*_}
 use lib.ListN.{getD}
 use lib.Dec.{eqb}
 use Rattle.wire.specs.Bytes.{word16}
-use Rattle.log_reader.specs.Record.{messageByte}
+use Rattle.log_reader.specs.Record.{messageTag}
 use Rattle.bitset.specs.Set.{contains}
 use Rattle.model.specs.declared.Monitor.{Monitor}
 use Rattle.model.specs.declared.Verdict.{Verdict}
@@ -16,9 +16,9 @@ use Rattle.judge.specs.declared.Checked.{Checked}
 use Rattle.judge.specs.declared.Checked.the-variants.{Fine, Refused}
 use Rattle.judge.specs.Verdict.{broken, nothingFired, inPrechart, owed, verdictWith}
 
--- the code of a message whose record stands at a place, 0 for any other record
+-- the code of a message whose record stands at a offer, 0 for any other record
 abbrev pub codeAt : List ℕ → ℕ → ℕ
-codeAt s at = cond (eqb (getD s at 0) messageByte) (word16 s (at + 3) * 65536 + word16 s (at + 1) + 1) 0
+codeAt s at = cond (eqb (getD s at 0) messageTag) (word16 s (at + 3) * 65536 + word16 s (at + 1) + 1) 0
 
 -- the check found no fault
 abbrev pub isFine : Checked → Bool
@@ -29,8 +29,8 @@ isFine (Refused k offset) = false
 unfoldable pub standingBy : ℕ → Monitor → ℕ
 standingBy prechart m =
     cond (not (eqb (m .tally .broken .at) 0)) broken
-    (cond (eqb (m .at .fired) 0) nothingFired
-    (cond (not (allBelow prechart (contains (m .at .fired)))) inPrechart owed))
+    (cond (eqb (m .place .fired) 0) nothingFired
+    (cond (not (allBelow prechart (contains (m .place .fired)))) inPrechart owed))
 
 -- `verdictOf`, likewise
 abbrev pub verdictBy : ℕ → Monitor → Verdict

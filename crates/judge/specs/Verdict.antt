@@ -44,8 +44,8 @@ owed = 2
 unfoldable pub standingOf : Abstract → AbstractMonitor → ℕ
 standingOf C m =
     cond (not (eqb (m .tally .broken .at) 0)) broken
-    (cond (allBelow (C .regions) (λ i. not (m .at .fired i))) nothingFired
-    (cond (not (prechartDone C (m .at .fired))) inPrechart owed))
+    (cond (allBelow (C .regions) (λ i. not (m .place .fired i))) nothingFired
+    (cond (not (prechartDone C (m .place .fired))) inPrechart owed))
 
 -- J6: the verdict, by the standing and the counts
 abbrev pub verdictWith : ℕ → Tally → Verdict

@@ -1,5 +1,5 @@
 // Judging a whole log: it is checked first, then its records are fed.
-use log_reader::MESSAGE;
+use log_reader::MESSAGE_TAG;
 use log_reader::Next;
 use log_reader::RecordRefusal;
 use model::Chart;
@@ -51,7 +51,7 @@ pub enum Checked {
     Refused(LogRefusal, usize),
 }
 
-// One record checked: the check is over, or it goes on at a place, with the time before and the count.
+// One record checked: the check is over, or it goes on at an offset, with the time before and the count.
 pub enum CheckStep {
     Over(Checked),
     Going(usize, Moment, u32),
@@ -67,8 +67,8 @@ pub fn time_of(e: Record) -> Moment
 }
 
 // A record that was read: J3's 22 and 23.
-fn take_record(time: Moment, place: usize, at: usize, last: Moment, records: u32) -> CheckStep
-    ensures { λ r. ⌜ r ≡ takeRecord time place at last records ⌝ }
+fn take_record(time: Moment, past: usize, at: usize, last: Moment, records: u32) -> CheckStep
+    ensures { λ r. ⌜ r ≡ takeRecord time past at last records ⌝ }
 {
     if time.0 < last.0 {
         return CheckStep::Over(Checked::Refused(LogRefusal::TimeFalls, at));
@@ -76,7 +76,7 @@ fn take_record(time: Moment, place: usize, at: usize, last: Moment, records: u32
     if MOST_RECORDS <= records {
         return CheckStep::Over(Checked::Refused(LogRefusal::TooManyRecords, at));
     }
-    CheckStep::Going(place, time, records + 1)
+    CheckStep::Going(past, time, records + 1)
 }
 
 fn step_at(log: &[u8], at: usize, last: Moment, records: u32) -> CheckStep
@@ -86,7 +86,7 @@ fn step_at(log: &[u8], at: usize, last: Moment, records: u32) -> CheckStep
     match next {
         Next::End => CheckStep::Over(Checked::Fine(records)),
         Next::Refused(k) => CheckStep::Over(Checked::Refused(LogRefusal::NoRecord(k), at)),
-        Next::Taken(e, place) => take_record(time_of(e), place, at, last, records),
+        Next::Handed(e, past) => take_record(time_of(e), past, at, last, records),
     }
 }
 
@@ -104,8 +104,8 @@ pub fn check_log(log: &[u8]) -> Checked
             CheckStep::Over(checked) => {
                 return checked;
             }
-            CheckStep::Going(place, time, more) => {
-                at = place;
+            CheckStep::Going(past, time, more) => {
+                at = past;
                 last = time;
                 records = more;
             }
@@ -136,13 +136,13 @@ const IN_PRECHART: u8 = 1;
 
 const OWED: u8 = 2;
 
-// The code of the record at a place, from its bytes: the label, then source and destination. A record taken apart again
-// would be stored and loaded in pieces, which costs more than all else that is done for it.
+// The code of the record at an offset, from its bytes: the label, then source and destination. A record taken apart
+// again would be stored and loaded in pieces, which costs more than all else that is done for it.
 fn code_at(log: &[u8], at: usize) -> u64
     requires { ⌜ at < length (now log) ⌝ }
     ensures { λ r. ⌜ r ≡ codeAt (now (log .entry)) at ⌝ }
 {
-    if wire::byte_at(log, at) == MESSAGE {
+    if wire::byte_at(log, at) == MESSAGE_TAG {
         let word = wire::word32_at(log, at + 1);
         return wire::wide64(word % HALF * HALF + word / HALF) + 1;
     }
@@ -170,7 +170,7 @@ fn feed_log(c: Chart, log: &[u8]) -> Monitor
             Next::Refused(_) => {
                 return m;
             }
-            Next::Taken(e, place) => {
+            Next::Handed(e, past) => {
                 let code = code_at(log, at);
                 let s = stepping::accept(
                     h,
@@ -187,7 +187,7 @@ fn feed_log(c: Chart, log: &[u8]) -> Monitor
                 if m.tally.broken.at != 0 {
                     return m;
                 }
-                at = place;
+                at = past;
             }
         }
     }
@@ -198,14 +198,14 @@ fn standing(prechart: usize, m: Monitor) -> u8
     requires { ⌜ prechart ≤ mostRegions ⌝ }
     ensures { λ r. ⌜ r ≡ standingBy prechart m ⌝ }
 {
-    let at = m.at;
+    let place = m.place;
     if m.tally.broken.at != 0 {
         return BROKEN;
     }
-    if at.fired == 0 {
+    if place.fired == 0 {
         return NOTHING_FIRED;
     }
-    if firing::all_fired(prechart, at.fired) {
+    if firing::all_fired(prechart, place.fired) {
         return OWED;
     }
     IN_PRECHART

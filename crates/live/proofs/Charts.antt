@@ -20,8 +20,8 @@ use Rattle.chart_reader.proofs.Ends.{Reads, accepts, refuses, reads}
 use Rattle.chart_value.specs.WellFormed.{wellFormed}
 use Rattle.wire.specs.Bytes.{word64}
 use Rattle.wire.specs.Writing.{longBytes}
-use Rattle.image.specs.Image.{monitorSize}
-use Rattle.wire.proofs.Writing.{long-told}
+use Rattle.monitor_image.specs.MonitorImage.{monitorSize}
+use Rattle.wire.proofs.Writing.{long-back}
 use Rattle.live.specs.Live.{headSize, lengthIn, chartPart, chartIn, isFramed, isLive}
 
 pub too-few : (l : List ℕ) → length l < headSize → chartIn l ≡ zeroChart
@@ -72,7 +72,7 @@ unfolding chartFrom
 chart-behind l chart rest e h k =
     let b : length chart ≤ length l - headSize = omega arith in
     sym (chart-from l) ∙ ap (chartFrom (length l)) e
-    ∙ rw (long-told (length chart) (chart ++ rest) k, le-leb headSize (length l) (omega arith), le-leb (length chart) (length l - headSize) b, take-at chart rest (length chart) refl)
+    ∙ rw (long-back (length chart) (chart ++ rest) k, le-leb headSize (length l) (omega arith), le-leb (length chart) (length l - headSize) b, take-at chart rest (length chart) refl)
 
 refused-zeros : {x : Said} → Reads x → (x .number ≡ 0 → ⊥) → x .chart ≡ zeroChart
 refused-zeros (accepts c) h = absurd (h refl)

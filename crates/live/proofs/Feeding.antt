@@ -21,9 +21,9 @@ use Rattle.model.specs.declared.FeedRefusal.the-variants.{NotAChart}
 use Rattle.model.specs.Answers.{mostRecords, feedRefusalNumber, answerNumber}
 use Rattle.rounds.specs.Chart.{Chart as Abstract}
 use Rattle.rounds.specs.Rows.{LogRecord}
-use Rattle.rounds.specs.Feeds.{refused, toldBroken}
+use Rattle.rounds.specs.Feeds.{refused, brokenAt}
 use Rattle.rounds.specs.Machine.{Monitor as AbstractMonitor, Step as AbstractStep, feed}
-use Rattle.stepping.proofs.Back.{Taken, accept-taken}
+use Rattle.stepping.proofs.Back.{NotRefused, accept-taken}
 use Rattle.chart_value.specs.View.{chartOf}
 use Rattle.monitor.specs.Fit.{fits}
 use Rattle.stepping.specs.declared.Step.{Step}
@@ -33,21 +33,21 @@ use Rattle.monitor.specs.Feed.{feedOf, refuse}
 use Rattle.chart_value.specs.Records.{logRecord}
 use Rattle.chart_value.specs.WellFormed.{wellFormed}
 use Rattle.wire.specs.Writing.{Wrote}
-use Rattle.image.specs.Image.{monitorSize, monitorBytes, monitorIn}
+use Rattle.monitor_image.specs.MonitorImage.{monitorSize, monitorBytes, monitorIn}
 use Rattle.wire.proofs.Writing.{at-start}
-use Rattle.image.proofs.Laws.{monitor-length}
-use Rattle.live.specs.Live.{chartIn, isRefused, isBroken, bytesFed, FedBy, Fed}
+use Rattle.monitor_image.proofs.Laws.{monitor-length}
+use Rattle.live.specs.Live.{chartIn, isRefused, isBroken, bytesFed, LiveFedBy, LiveFed}
 use Rattle.live.proofs.Charts.{same-chart, live-exact, zero-refused}
 
--- an answer that is told as 20
-told-20 : (a : Answer) → answerOf a ≡ refused (feedRefusalNumber NotAChart) → answerNumber a ≡ feedRefusalNumber NotAChart
-told-20 (Refused k) e = cc
-told-20 (Broken n k) e = let z : _≡_ {A = ℕ} 0 1 = cc in absurd (omega arith)
-told-20 Kept e = let z : _≡_ {A = ℕ} 0 1 = cc in absurd (omega arith)
-told-20 Dropped e = let z : _≡_ {A = ℕ} 0 1 = cc in absurd (omega arith)
-told-20 Entered e = let z : _≡_ {A = ℕ} 0 1 = cc in absurd (omega arith)
-told-20 Moved e = let z : _≡_ {A = ℕ} 0 1 = cc in absurd (omega arith)
-told-20 Quiet e = let z : _≡_ {A = ℕ} 0 1 = cc in absurd (omega arith)
+-- an answer that is ans as 20
+answered-20 : (a : Answer) → answerOf a ≡ refused (feedRefusalNumber NotAChart) → answerNumber a ≡ feedRefusalNumber NotAChart
+answered-20 (Refused k) e = cc
+answered-20 (Broken n k) e = let z : _≡_ {A = ℕ} 0 1 = cc in absurd (omega arith)
+answered-20 Kept e = let z : _≡_ {A = ℕ} 0 1 = cc in absurd (omega arith)
+answered-20 Dropped e = let z : _≡_ {A = ℕ} 0 1 = cc in absurd (omega arith)
+answered-20 Entered e = let z : _≡_ {A = ℕ} 0 1 = cc in absurd (omega arith)
+answered-20 Moved e = let z : _≡_ {A = ℕ} 0 1 = cc in absurd (omega arith)
+answered-20 Quiet e = let z : _≡_ {A = ℕ} 0 1 = cc in absurd (omega arith)
 
 -- with a chart of zeros the answer is 20
 zeros-fed : (m : Monitor) (e : Record) → feedOf zeroChart m e ≡ refuse NotAChart m
@@ -55,29 +55,29 @@ unfolding feedOf
 zeros-fed m e = rw zero-refused
 
 -- with a chart it is another: feeding refuses with 21, 22, 23 or not at all
-told-as : (a : Answer) → answerNumber a ≡ feedRefusalNumber NotAChart → answerOf a ≡ refused (feedRefusalNumber NotAChart)
-told-as (Refused k) e = ap refused e
-told-as (Broken n k) e = absurd (omega arith)
-told-as Kept e = absurd (omega arith)
-told-as Dropped e = absurd (omega arith)
-told-as Entered e = absurd (omega arith)
-told-as Moved e = absurd (omega arith)
-told-as Quiet e = absurd (omega arith)
+answered-as : (a : Answer) → answerNumber a ≡ feedRefusalNumber NotAChart → answerOf a ≡ refused (feedRefusalNumber NotAChart)
+answered-as (Refused k) e = ap refused e
+answered-as (Broken n k) e = absurd (omega arith)
+answered-as Kept e = absurd (omega arith)
+answered-as Dropped e = absurd (omega arith)
+answered-as Entered e = absurd (omega arith)
+answered-as Moved e = absurd (omega arith)
+answered-as Quiet e = absurd (omega arith)
 
 same-number : {a b : ℕ} → refused a ≡ refused b → a ≡ b
 same-number e = cc
 
-broken-clashes : {a b n : ℕ} → toldBroken a b ≡ refused n → ⊥
+broken-clashes : {a b n : ℕ} → brokenAt a b ≡ refused n → ⊥
 broken-clashes e = let z : _≡_ {A = ℕ} 0 1 = cc in omega arith
 
 machine-never : (C : Abstract) (m : AbstractMonitor) (e : LogRecord) → feed C m e .answer ≡ refused (feedRefusalNumber NotAChart) → ⊥
-unfolding feed Taken
+unfolding feed NotRefused
 machine-never C m e h = elim (split (eqb (m .tally .broken .at) 0)) [
   | inl p ↦ elim (split (ltb (e .time) (m .tally .now))) [
     | inl q ↦ let z = same-number (rw (p, q) at h) in omega arith
     | inr q ↦ elim (split (leb mostRecords (m .tally .records))) [
       | inl r ↦ let z = same-number (rw (p, q, r) at h) in omega arith
-      | inr r ↦ subst Taken (rw (p, q, r) at h) (accept-taken C m e)
+      | inr r ↦ subst NotRefused (rw (p, q, r) at h) (accept-taken C m e)
     ]
   ]
   | inr p ↦ broken-clashes (rw p at h)
@@ -95,9 +95,9 @@ pub exactly-20 : (c : Chart) (m : Monitor) (e : Record) (s : Step) → stepOf s 
     → (wellFormed c ≡ false) ↔ (answerNumber (s .answer) ≡ feedRefusalNumber NotAChart)
 unfolding feedOf
 exactly-20 c m e s f = (
-  λ w. let r : feedOf c m e ≡ refuse NotAChart m = rw w in told-20 (s .answer) (λ i. (f ∙ r) i .answer),
+  λ w. let r : feedOf c m e ≡ refuse NotAChart m = rw w in answered-20 (s .answer) (λ i. (f ∙ r) i .answer),
   λ n. elim (split (wellFormed c)) [
-    | inl w ↦ absurd (whole-never c m e w (sym (ap (λ (x : AbstractStep). x .answer) f) ∙ told-as (s .answer) n))
+    | inl w ↦ absurd (whole-never c m e w (sym (ap (λ (x : AbstractStep). x .answer) f) ∙ answered-as (s .answer) n))
     | inr w ↦ w
   ],
 )
@@ -123,12 +123,12 @@ module _ (c : Chart) (l : List ℕ) (m : Monitor) (e : Record) (s : Step) (q : m
   fed-in = f ∙ ap (λ (m : Monitor). feedOf c m e) q
 
   -- the bytes stay as they were
-  pub stays : HandsBack m s → (isRefused (s .answer) || isBroken m) ≡ true → FedBy c l e r l
+  pub stays : HandsBack m s → (isRefused (s .answer) || isBroken m) ≡ true → LiveFedBy c l e r l
   unfolding bytesFed
   stays b g = record {
     taken = s;
     fed = fed-in;
-    told = t;
+    ans = t;
     bytes = rw (← q, g);
     next = sym q ∙ sym (elim (either (isRefused (s .answer)) (isBroken m) g) [
       | inl x ↦ let t = refused-for (s .answer) x in b .refused (t .0) (t .1)
@@ -138,24 +138,24 @@ module _ (c : Chart) (l : List ℕ) (m : Monitor) (e : Record) (s : Step) (q : m
 
   -- the monitor handed back is written
   pub written : {n : List ℕ} {j : ℕ} → (isRefused (s .answer) || isBroken m) ≡ false → monitorSize ≤ length l
-      → Wrote l 0 (monitorBytes (s .next)) n j → monitorIn n ≡ s .next → FedBy c l e r n
+      → Wrote l 0 (monitorBytes (s .next)) n j → monitorIn n ≡ s .next → LiveFedBy c l e r n
   unfolding bytesFed
   written {n} {j} g h w k = record {
     taken = s;
     fed = fed-in;
-    told = t;
+    ans = t;
     bytes = rw (← q, g) (monitor-at-start (s .next) w h);
     next = k;
   }
 
 -- bytes that hold no chart: 20, and they stay as they were
-pub fed-none : (l : List ℕ) (e : Record) → chartIn l ≡ zeroChart → Fed l e (feedRefusalNumber NotAChart) l
+pub fed-none : (l : List ℕ) (e : Record) → chartIn l ≡ zeroChart → LiveFed l e (feedRefusalNumber NotAChart) l
 unfolding bytesFed
 fed-none l e z = record {
   by-chart = record {
     taken = record { answer = Refused NotAChart; next = monitorIn l };
     fed = sym (ap (λ (c : Chart). feedOf c (monitorIn l) e) z ∙ zeros-fed (monitorIn l) e);
-    told = refl;
+    ans = refl;
     bytes = refl;
     next = refl;
   };
@@ -172,14 +172,14 @@ chart-stays l s false h =
     (length-append (monitorBytes (s .next)) (drop monitorSize l) ∙ omega (arith, size, length-drop monitorSize l))
     (drop-at (monitorBytes (s .next)) (drop monitorSize l) monitorSize size)
 
-pub fed-live : {l n : List ℕ} {e : Record} {r : ℕ} (c : Chart) → c ≡ chartIn l → monitorSize ≤ length l → FedBy c l e r n → Fed l e r n
+pub fed-live : {l n : List ℕ} {e : Record} {r : ℕ} (c : Chart) → c ≡ chartIn l → monitorSize ≤ length l → LiveFedBy c l e r n → LiveFed l e r n
 unfolding bytesFed
 fed-live {l} {n} {e} {r} c p h F = record {
-  by-chart = subst (λ (c : Chart). FedBy c l e r n) p F;
+  by-chart = subst (λ (c : Chart). LiveFedBy c l e r n) p F;
   chart = ap chartIn (F .bytes) ∙ chart-stays l (F .taken) (isRefused (F .taken .answer) || isBroken (monitorIn l)) h;
   none = (
-    λ x. F .told ∙ exact .0 (ap wellFormed p ∙ sym (live-exact l) ∙ x),
-    λ n. live-exact l ∙ ap wellFormed (sym p) ∙ exact .1 (sym (F .told) ∙ n),
+    λ x. F .ans ∙ exact .0 (ap wellFormed p ∙ sym (live-exact l) ∙ x),
+    λ n. live-exact l ∙ ap wellFormed (sym p) ∙ exact .1 (sym (F .ans) ∙ n),
   );
 }
   where

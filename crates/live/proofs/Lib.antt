@@ -1,5 +1,5 @@
 pub mod Charts
 pub mod Feeding
 pub mod Opening
-pub mod Runs
+pub mod History
 pub mod Standings

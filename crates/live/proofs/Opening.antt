@@ -19,8 +19,8 @@ use Rattle.chart_reader.specs.Read.{readChart}
 use Rattle.chart_reader.specs.Said.{Said, said, numberOf, offsetOf}
 use Rattle.wire.specs.Writing.{Wrote, longBytes}
 use Rattle.wire.proofs.Writing.{then, spelled, at-start}
-use Rattle.image.specs.Image.{monitorSize, monitorBytes, monitorIn}
-use Rattle.image.proofs.Laws.{monitor-length}
+use Rattle.monitor_image.specs.MonitorImage.{monitorSize, monitorBytes, monitorIn}
+use Rattle.monitor_image.proofs.Laws.{monitor-length}
 use Rattle.live.specs.declared.Opened.{Opened}
 use Rattle.live.specs.Live.{headSize, largest, liveSize, freshBytes, openedBy, openedOf, bytesOpened, Holds}
 use Rattle.live.proofs.Charts.{chart-behind}

@@ -1,2 +1,2 @@
 pub mod Live
-pub mod Runs
+pub mod History

@@ -26,7 +26,7 @@ use Rattle.monitor.specs.Feed.{feedOf}
 use Rattle.judge.specs.Verdict.{verdictOf}
 use Rattle.wire.specs.Bytes.{word64}
 use Rattle.wire.specs.Writing.{longBytes}
-use Rattle.image.specs.Image.{monitorSize, monitorBytes, monitorIn}
+use Rattle.monitor_image.specs.MonitorImage.{monitorSize, monitorBytes, monitorIn}
 use Rattle.live.specs.declared.Opened.{Opened}
 use Rattle.live.specs.declared.LiveVerdict.{LiveVerdict}
 
@@ -103,18 +103,18 @@ unfoldable pub bytesFed : List ℕ → Step → List ℕ
 bytesFed l s = cond (isRefused (s .answer) || isBroken (monitorIn l)) l (monitorBytes (s .next) ++ drop monitorSize l)
 
 -- One record fed for the chart c to the monitor whose image starts the bytes l, which are n afterwards.
-pub record FedBy (c : Chart) (l : List ℕ) (e : Record) (number : ℕ) (n : List ℕ) : Type 0 where
+pub record LiveFedBy (c : Chart) (l : List ℕ) (e : Record) (number : ℕ) (n : List ℕ) : Type 0 where
   -- the step that feeding gives, and its number
   pub taken : Step
   pub fed : stepOf taken ≡ feedOf c (monitorIn l) e
-  pub told : number ≡ answerNumber (taken .answer)
+  pub ans : number ≡ answerNumber (taken .answer)
   pub bytes : n ≡ bytesFed l taken
   -- the bytes then hold the monitor that was handed back
   pub next : monitorIn n ≡ taken .next
 
 -- One record fed to live bytes: for their chart, which they still hold; 20 exactly where they hold no live monitor.
-pub record Fed (l : List ℕ) (e : Record) (number : ℕ) (n : List ℕ) : Type 0 where
-  pub by-chart : FedBy (chartIn l) l e number n
+pub record LiveFed (l : List ℕ) (e : Record) (number : ℕ) (n : List ℕ) : Type 0 where
+  pub by-chart : LiveFedBy (chartIn l) l e number n
   pub chart : chartIn n ≡ chartIn l
   pub none : (isLive l ≡ false) ↔ (number ≡ notAChart)
 

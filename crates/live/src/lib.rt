@@ -13,10 +13,10 @@ ghost use lib.ListN.{length};
 ghost use Rattle.model.specs.Answers.{feedRefusalNumber, zeroVerdict};
 ghost use Rattle.wire.specs.Writing.{Wrote};
 ghost use Rattle.base.specs.Lists.{ε};
-ghost use Rattle.image.specs.Image.{monitorSize};
+ghost use Rattle.monitor_image.specs.MonitorImage.{monitorSize};
 ghost use Rattle.live.specs.Live.{headSize, chartIn, liveSize, freshBytes, openedOf, bytesOpened, Holds};
-ghost use Rattle.live.specs.Live.{isRefused, FedBy, Fed, standingBy, standingIn};
-ghost use Rattle.live.specs.Runs.{LiveRun, RunsOn, LiveClaims};
+ghost use Rattle.live.specs.Live.{isRefused, LiveFedBy, LiveFed, standingBy, standingIn};
+ghost use Rattle.live.specs.History.{LiveHistory, Extends, LiveClaims};
 
 // The monitor's image and the chart's length.
 const HEAD_SIZE: usize = 65;
@@ -51,7 +51,7 @@ fn put_fresh(live: &mut [u8], chart: &[u8]) -> usize
     requires { ⌜ headSize + length (now chart) ≤ length (now live) ⌝ }
     ensures { λ r. ⌜ Wrote (now (live .entry)) 0 (freshBytes (now (chart .entry))) (now (live .exit)) r ⌝ }
 {
-    let second = image::put_monitor(live, model::zero_monitor());
+    let second = monitor_image::put_monitor(live, model::zero_monitor());
     let third = wire::put_word64(live, second, chart.len() as u64);
     wire::put_bytes(live, third, chart)
 }
@@ -61,7 +61,7 @@ pub fn open(chart: &[u8], live: &mut [u8]) -> Opened
     ensures answer { λ r. ⌜ r ≡ openedOf (now (chart .entry)) (length (now (live .entry))) ⌝ }
     ensures bytes { λ r. ⌜ now (live .exit) ≡ bytesOpened (now (chart .entry)) (now (live .entry)) ⌝ }
     ensures holds { λ r. ⌜ (r .number ≡ 0 → Holds (now (chart .entry)) (now (live .exit))) ⌝ }
-    ensures run { λ r. ⌜ (r .number ≡ 0 → LiveRun (now (chart .entry)) ε ε (now (live .exit))) ⌝ }
+    ensures run { λ r. ⌜ (r .number ≡ 0 → LiveHistory (now (chart .entry)) ε ε (now (live .exit))) ⌝ }
     ensures unchanged { λ r. ⌜ now (chart .exit) ≡ now (chart .entry) ⌝ }
 {
     let read = chart_reader::read(chart);
@@ -94,7 +94,7 @@ fn chart_in(live: &[u8]) -> Chart
         return model::zero_chart();
     }
     let rest = live.len() - HEAD_SIZE;
-    let n = wire::word64_at(live, image::MONITOR_SIZE);
+    let n = wire::word64_at(live, monitor_image::MONITOR_SIZE);
     if (rest as u64) < n {
         return model::zero_chart();
     }
@@ -121,23 +121,23 @@ fn is_refused(a: Answer) -> bool
 // One record fed to the monitor whose image starts the bytes.
 pub fn feed_chart(chart: Chart, bytes: &mut [u8], e: Record) -> u8
     requires { ⌜ monitorSize ≤ length (now bytes) ⌝ }
-    ensures { λ r. ⌜ FedBy chart (now (bytes .entry)) e r (now (bytes .exit)) ⌝ }
+    ensures { λ r. ⌜ LiveFedBy chart (now (bytes .entry)) e r (now (bytes .exit)) ⌝ }
 {
-    let m = image::monitor_at(bytes);
+    let m = monitor_image::monitor_at(bytes);
     let s = monitor::feed(chart, m, e);
     let answer = s.answer;
     let next = s.next;
     if is_refused(answer) | (m.tally.broken.at != 0) {
         return model::answer_number(answer);
     }
-    image::put_monitor(bytes, next);
+    monitor_image::put_monitor(bytes, next);
     model::answer_number(answer)
 }
 
 // One record fed to the live monitor.
 pub fn feed(live: &mut [u8], e: Record) -> u8
-    ensures fed { λ r. ⌜ Fed (now (live .entry)) e r (now (live .exit)) ⌝ }
-    ensures run { λ r. ⌜ RunsOn (now (live .entry)) e r (now (live .exit)) ⌝ }
+    ensures fed { λ r. ⌜ LiveFed (now (live .entry)) e r (now (live .exit)) ⌝ }
+    ensures run { λ r. ⌜ Extends (now (live .entry)) e r (now (live .exit)) ⌝ }
 {
     if live.len() < HEAD_SIZE {
         return model::NOT_A_CHART;
@@ -176,7 +176,7 @@ pub fn standing(live: &[u8]) -> LiveVerdict
     ensures value { λ r. ⌜ r ≡ standingIn (now (live .entry)) ⌝ }
     ensures unchanged { λ r. ⌜ now (live .exit) ≡ now (live .entry) ⌝ }
 {
-    standing_of(chart_in(live), image::monitor_at(live))
+    standing_of(chart_in(live), monitor_image::monitor_at(live))
 }
 
 // What feeding live bytes comes to.

@@ -1,3 +1,3 @@
 pub mod Places
 pub mod Records
-pub mod Told
+pub mod Said

@@ -10,8 +10,8 @@ use Rattle.log_reader.specs.Next.{nextAt}
 use Rattle.log_reader.specs.Records.{onRecord, recordsFrom}
 
 pub one-record : (s : List ℕ) (at left : ℕ) → 0 < left → (es : Snoc Record) (n : Next) → nextAt s at ≡ n
-    → recordsFrom left s at es ≡ onRecord (λ e place. recordsFrom (left - 1) s place (es ▸ e)) n es
+    → recordsFrom left s at es ≡ onRecord (λ e past. recordsFrom (left - 1) s past (es ▸ e)) n es
 unfolding recordsFrom
 one-record s at left h es n q =
     let k : left ≡ suc (left - 1) = omega arith in
-    ap (λ (j : ℕ). recordsFrom j s at es) k ∙ ap (λ (x : Next). onRecord (λ e place. recordsFrom (left - 1) s place (es ▸ e)) x es) q
+    ap (λ (j : ℕ). recordsFrom j s at es) k ∙ ap (λ (x : Next). onRecord (λ e past. recordsFrom (left - 1) s past (es ▸ e)) x es) q

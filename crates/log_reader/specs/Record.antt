@@ -1,4 +1,4 @@
--- One record of a log's bytes, read at a place (L1, L2, E1 to E5).
+-- One record of a log's bytes, read at an offset (L1, L2, E1 to E5).
 use Prim.Native.Nat.{ℕ, _+_}
 use mathlib.Core.List.{List}
 use lib.ListN.{getD}
@@ -8,18 +8,18 @@ use Rattle.model.specs.declared.Record.the-variants.{Message, Time}
 use Rattle.log_reader.specs.declared.RecordRefusal.{RecordRefusal}
 use Rattle.log_reader.specs.declared.RecordRefusal.the-variants.{CutShort, UnknownByte}
 use Rattle.log_reader.specs.declared.Next.{Next}
-use Rattle.log_reader.specs.declared.Next.the-variants.{End, Refused, Taken}
+use Rattle.log_reader.specs.declared.Next.the-variants.{End, Refused, Handed}
 
 -- N9: the refusals of a record
 abbrev pub recordRefusalNumber : RecordRefusal → ℕ
 recordRefusalNumber CutShort = 30
 recordRefusalNumber UnknownByte = 31
 
-abbrev pub messageByte : ℕ
-messageByte = 0x01
+abbrev pub messageTag : ℕ
+messageTag = 0x01
 
-abbrev pub timeByte : ℕ
-timeByte = 0x02
+abbrev pub timeTag : ℕ
+timeTag = 0x02
 
 -- L1: a message record
 abbrev pub messageSize : ℕ
@@ -37,8 +37,8 @@ timeSize = 5
 abbrev pub timeAt : List ℕ → ℕ → Record
 timeAt s at = Time (record { 0 = word32 s (at + 1) })
 
--- What reading one record says, in numbers: the end, with the place; a refusal, 30 or 31, with the place; or a record,
--- with the place just after it.
+-- What reading one record says, in numbers: the end, with the offset; a refusal, 30 or 31, with the offset; or a
+-- record, with the offset just after it.
 pub data Said : Type 0 where
   end : ℕ → Said
   refused : ℕ → ℕ → Said
@@ -47,4 +47,4 @@ pub data Said : Type 0 where
 abbrev pub said : ℕ → Next → Said
 said at End = end at
 said at (Refused k) = refused (recordRefusalNumber k) at
-said at (Taken r place) = handed r place
+said at (Handed r past) = handed r past

@@ -1,4 +1,4 @@
-// One record of a log's bytes, read at a place.
+// One record of a log's bytes, read at an offset.
 use model::Message;
 use model::Moment;
 use model::Record;
@@ -7,7 +7,7 @@ ghost use Prim.Native.Nat.{_<_};
 ghost use lib.ListN.{length};
 ghost use Rattle.log_reader.specs.Record.{recordRefusalNumber, messageAt, timeAt};
 ghost use Rattle.log_reader.specs.Next.{nextAt};
-ghost use Rattle.log_reader.specs.Reader.{HandsOut, placeOr};
+ghost use Rattle.log_reader.specs.Reader.{HandsOut, offsetOr};
 
 // Why no record is handed out.
 pub enum RecordRefusal {
@@ -15,16 +15,16 @@ pub enum RecordRefusal {
     UnknownByte,
 }
 
-// What reading at a place finds: the end, a refusal, or a record and the place just after it.
+// What reading at an offset finds: the end, a refusal, or a record and the offset just after it.
 pub enum Next {
     End,
     Refused(RecordRefusal),
-    Taken(Record, usize),
+    Handed(Record, usize),
 }
 
-pub const MESSAGE: u8 = 0x01;
+pub const MESSAGE_TAG: u8 = 0x01;
 
-const TIME: u8 = 0x02;
+const TIME_TAG: u8 = 0x02;
 
 const MESSAGE_SIZE: usize = 9;
 
@@ -39,7 +39,7 @@ pub fn number(k: RecordRefusal) -> u8
     }
 }
 
-// The message whose nine bytes start at a place within the bytes.
+// The message whose nine bytes start at an offset within the bytes.
 fn message_at(s: &[u8], at: usize) -> Record
     requires { ⌜ at < length (now s) ⌝ }
     ensures { λ r. ⌜ r ≡ messageAt (now (s .entry)) at ⌝ }
@@ -52,7 +52,7 @@ fn message_at(s: &[u8], at: usize) -> Record
     Record::Message(message, Moment(wire::word32_at(s, at + 5)))
 }
 
-// The record of time whose five bytes start at a place within the bytes.
+// The record of time whose five bytes start at an offset within the bytes.
 fn time_at(s: &[u8], at: usize) -> Record
     requires { ⌜ at < length (now s) ⌝ }
     ensures { λ r. ⌜ r ≡ timeAt (now (s .entry)) at ⌝ }
@@ -60,60 +60,60 @@ fn time_at(s: &[u8], at: usize) -> Record
     Record::Time(Moment(wire::word32_at(s, at + 1)))
 }
 
-// The record at a place; the bytes stay as they are.
-pub fn read_record(bytes: &[u8], place: usize) -> Next
-    ensures { λ r. ⌜ (r ≡ nextAt (now (bytes .entry)) place) × (now (bytes .exit) ≡ now (bytes .entry)) ⌝ }
+// The record at an offset; the bytes stay as they are.
+pub fn read_record(bytes: &[u8], offset: usize) -> Next
+    ensures { λ r. ⌜ (r ≡ nextAt (now (bytes .entry)) offset) × (now (bytes .exit) ≡ now (bytes .entry)) ⌝ }
 {
-    if bytes.len() <= place {
+    if bytes.len() <= offset {
         return Next::End;
     }
-    let kind = wire::byte_at(bytes, place);
+    let kind = wire::byte_at(bytes, offset);
     match kind {
-        MESSAGE => {
-            if bytes.len() - place < MESSAGE_SIZE {
+        MESSAGE_TAG => {
+            if bytes.len() - offset < MESSAGE_SIZE {
                 return Next::Refused(RecordRefusal::CutShort);
             }
-            Next::Taken(message_at(bytes, place), place + MESSAGE_SIZE)
+            Next::Handed(message_at(bytes, offset), offset + MESSAGE_SIZE)
         }
-        TIME => {
-            if bytes.len() - place < TIME_SIZE {
+        TIME_TAG => {
+            if bytes.len() - offset < TIME_SIZE {
                 return Next::Refused(RecordRefusal::CutShort);
             }
-            Next::Taken(time_at(bytes, place), place + TIME_SIZE)
+            Next::Handed(time_at(bytes, offset), offset + TIME_SIZE)
         }
         _ => Next::Refused(RecordRefusal::UnknownByte),
     }
 }
 
-// The place just after a record that is handed out; without one it stays.
-fn place_after(place: usize, next: Next) -> usize
-    ensures { λ r. ⌜ r ≡ placeOr place next ⌝ }
+// The offset just after a record that is handed out; without one it stays.
+fn offset_after(offset: usize, next: Next) -> usize
+    ensures { λ r. ⌜ r ≡ offsetOr offset next ⌝ }
 {
     match next {
-        Next::End => place,
-        Next::Refused(_) => place,
-        Next::Taken(_, behind) => behind,
+        Next::End => offset,
+        Next::Refused(_) => offset,
+        Next::Handed(_, past) => past,
     }
 }
 
-// A log's bytes where they lie, and a place in them.
+// A log's bytes where they lie, and an offset in them.
 pub struct LogReader<'a> {
     pub log: &'a [u8],
-    pub at: usize,
+    pub offset: usize,
 }
 
-pub fn reader_at<'a>(log: &'a [u8], at: usize) -> LogReader<'a>
-    ensures { λ r. ⌜ (r .log ≡ log .entry) × (r .at ≡ at) ⌝ }
+pub fn reader_at<'a>(log: &'a [u8], offset: usize) -> LogReader<'a>
+    ensures { λ r. ⌜ (r .log ≡ log .entry) × (r .offset ≡ offset) ⌝ }
 {
-    LogReader { log, at }
+    LogReader { log, offset }
 }
 
-// Hands out the record at the reader's place, which moves just after it; without one it stays.
+// Hands out the record at the offset, which moves just after it; without one it stays.
 pub fn take_record<'s, 'a>(r: &'s mut LogReader<'a>) -> Next
     ensures { λ n. ⌜ HandsOut (now (r .entry)) n (now (r .exit)) ⌝ }
 {
-    let at = r.at;
+    let at = r.offset;
     let next = read_record(r.log, at);
-    r.at = place_after(at, next);
+    r.offset = offset_after(at, next);
     next
 }

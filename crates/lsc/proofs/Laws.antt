@@ -56,16 +56,16 @@ chart-listed : (log : List ℕ) {x : Said} → Reads x → (x .number ≡ 0 → 
 unfolding judgeOf
 chart-listed log (accepts c) w = rw (w refl) (log-listed c log (checkLog log))
 chart-listed log (refuses refusal.CutShort offset) w = refl
-chart-listed log (refuses refusal.UnknownCommand offset) w = refl
-chart-listed log (refuses refusal.OutOfPlace offset) w = refl
-chart-listed log (refuses refusal.OutOfRange offset) w = refl
-chart-listed log (refuses refusal.NoRoom offset) w = refl
-chart-listed log (refuses refusal.BareRegion offset) w = refl
-chart-listed log (refuses refusal.HotWithoutTerm offset) w = refl
-chart-listed log (refuses refusal.HotInPrechart offset) w = refl
-chart-listed log (refuses refusal.NoneAbove offset) w = refl
-chart-listed log (refuses refusal.NoMainRegion offset) w = refl
-chart-listed log (refuses refusal.BytesAfterEnd offset) w = refl
+chart-listed log (refuses refusal.Unknown offset) w = refl
+chart-listed log (refuses refusal.Misplaced offset) w = refl
+chart-listed log (refuses refusal.Outside offset) w = refl
+chart-listed log (refuses refusal.Excess offset) w = refl
+chart-listed log (refuses refusal.Bare offset) w = refl
+chart-listed log (refuses refusal.HotAlone offset) w = refl
+chart-listed log (refuses refusal.Early offset) w = refl
+chart-listed log (refuses refusal.Unanchored offset) w = refl
+chart-listed log (refuses refusal.Mainless offset) w = refl
+chart-listed log (refuses refusal.Trailing offset) w = refl
 
 pub parts-listed : (chart log : List ℕ) → isJudgedNumber (reportNumber (partsReport chart log)) ≡ true
 unfolding partsReport

@@ -7,7 +7,7 @@ use model::TOO_SHORT;
 ghost use mathlib.Core.Path.{_≡_};
 ghost use lib.ListN.{length};
 ghost use Rattle.model.specs.declared.Record.the-variants.{Message as MessageAt, Time as TimeAt};
-ghost use Rattle.live.specs.Live.{liveSize, openedOf, bytesOpened, Holds, Fed, standingIn};
+ghost use Rattle.live.specs.Live.{liveSize, openedOf, bytesOpened, Holds, LiveFed, standingIn};
 ghost use Rattle.lsc_live.specs.Lsc.{standingNumber, standingOut};
 
 // The bytes that a live monitor of a chart of so many bytes takes.
@@ -41,7 +41,7 @@ pub extern "C" fn lsc_feed_message(
     label: u16,
     time: u32,
 ) -> u8
-    ensures { λ r. ⌜ Fed (now (live .entry))
+    ensures { λ r. ⌜ LiveFed (now (live .entry))
         (MessageAt (record { source = source; destination = destination; label = label }) (record { 0 = time }))
         r (now (live .exit)) ⌝ }
 {
@@ -56,7 +56,7 @@ pub extern "C" fn lsc_feed_message(
 // Feeds a record of time to the live monitor.
 #[no_mangle]
 pub extern "C" fn lsc_feed_time(live: &mut [u8], time: u32) -> u8
-    ensures { λ r. ⌜ Fed (now (live .entry)) (TimeAt (record { 0 = time })) r (now (live .exit)) ⌝ }
+    ensures { λ r. ⌜ LiveFed (now (live .entry)) (TimeAt (record { 0 = time })) r (now (live .exit)) ⌝ }
 {
     live::feed(live, Record::Time(Moment(time)))
 }

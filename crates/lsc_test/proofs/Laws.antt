@@ -16,8 +16,8 @@ use Rattle.monitor.specs.declared.Made.{Made}
 use Rattle.chart_value.specs.WellFormed.{wellFormed}
 use Rattle.chart_image.specs.ChartImage.{chartValue}
 use Rattle.wire.specs.Writing.{Wrote}
-use Rattle.image.specs.Image.{monitorSize, monitorBytes, monitorIn}
-use Rattle.live.specs.Live.{FedBy}
+use Rattle.monitor_image.specs.MonitorImage.{monitorSize, monitorBytes, monitorIn}
+use Rattle.live.specs.Live.{LiveFedBy}
 use Rattle.live.proofs.Charts.{zero-refused}
 use Rattle.live.proofs.Feeding.{exactly-20, monitor-at-start}
 use Rattle.lsc_test.specs.Images.{newNumber, newBytes, FedImage}
@@ -25,13 +25,13 @@ use Rattle.lsc_test.specs.Images.{newNumber, newBytes, FedImage}
 pub image-short : (image : List ℕ) {l : List ℕ} (e : Record) → length l < monitorSize → FedImage image l e tooShort l
 image-short image e h = record { short = λ g. (refl, refl); by-chart = λ g. absurd (omega arith); none = λ g x. absurd (omega arith) }
 
-pub image-fed : {image l n : List ℕ} {e : Record} {r : ℕ} (c : Chart) → c ≡ chartValue image → monitorSize ≤ length l → FedBy c l e r n
+pub image-fed : {image l n : List ℕ} {e : Record} {r : ℕ} (c : Chart) → c ≡ chartValue image → monitorSize ≤ length l → LiveFedBy c l e r n
     → FedImage image l e r n
 unfolding chartValue
 image-fed {image} {l} {n} {e} {r} c p h F = record {
   short = λ g. absurd (omega arith);
-  by-chart = λ g. subst (λ (c : Chart). FedBy c l e r n) p F;
-  none = λ g x. F .told ∙ exactly-20 c (monitorIn l) e (F .taken) (F .fed) .0 (ap wellFormed (p ∙ rw x) ∙ zero-refused);
+  by-chart = λ g. subst (λ (c : Chart). LiveFedBy c l e r n) p F;
+  none = λ g x. F .ans ∙ exactly-20 c (monitorIn l) e (F .taken) (F .fed) .0 (ap wellFormed (p ∙ rw x) ∙ zero-refused);
 }
 
 pub new-short : (image l : List ℕ) → length l < monitorSize → (tooShort ≡ newNumber image l) × (l ≡ newBytes l)

@@ -9,9 +9,9 @@ use Rattle.model.specs.declared.Record.{Record}
 use Rattle.model.specs.Monitor.{zeroMonitor}
 use Rattle.model.specs.Answers.{tooShort, notAChart}
 use Rattle.chart_value.specs.WellFormed.{wellFormed}
-use Rattle.image.specs.Image.{monitorSize, monitorBytes}
+use Rattle.monitor_image.specs.MonitorImage.{monitorSize, monitorBytes}
 use Rattle.chart_image.specs.ChartImage.{isImage, chartValue}
-use Rattle.live.specs.Live.{FedBy}
+use Rattle.live.specs.Live.{LiveFedBy}
 
 -- 12 where the buffer has no room for a monitor, which then stays as it was; else 0 or 20, and a monitor of zeros
 unfoldable pub newNumber : List ℕ → List ℕ → ℕ
@@ -25,5 +25,5 @@ newBytes l = cond (ltb (length l) monitorSize) l (monitorBytes zeroMonitor ++ dr
 -- bytes are no image.
 pub record FedImage (image l : List ℕ) (e : Record) (number : ℕ) (n : List ℕ) : Type 0 where
   pub short : length l < monitorSize → (number ≡ tooShort) × (n ≡ l)
-  pub by-chart : monitorSize ≤ length l → FedBy (chartValue image) l e number n
+  pub by-chart : monitorSize ≤ length l → LiveFedBy (chartValue image) l e number n
   pub none : monitorSize ≤ length l → isImage image ≡ false → number ≡ notAChart

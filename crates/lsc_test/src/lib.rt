@@ -31,7 +31,7 @@ fn feed_image(chart: &[u8], bytes: &mut [u8], e: Record) -> u8
     ensures fed { λ r. ⌜ FedImage (now (chart .entry)) (now (bytes .entry)) e r (now (bytes .exit)) ⌝ }
     ensures unchanged { λ r. ⌜ now (chart .exit) ≡ now (chart .entry) ⌝ }
 {
-    if bytes.len() < image::MONITOR_SIZE {
+    if bytes.len() < monitor_image::MONITOR_SIZE {
         return TOO_SHORT;
     }
     live::feed_chart(chart_image::chart_at(chart), bytes, e)
@@ -44,13 +44,13 @@ pub extern "C" fn lsc_test_new(chart: &[u8], monitor: &mut [u8]) -> u8
     ensures bytes { λ r. ⌜ now (monitor .exit) ≡ newBytes (now (monitor .entry)) ⌝ }
     ensures unchanged { λ r. ⌜ now (chart .exit) ≡ now (chart .entry) ⌝ }
 {
-    if monitor.len() < image::MONITOR_SIZE {
+    if monitor.len() < monitor_image::MONITOR_SIZE {
         return TOO_SHORT;
     }
     let made = monitor::new(chart_image::chart_at(chart));
     let answer = made.answer;
     let fresh = made.monitor;
-    image::put_monitor(monitor, fresh);
+    monitor_image::put_monitor(monitor, fresh);
     made_number(answer)
 }
 

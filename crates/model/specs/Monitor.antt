@@ -19,4 +19,4 @@ zeroTally = record {
 }
 
 abbrev pub zeroMonitor : Monitor
-zeroMonitor = record { at = zeroPlace; tally = zeroTally }
+zeroMonitor = record { place = zeroPlace; tally = zeroTally }

@@ -193,7 +193,7 @@ pub struct Tally {
 
 // What a monitor holds.
 pub struct Monitor {
-    pub at: Place,
+    pub place: Place,
     pub tally: Tally,
 }
 
@@ -203,7 +203,7 @@ pub fn zero_monitor() -> Monitor
 {
     let zero = Moment(0);
     let resets = [zero; CLOCK_PLACES];
-    let at = Place { fired: 0, resets };
+    let place = Place { fired: 0, resets };
     let broken = Break { at: 0, reason: 0 };
     let tally = Tally {
         now: zero,
@@ -212,7 +212,7 @@ pub fn zero_monitor() -> Monitor
         dropped: 0,
         broken,
     };
-    Monitor { at, tally }
+    Monitor { place, tally }
 }
 
 // The number of the answer that a buffer has too few places.

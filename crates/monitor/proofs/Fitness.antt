@@ -174,11 +174,11 @@ module _ (C : Abstract) (A : Accepted C) (m : Monitor) where
         | inr x ↦ or-right (eqb (m .tally .broken .reason) noReadyRegion) (eq-eqb _ _ x)
       ])))
 
-  fit-of : length (m .at .resets) ≡ mostClocks → So (fits C m) → Fit C (monitorAt m)
+  fit-of : length (m .place .resets) ≡ mostClocks → So (fits C m) → Fit C (monitorAt m)
   unfolding fits countsFit Breaks
   fit-of size e =
-      let P = place-of C A (m .at) (m .tally .now .0) (m .tally .broken .at) size (and-left (placeFits C (m .at) (m .tally .now .0) (m .tally .broken .at)) _ e) in
-      let t = and-right (placeFits C (m .at) (m .tally .now .0) (m .tally .broken .at)) _ e in
+      let P = place-of C A (m .place) (m .tally .now .0) (m .tally .broken .at) size (and-left (placeFits C (m .place) (m .tally .now .0) (m .tally .broken .at)) _ e) in
+      let t = and-right (placeFits C (m .place) (m .tally .now .0) (m .tally .broken .at)) _ e in
       let counts = and-left (leb (m .tally .records) mostRecords && leb (m .tally .kept + m .tally .dropped) (m .tally .records)) _ t in
       record {
         closed = P .closed;
@@ -195,7 +195,7 @@ module _ (C : Abstract) (A : Accepted C) (m : Monitor) where
   pub of-fit : Fit C (monitorAt m) → So (fits C m)
   unfolding fits countsFit Breaks
   of-fit F =
-      and-both (of-place C A (m .at) (m .tally .now .0) (m .tally .broken .at) (record {
+      and-both (of-place C A (m .place) (m .tally .now .0) (m .tally .broken .at) (record {
         closed = F .closed;
         within = F .within;
         unfinished = F .unfinished;
@@ -206,7 +206,7 @@ module _ (C : Abstract) (A : Accepted C) (m : Monitor) where
       (and-both (and-both (le-leb _ _ (F .few)) (le-leb _ _ (F .counts))) (of-break (F .break-fits)))
 
   -- what the test promises
-  pub fit-exactly : length (m .at .resets) ≡ mostClocks → (r : Bool) → r ≡ fits C m → (r ≡ true) ↔ Fit C (monitorAt m)
+  pub fit-exactly : length (m .place .resets) ≡ mostClocks → (r : Bool) → r ≡ fits C m → (r ≡ true) ↔ Fit C (monitorAt m)
   fit-exactly size r e = (λ p. fit-of size (sym e ∙ p), λ F. e ∙ of-fit F)
 
 all-same : (n : ℕ) (s t : ℕ → Bool) → ((i : ℕ) → i < n → s i ≡ t i) → allBelow n s ≡ allBelow n t
@@ -238,8 +238,8 @@ module _ {h : Head} {keys above resets terms : List ℕ} (K : Compiled h keys ab
       λ i. (e₁ ∙ closed-same (x .fired)) i && (e₂ i && (not (e₃ i) && ((not (eqb b 0) || (e₄ ∙ ap isNone (sym n)) i) && e₅ i)))
 
   -- what `is_fit` promises, from the tests of the place and of the tally
-  pub fit-test : (m : Monitor) → length (m .at .resets) ≡ mostClocks → (place counts break : Bool)
-      → place ≡ placeFits compiled (m .at) (m .tally .now .0) (m .tally .broken .at) → counts ≡ countsFit (m .tally)
+  pub fit-test : (m : Monitor) → length (m .place .resets) ≡ mostClocks → (place counts break : Bool)
+      → place ≡ placeFits compiled (m .place) (m .tally .now .0) (m .tally .broken .at) → counts ≡ countsFit (m .tally)
       → break ≡ breakFits (m .tally .records) (m .tally .broken)
       → ((place && (counts && break)) ≡ fits compiled m) × (((place && (counts && break)) ≡ true) ↔ Fit compiled (monitorAt m))
   unfolding fits

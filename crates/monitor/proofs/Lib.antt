@@ -2,4 +2,4 @@ pub mod Fitness
 pub mod Feeding
 pub mod Owned
 pub mod Storing
-pub mod Runs
+pub mod History

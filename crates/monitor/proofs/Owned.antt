@@ -13,8 +13,8 @@ use Rattle.monitor.specs.Stored.{Stored}
 
 pub owned-monitor : (m : Monitor) (vs : List Val) → Is (row monitor.the-type) m vs → Stored m
 owned-monitor m vs p =
-    let at = p .1 .1 .0 in
-    record { bits = at .1 .1 .0 .1; places = sym (length-map (m .at .resets) _) ∙ at .1 .1 .1 .0 .1 .0 .1 }
+    let place = p .1 .1 .0 in
+    record { bits = place .1 .1 .0 .1; places = sym (length-map (m .place .resets) _) ∙ place .1 .1 .1 .0 .1 .0 .1 }
 
 -- and a step, with its monitor
 pub owned-step : (r : Step) (vs : List Val) → Is (row step.the-type) r vs → Stored (r .next)

@@ -26,13 +26,13 @@ use Rattle.model.specs.Answers.{mostRecords}
 use Rattle.rounds.specs.Chart.{Chart as Abstract}
 use Rattle.rounds.specs.Rows.{LogRecord}
 use Rattle.rounds.specs.Tally.{Tally as AbstractTally}
-use Rattle.rounds.specs.Feeds.{Answer as Told, refused, toldBroken, toldKept, toldDropped, entered, moved, quiet}
+use Rattle.rounds.specs.Feeds.{Answer as AbstractAnswer, refused, brokenAt, keptNow, droppedNow, entered, moved, quiet}
 use Rattle.rounds.specs.Machine.{Monitor as AbstractMonitor, Fit, accept, feed}
 use Rattle.base.proofs.Bools.{split, or-right}
 use Rattle.stepping.specs.Answers.{answerOf}
 use Rattle.firing.specs.Places.{momentsOf}
 use Rattle.stepping.specs.Monitors.{monitorAt}
-use Rattle.stepping.proofs.Back.{Taken, accept-taken}
+use Rattle.stepping.proofs.Back.{NotRefused, accept-taken}
 use Rattle.monitor.specs.Stored.{Stored}
 
 -- the numbers below n that pass, as a set
@@ -106,10 +106,10 @@ pub record StoredAs (x : AbstractMonitor) : Type 0 where
 
 module _ (C : Abstract) (few : C .regions ≤ mostRegions) (clocks : C .clocks ≤ mostClocks) {x : AbstractMonitor}
     (F : Fit C x) where
-  fired : (i : ℕ) → contains (setOf mostRegions (x .at .fired)) i ≡ x .at .fired i
+  fired : (i : ℕ) → contains (setOf mostRegions (x .place .fired)) i ≡ x .place .fired i
   fired i = elim (decLt i mostRegions) [
-    | yes l ↦ set-members mostRegions (x .at .fired) i l
-    | no l ↦ beyond mostRegions (x .at .fired) i (omega arith) ∙ sym (elim (split (x .at .fired i)) [
+    | yes l ↦ set-members mostRegions (x .place .fired) i l
+    | no l ↦ beyond mostRegions (x .place .fired) i (omega arith) ∙ sym (elim (split (x .place .fired i)) [
       | inl e ↦ absurd (omega (arith, F .within i e))
       | inr e ↦ e
     ])
@@ -118,46 +118,46 @@ module _ (C : Abstract) (few : C .regions ≤ mostRegions) (clocks : C .clocks �
   pub stored-as : StoredAs x
   stored-as = record {
     monitor = record {
-      at = record { fired = setOf mostRegions (x .at .fired); resets = moments mostClocks (x .at .clocks) };
+      place = record { fired = setOf mostRegions (x .place .fired); resets = moments mostClocks (x .place .clocks) };
       tally = storedTally (x .tally);
     };
     shows = λ i. record {
-      at = record {
+      place = record {
         fired = fun-ext fired i;
-        clocks = fun-ext (moments-tell mostClocks (x .at .clocks) (λ k h. F .unused k (omega arith))) i;
+        clocks = fun-ext (moments-tell mostClocks (x .place .clocks) (λ k h. F .unused k (omega arith))) i;
       };
       tally = x .tally;
     };
     stored = record {
-      bits = set-small mostRegions (x .at .fired);
-      places = moments-length mostClocks (x .at .clocks);
+      bits = set-small mostRegions (x .place .fired);
+      places = moments-length mostClocks (x .place .clocks);
     };
   }
 
 -- an answer that is given
-pub record ToldAs (a : Told) : Type 0 where
+pub record AnsweredAs (a : AbstractAnswer) : Type 0 where
   pub answer : Answer
   pub tells : answerOf answer ≡ a
 
-taken-told : (a : Told) → Taken a → ToldAs a
-unfolding Taken
-taken-told (refused k) t = absurd t
-taken-told (toldBroken n k) t = record { answer = Broken n k; tells = refl }
-taken-told toldKept t = record { answer = Kept; tells = refl }
-taken-told toldDropped t = record { answer = Dropped; tells = refl }
-taken-told entered t = record { answer = Entered; tells = refl }
-taken-told moved t = record { answer = Moved; tells = refl }
-taken-told quiet t = record { answer = Quiet; tells = refl }
+answered-so : (a : AbstractAnswer) → NotRefused a → AnsweredAs a
+unfolding NotRefused
+answered-so (refused k) t = absurd t
+answered-so (brokenAt n k) t = record { answer = Broken n k; tells = refl }
+answered-so keptNow t = record { answer = Kept; tells = refl }
+answered-so droppedNow t = record { answer = Dropped; tells = refl }
+answered-so entered t = record { answer = Entered; tells = refl }
+answered-so moved t = record { answer = Moved; tells = refl }
+answered-so quiet t = record { answer = Quiet; tells = refl }
 
-pub told-as : (C : Abstract) (m : AbstractMonitor) (e : LogRecord) → ToldAs (feed C m e .answer)
+pub answered-as : (C : Abstract) (m : AbstractMonitor) (e : LogRecord) → AnsweredAs (feed C m e .answer)
 unfolding feed
-told-as C m e = elim (split (eqb (m .tally .broken .at) 0)) [
+answered-as C m e = elim (split (eqb (m .tally .broken .at) 0)) [
   | inl p ↦ elim (split (ltb (e .time) (m .tally .now))) [
     | inl q ↦ record { answer = Refused TimeFalls; tells = rw (p, q) }
     | inr q ↦ elim (split (leb mostRecords (m .tally .records))) [
       | inl r ↦ record { answer = Refused TooManyRecords; tells = rw (p, q, r) }
       | inr r ↦
-          let t = taken-told (accept C m e .answer) (accept-taken C m e) in
+          let t = answered-so (accept C m e .answer) (accept-taken C m e) in
           record { answer = t .answer; tells = rw (p, q, r) (t .tells) }
     ]
   ]

@@ -60,5 +60,5 @@ placeFits C p t break =
 -- the place, and then the tally
 unfoldable pub fits : Abstract → Monitor → Bool
 fits C m =
-    placeFits C (m .at) (m .tally .now .0) (m .tally .broken .at)
+    placeFits C (m .place) (m .tally .now .0) (m .tally .broken .at)
     && (countsFit (m .tally) && breakFits (m .tally .records) (m .tally .broken))

@@ -1,4 +1,4 @@
 pub mod Stored
 pub mod Fit
 pub mod Feed
-pub mod Runs
+pub mod History

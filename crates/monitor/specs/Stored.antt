@@ -7,5 +7,5 @@ use Rattle.model.specs.Chart.{mostRegions, mostClocks}
 
 -- what the types say of a monitor: 32 bits for the fired regions, eight places for the reset moments
 pub record Stored (m : Monitor) : Type 0 where
-  pub bits : m .at .fired < 2 ^ mostRegions
-  pub places : length (m .at .resets) ≡ mostClocks
+  pub bits : m .place .fired < 2 ^ mostRegions
+  pub places : length (m .place .resets) ≡ mostClocks

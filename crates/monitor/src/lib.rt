@@ -136,9 +136,9 @@ pub fn is_fit<'a>(
         ↔ Fit (planChart h (now (keys .entry)) (now (above .entry)) (now (resets .entry)) (now (terms .entry)))
         (monitorAt m)) ⌝ }
 {
-    let at = m.at;
+    let place = m.place;
     let tally = m.tally;
-    let placed = place_fits(h, above, at, tally.now, tally.broken.at);
+    let placed = place_fits(h, above, place, tally.now, tally.broken.at);
     placed & (counts_fit(tally) & break_fits(tally.records, tally.broken))
 }
 

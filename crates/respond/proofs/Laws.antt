@@ -42,16 +42,16 @@ ofRead c s a = chartReport (record { number = read-specs.numberOf a; offset = re
 
 pub chart-refused : (c : Chart) (s : List ℕ) (f : Refusal) (offset : ℕ) → ofRead c s (read.Refused f offset) ≡ Refused part.Chart (refusalNumber f) offset
 chart-refused c s chart.CutShort offset = refl
-chart-refused c s chart.UnknownCommand offset = refl
-chart-refused c s chart.OutOfPlace offset = refl
-chart-refused c s chart.OutOfRange offset = refl
-chart-refused c s chart.NoRoom offset = refl
-chart-refused c s chart.BareRegion offset = refl
-chart-refused c s chart.HotWithoutTerm offset = refl
-chart-refused c s chart.HotInPrechart offset = refl
-chart-refused c s chart.NoneAbove offset = refl
-chart-refused c s chart.NoMainRegion offset = refl
-chart-refused c s chart.BytesAfterEnd offset = refl
+chart-refused c s chart.Unknown offset = refl
+chart-refused c s chart.Misplaced offset = refl
+chart-refused c s chart.Outside offset = refl
+chart-refused c s chart.Excess offset = refl
+chart-refused c s chart.Bare offset = refl
+chart-refused c s chart.HotAlone offset = refl
+chart-refused c s chart.Early offset = refl
+chart-refused c s chart.Unanchored offset = refl
+chart-refused c s chart.Mainless offset = refl
+chart-refused c s chart.Trailing offset = refl
 
 pub too-short : (l t : List ℕ) → length l < room → (TooShort ≡ responseOf (length l) t) × (l ≡ bufferAfter l t)
 too-short l t h = let e = lt-ltb (length l) room h in (rw e, rw e)

@@ -5,7 +5,7 @@ use Prim.Native.Nat.{ℕ}
 use Rattle.base.specs.Lists.{Snoc}
 use Rattle.rounds.specs.Chart.{Chart, Accepted}
 use Rattle.rounds.specs.Rows.{LogRecord, Row, stands, chartMessages, resetMoment}
-use Rattle.rounds.specs.Feeds.{Stretch, Last, unended, behindBreak}
+use Rattle.rounds.specs.Feeds.{Stretch, Last, unended, afterBreak}
 use Rattle.rounds.specs.Tally.{Break, Tally}
 use Rattle.rounds.specs.Machine.{Monitor, after}
 use Rattle.rounds.specs.Demand3.{AtLast, Agrees, Meaning}
@@ -17,7 +17,7 @@ module _ (C : Chart) (A : Accepted C) (rs : Snoc LogRecord) (es : Snoc Stretch) 
   unfolding AtLast
   same-break (unended o s) m n G H =
       λ i. record { at = (G .no-break ∙ sym (H .no-break)) i; reason = (G .no-reason ∙ sym (H .no-reason)) i }
-  same-break (behindBreak k) m n G H =
+  same-break (afterBreak k) m n G H =
       λ i. record { at = (G .at-last-accepted ∙ sym (H .at-last-accepted)) i; reason = (G .of-stretch ∙ sym (H .of-stretch)) i }
 
   same-tally : (last : Last) (m n : Monitor) → Agrees C rs es last m → Agrees C rs es last n → m .tally ≡ n .tally
@@ -38,7 +38,7 @@ module _ (C : Chart) (A : Accepted C) (rs : Snoc LogRecord) (es : Snoc Stretch) 
       let w : G .at-last .row ≡ H .at-last .row = one-row C A o s (G .at-last .row) (H .at-last .row) (G .at-last .lawful) (H .at-last .lawful) in
       let f = G .at-last .has-fired ∙ ap stands w ∙ sym (H .at-last .has-fired) in
       let k = G .at-last .has-clocks ∙ ap (resetMoment C o (chartMessages C s)) w ∙ sym (H .at-last .has-clocks) in
-      λ i. record { at = record { fired = f i; clocks = k i }; tally = t i }
+      λ i. record { place = record { fired = f i; clocks = k i }; tally = t i }
 
 pub agrees-only : (C : Chart) → Accepted C → {fs : Snoc LogRecord} (M : Meaning C fs) (m : Monitor)
     → Agrees C (M .accepted) (M .stretches) (M .last) m

@@ -6,7 +6,7 @@ use Prim.Native.Nat.{ℕ}
 use Rattle.base.specs.Lists.{Snoc, ε, _▸_}
 use Rattle.rounds.specs.Chart.{Chart, Accepted}
 use Rattle.rounds.specs.Rows.{LogRecord, Row, Lawful}
-use Rattle.rounds.specs.Feeds.{refusal, kept, dropped, broken, Stretch, Last, unended, behindBreak, behind, Answer, FedOne, refuses, runs-on, ends, again, Fed, none-yet, one-more}
+use Rattle.rounds.specs.Feeds.{refusal, kept, dropped, broken, Stretch, Last, unended, afterBreak, lastAfter, Answer, FedOne, refuses, runs-on, ends, again, Fed, none-yet, one-more}
 use Rattle.rounds.specs.Machine.{Monitor, Step, after}
 use Rattle.rounds.specs.Demand3.{Unbroken, AtLast, Agrees, Meaning, Same}
 use Rattle.base.proofs.Facts.{found, none-some}
@@ -16,7 +16,7 @@ use Rattle.rounds.proofs.Feeds.{comes-unbroken, agrees}
 module _ (C : Chart) (A : Accepted C) where
   meant : {fs : Snoc LogRecord} {ans : Snoc Answer} {rs : Snoc LogRecord} {es : Snoc Stretch} {last : Last}
       → Fed C fs ans rs es last → Meaning C fs
-  meant F = record { told = _; accepted = _; stretches = _; last = _; fed = F }
+  meant F = record { ans = _; accepted = _; stretches = _; last = _; fed = F }
 
   -- a list with a meaning has one with any further feed
   extended : {fs : Snoc LogRecord} {ans : Snoc Answer} {rs : Snoc LogRecord} {es : Snoc Stretch} {o : ℕ} {s : Snoc LogRecord}
@@ -30,7 +30,7 @@ module _ (C : Chart) (A : Accepted C) where
   extend : (fs : Snoc LogRecord) (e : LogRecord) (ans : Snoc Answer) (rs : Snoc LogRecord) (es : Snoc Stretch) (last : Last)
       → Fed C fs ans rs es last → Meaning C (fs ▸ e)
   unfolding AtLast
-  extend fs e ans rs es (behindBreak k) F = meant (one-more F again)
+  extend fs e ans rs es (afterBreak k) F = meant (one-more F again)
   extend fs e ans rs es (unended o s) F = elim (found (refusal rs e)) [
     | inl h ↦
         let T : Unbroken C o s (after C fs) = agrees C A F .1 .at-last in
@@ -42,7 +42,7 @@ module _ (C : Chart) (A : Accepted C) where
   cut-exists ε = meant none-yet
   cut-exists (fs ▸ e) =
       let M : Meaning C fs = cut-exists fs in
-      extend fs e (M .told) (M .accepted) (M .stretches) (M .last) (M .fed)
+      extend fs e (M .ans) (M .accepted) (M .stretches) (M .last) (M .fed)
 
   -- one feed to a monitor that agrees has one meaning
   one-same : {rs rs₁ rs₂ : Snoc LogRecord} {es es₁ es₂ : Snoc Stretch} {last last₁ last₂ : Last} {e : LogRecord} {a b : Answer}
@@ -62,7 +62,7 @@ module _ (C : Chart) (A : Accepted C) where
       let w : x ≡ y = one-outcome C A o s e (T .row) (T .lawful) E E′ in (
         refl,
         ap {B = Snoc Stretch} (λ z. es ▸ record { opening = o; records = s ▸ e; outcome = z }) w,
-        ap (λ z. behind z (e .time)) w,
+        ap (λ z. lastAfter z (e .time)) w,
       )
   one-same m G again again = (refl, refl, refl)
 
@@ -77,7 +77,7 @@ module _ (C : Chart) (A : Accepted C) where
   cut-unique M M′ =
       let S = fed-same (M .fed) (M′ .fed) in
       record {
-        same-told = sym (agrees C A (M .fed) .0) ∙ agrees C A (M′ .fed) .0;
+        same-answers = sym (agrees C A (M .fed) .0) ∙ agrees C A (M′ .fed) .0;
         same-accepted = S .0;
         same-stretches = S .1;
         same-last = S .2;

@@ -11,7 +11,7 @@ use Rattle.base.specs.Lists.{Snoc, _▸_, size}
 use Rattle.rounds.specs.Chart.{Chart, Accepted}
 use Rattle.rounds.specs.Rows.{LogRecord, Row, stands, chartMessage, chartMessages, resetMoment, Lawful, NoRow, Full, LawfulButLast, firstFailing}
 use Rattle.rounds.specs.Feeds.{noReadyRegion, conditionFails, Outcome, kept, dropped, broken, Ends, complete, unplaced-main, unplaced-prechart, fails-hot, fails-cold, Answer, entered, moved, quiet, Onward, completes-prechart, fires, stays, isKept}
-use Rattle.rounds.specs.Machine.{Place, Move, place, Monitor, Step, prechartDone, full, goOn, keepRound, dropRound, breakRound, conclude, accept}
+use Rattle.rounds.specs.Machine.{Place, Move, offer, Monitor, Step, prechartDone, full, goOn, keepRound, dropRound, breakRound, conclude, accept}
 use Rattle.base.proofs.Bools.{split}
 use Rattle.base.proofs.Facts.{none-some, some-same}
 use Rattle.rounds.proofs.Machine.{full-true, full-false, done-true, done-false, done-is, done-is-not}
@@ -108,10 +108,10 @@ module _ (C : Chart) (A : Accepted C) (o : ℕ) (s : Snoc LogRecord) (e : LogRec
     breaks : (k : ℕ) (p : Place) → Ends C o s e (broken k) → Comes m (breakRound C m e k p)
 
   -- by what the move means, case by case
-  comes-move : (m : Monitor) (v : Move) → m .at .fired ≡ stands q → Means C o s q e v → Comes m (conclude C m e v)
+  comes-move : (m : Monitor) (v : Move) → m .place .fired ≡ stands q → Means C o s q e v → Comes m (conclude C m e v)
   unfolding conclude placeOf
   comes-move m v at (unplaced W) = elim (split (prechartDone C (stands q))) [
-    | inl t ↦ rw (ap (prechartDone C) at ∙ t) (breaks noReadyRegion (m .at) (unplaced-main q W lawful (done-true C (stands q) t)))
+    | inl t ↦ rw (ap (prechartDone C) at ∙ t) (breaks noReadyRegion (m .place) (unplaced-main q W lawful (done-true C (stands q) t)))
     | inr t ↦ rw (ap (prechartDone C) at ∙ t) (drops (unplaced-prechart q W lawful (done-false C (stands q) t)))
   ]
   comes-move m v at (failed p i r W f) = elim (split (C .hot i)) [
@@ -131,18 +131,18 @@ module _ (C : Chart) (A : Accepted C) (o : ℕ) (s : Snoc LogRecord) (e : LogRec
     ]
   ]
 
-  -- the monitor's place is the one that the row shows
-  place-same : (m : Monitor) → m .at .fired ≡ stands q → m .at .clocks ≡ resetMoment C o (chartMessages C s) q
-      → m .at ≡ placeOf C o (chartMessages C s) q
+  -- the monitor's offer is the one that the row shows
+  place-same : (m : Monitor) → m .place .fired ≡ stands q → m .place .clocks ≡ resetMoment C o (chartMessages C s) q
+      → m .place ≡ placeOf C o (chartMessages C s) q
   unfolding placeOf
   place-same m f c = λ i. record { fired = f i; clocks = c i }
 
-  pub comes : (m : Monitor) → m .at .fired ≡ stands q → m .at .clocks ≡ resetMoment C o (chartMessages C s) q → ¬ Full C (stands q)
+  pub comes : (m : Monitor) → m .place .fired ≡ stands q → m .place .clocks ≡ resetMoment C o (chartMessages C s) q → ¬ Full C (stands q)
       → Comes m (accept C m e)
   unfolding accept
   comes m f c h = elim (split (chartMessage C e)) [
-    | inl t ↦ rw (t, ap (λ (p : Place). place C p e) (place-same m f c))
-        (comes-move m (place C (placeOf C o (chartMessages C s) q) e) f (move-means C A o s e t q lawful))
+    | inl t ↦ rw (t, ap (λ (p : Place). offer C p e) (place-same m f c))
+        (comes-move m (offer C (placeOf C o (chartMessages C s) q) e) f (move-means C A o s e t q lawful))
     | inr t ↦ rw t (subst (λ (p : Place). Comes m (goOn C m e quiet p))
         (ap (λ (l : Snoc LogRecord). placeOf C o l q) (chartMessages-skip C s e t) ∙ sym (place-same m f c))
         (on q quiet (lawful-after C o s e q t lawful) h (stays refl)))

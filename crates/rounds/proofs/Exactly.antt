@@ -8,7 +8,7 @@ use native.Mathlib.Omega.{arith}
 use Rattle.base.specs.Lists.{Snoc, _▸_}
 use Rattle.rounds.specs.Chart.{Chart, Accepted}
 use Rattle.rounds.specs.Rows.{LogRecord, Row, stands, Lawful, NoRow, Full}
-use Rattle.rounds.specs.Feeds.{refusal, kept, unended, Ends, complete, Answer, refused, toldBroken, toldKept, toldDropped, entered, moved, quiet, Onward, completes-prechart, fires, stays, SaysRunsOn, SaysDroppedOrBroken, Exactly}
+use Rattle.rounds.specs.Feeds.{refusal, kept, unended, Ends, complete, Answer, refused, brokenAt, keptNow, droppedNow, entered, moved, quiet, Onward, completes-prechart, fires, stays, SaysRunsOn, SaysDroppedOrBroken, Exactly}
 use Rattle.rounds.specs.Machine.{Monitor, Step, goOn, keepRound, dropRound, breakRound, feed, after}
 use Rattle.rounds.specs.Demand3.{Unbroken, AtLast, Agrees, Meaning}
 use Rattle.rounds.proofs.Rows.{one-row}
@@ -18,9 +18,9 @@ use Rattle.rounds.proofs.Feeds.{feed-unbroken, comes-unbroken, agrees}
 -- the answers by kinds, of which none has two
 abbrev kind : Answer → ℕ
 kind (refused k) = 0
-kind (toldBroken n k) = 1
-kind toldKept = 2
-kind toldDropped = 1
+kind (brokenAt n k) = 1
+kind keptNow = 2
+kind droppedNow = 1
 kind entered = 3
 kind moved = 3
 kind quiet = 3
@@ -38,10 +38,10 @@ module _ {X : Type 0} {a : Answer} where
   on≢lost : SaysRunsOn a → SaysDroppedOrBroken a → X
   on≢lost p q = let z : _≡_ {A = ℕ} 3 1 = sym (on-kind p) ∙ lost-kind q in absurd (omega arith)
 
-  on≢kept : SaysRunsOn a → a ≡ toldKept → X
+  on≢kept : SaysRunsOn a → a ≡ keptNow → X
   on≢kept p q = let z : _≡_ {A = ℕ} 3 2 = sym (on-kind p) ∙ ap kind q in absurd (omega arith)
 
-  lost≢kept : SaysDroppedOrBroken a → a ≡ toldKept → X
+  lost≢kept : SaysDroppedOrBroken a → a ≡ keptNow → X
   lost≢kept p q = let z : _≡_ {A = ℕ} 1 2 = sym (lost-kind p) ∙ ap kind q in absurd (omega arith)
 
 module _ (C : Chart) (A : Accepted C) where

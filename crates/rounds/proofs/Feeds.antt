@@ -10,7 +10,7 @@ use Rattle.base.specs.Lists.{Snoc, ε, _▸_, size, onFound}
 use Rattle.model.specs.Answers.{mostRecords}
 use Rattle.rounds.specs.Chart.{Chart, Accepted}
 use Rattle.rounds.specs.Rows.{LogRecord, Row, stands, chartMessages, messageRegions, opened, resetMoment, Lawful, Full}
-use Rattle.rounds.specs.Feeds.{lastMoment, refusal, Outcome, Stretch, Last, unended, behind, Ends, Answer, refused, toldBroken, ending, Onward, FedOne, refuses, runs-on, ends, again, Fed, none-yet, one-more}
+use Rattle.rounds.specs.Feeds.{lastMoment, refusal, Outcome, Stretch, Last, unended, lastAfter, Ends, Answer, refused, brokenAt, ending, Onward, FedOne, refuses, runs-on, ends, again, Fed, none-yet, one-more}
 use Rattle.rounds.specs.Machine.{Monitor, Step, opening, goOn, keepRound, dropRound, breakRound, accept, feed, after, answers}
 use Rattle.rounds.specs.Demand3.{Unbroken, Broken, AtLast, Agrees, Meaning}
 use Rattle.base.proofs.Bools.{split}
@@ -36,7 +36,7 @@ module _ (C : Chart) (m : Monitor) (e : LogRecord) where
         ]
       ]
 
-  feed-broken : m .tally .broken .at ≢ 0 → feed C m e ≡ record { answer = toldBroken (m .tally .broken .at) (m .tally .broken .reason); next = m }
+  feed-broken : m .tally .broken .at ≢ 0 → feed C m e ≡ record { answer = brokenAt (m .tally .broken .at) (m .tally .broken .reason); next = m }
   unfolding feed
   feed-broken h = rw (ap not (ne-eqb (m .tally .broken .at) 0 h))
 
@@ -46,7 +46,7 @@ module _ (C : Chart) (A : Accepted C) where
   unfolding Lawful chartMessages messageRegions
   opens t = record { one-for-one = refl; placed = tt; settled = opening-settled C A }
 
-  opens-unbroken : (t : ℕ) (m : Monitor) → m .at .fired ≡ stands ε → m .at .clocks ≡ opened C t → m .tally .broken .at ≡ 0 → m .tally .broken .reason ≡ 0
+  opens-unbroken : (t : ℕ) (m : Monitor) → m .place .fired ≡ stands ε → m .place .clocks ≡ opened C t → m .tally .broken .at ≡ 0 → m .tally .broken .reason ≡ 0
       → Unbroken C t ε m
   unfolding resetMoment
   opens-unbroken t m f c b r = record {
@@ -101,7 +101,7 @@ module _ (C : Chart) (A : Accepted C) where
 
     abbrev Ended : Outcome → Step → Type 0
     Ended x v = StepAgrees (ending x (suc (size rs))) (rs ▸ e)
-        (es ▸ record { opening = o; records = s ▸ e; outcome = x }) (behind x (e .time)) v
+        (es ▸ record { opening = o; records = s ▸ e; outcome = x }) (lastAfter x (e .time)) v
 
     after-ends : {v : Step} → Comes C A o s e q lawful m v → (x : Outcome) → Ends C o s e x → Ended x v
     unfolding keepRound dropRound breakRound opening AtLast
@@ -130,7 +130,7 @@ module _ (C : Chart) (A : Accepted C) where
         })
     after-ends (breaks k d E′) x E = subst (λ (y : Outcome). Ended y (breakRound C m e k d)) (one-outcome C A o s e q lawful E′ E)
         (record {
-          answer = ap (λ (n : ℕ). toldBroken (suc n) k) (G .records);
+          answer = ap (λ (n : ℕ). brokenAt (suc n) k) (G .records);
           next = record {
             now = refl;
             records = ap suc (G .records);
@@ -153,7 +153,7 @@ module _ (C : Chart) (A : Accepted C) where
       rw (feed-unbroken C m e G, h) (after-ends m rs es o s e (T .row) (T .lawful) G (comes-unbroken e m T) x E)
   feed-agrees {rs} {e} m G (again {k}) =
       let T : Broken k rs m = G .at-last in
-      rw (feed-broken C m e (T .not-zero)) (record { answer = ap₂ toldBroken (T .at-last-accepted) (T .of-stretch); next = G })
+      rw (feed-broken C m e (T .not-zero)) (record { answer = ap₂ brokenAt (T .at-last-accepted) (T .of-stretch); next = G })
 
   starts : (answers C ε ≡ ε) × Agrees C ε ε (unended 0 ε) (after C ε)
   unfolding answers after AtLast opened
@@ -179,5 +179,5 @@ module _ (C : Chart) (A : Accepted C) where
       (ap₂ {C = Snoc Answer} (λ l b. l ▸ b) (agrees F .0) (S .answer), S .next)
 
   pub monitor-agrees : {fs : Snoc LogRecord} (M : Meaning C fs)
-      → (answers C fs ≡ M .told) × Agrees C (M .accepted) (M .stretches) (M .last) (after C fs)
+      → (answers C fs ≡ M .ans) × Agrees C (M .accepted) (M .stretches) (M .last) (after C fs)
   monitor-agrees M = agrees (M .fed)

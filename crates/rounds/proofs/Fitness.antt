@@ -12,10 +12,10 @@ use Rattle.rounds.specs.Chart.{Chart, Accepted}
 use Rattle.rounds.specs.Rows.{LogRecord, chartMessage, plain, Ready, values, opened, Full}
 use Rattle.rounds.specs.Tally.{noBreak, countedAs}
 use Rattle.rounds.specs.Feeds.{noReadyRegion, conditionFails}
-use Rattle.rounds.specs.Machine.{Place, Monitor, fresh, Move, stuck, fails, rests, readyPlain, readyFor, fire, unfired, settle, place, opening, full, prechartDone, goOn, keepRound, dropRound, breakRound, conclude, accept, feed, after, Fit}
+use Rattle.rounds.specs.Machine.{Place, Monitor, fresh, Move, stuck, fails, rests, readyPlain, readyFor, fire, unfired, settle, offer, opening, full, prechartDone, goOn, keepRound, dropRound, breakRound, conclude, accept, feed, after, Fit}
 use Rattle.base.proofs.Bools.{split, or-right, either}
 use Rattle.base.proofs.Facts.{found}
-use Rattle.rounds.proofs.Machine.{full-false, ready-lacks, unfired-falls, opening-lacks, opening-settled, plain-some, plain-none, for-some, place-stuck, place-fails, place-fires}
+use Rattle.rounds.proofs.Machine.{full-false, ready-lacks, unfired-falls, opening-lacks, opening-settled, plain-some, plain-none, for-some, offer-stuck, offer-fails, offer-fires}
 
 module _ (C : Chart) (A : Accepted C) where
   record FitPlace (t : ℕ) (p : Place) : Type 0 where
@@ -71,29 +71,29 @@ module _ (C : Chart) (A : Accepted C) where
         ]
   ]
 
-  place-fits : (p : Place) (e : LogRecord) → FitPlace (e .time) p → FitMove (e .time) (place C p e)
+  offer-fits : (p : Place) (e : LogRecord) → FitPlace (e .time) p → FitMove (e .time) (offer C p e)
   unfolding FitMove
-  place-fits p e F = elim (found (readyFor C (p .fired) e)) [
-    | inl n ↦ rw (place-stuck C p e n) tt
+  offer-fits p e F = elim (found (readyFor C (p .fired) e)) [
+    | inl n ↦ rw (offer-stuck C p e n) tt
     | inr f ↦
         let R : Ready C (p .fired) (f .0) = for-some C A (p .fired) e (f .0) (f .1) .0 in
         elim (split (C .condition (f .0) (values C (e .time) (p .clocks)))) [
-          | inl q ↦ rw (place-fires C p e (f .0) (f .1) q)
+          | inl q ↦ rw (offer-fires C p e (f .0) (f .1) q)
               (settle-fits (e .time) (unfired C (fire C (e .time) p (f .0) .fired)) (fire C (e .time) p (f .0))
               (fire-fits (e .time) p (f .0) F R) (omega arith))
-          | inr q ↦ rw (place-fails C p e (f .0) (f .1) q) (F, ready-lacks C (p .fired) (f .0) R)
+          | inr q ↦ rw (offer-fails C p e (f .0) (f .1) q) (F, ready-lacks C (p .fired) (f .0) R)
         ]
   ]
 
   -- an accepted record, counted
   module _ (m : Monitor) (e : LogRecord) (F : Fit C m) (later : m .tally .now ≤ e .time) (room : m .tally .records < mostRecords)
       (unbroken : m .tally .broken .at ≡ 0) where
-    at-now : FitPlace (e .time) (m .at)
+    at-now : FitPlace (e .time) (m .place)
     at-now = record { closed = F .closed; within = F .within; moments = λ c. omega (arith, F .moments c, later); unused = F .unused }
 
-    -- at place p, with k kept and d dropped rounds and no break
+    -- at offer p, with k kept and d dropped rounds and no break
     abbrev unbrokenAt : Place → ℕ → ℕ → Monitor
-    unbrokenAt p k d = record { at = p; tally = countedAs (m .tally) (e .time) k d noBreak }
+    unbrokenAt p k d = record { place = p; tally = countedAs (m .tally) (e .time) k d noBreak }
 
     unbroken-fits : (p : Place) (k d : ℕ) → FitPlace (e .time) p → ¬ Full C (p .fired) → Settled p → k + d ≤ suc (m .tally .records)
         → Fit C (unbrokenAt p k d)
@@ -139,8 +139,8 @@ module _ (C : Chart) (A : Accepted C) where
 
     conclude-fit : (v : Move) → FitMove (e .time) v → Fit C (conclude C m e v .next)
     unfolding FitMove conclude goOn
-    conclude-fit stuck S = elim (split (prechartDone C (m .at .fired))) [
-      | inl q ↦ rw q (break-fit noReadyRegion (m .at) (inl refl) at-now (F .unfinished))
+    conclude-fit stuck S = elim (split (prechartDone C (m .place .fired))) [
+      | inl q ↦ rw q (break-fit noReadyRegion (m .place) (inl refl) at-now (F .unfinished))
       | inr q ↦ rw q drop-fit
     ]
     conclude-fit (fails i p) S = elim (split (C .hot i)) [
@@ -155,8 +155,8 @@ module _ (C : Chart) (A : Accepted C) where
     accept-fit : Fit C (accept C m e .next)
     unfolding accept goOn Settled
     accept-fit = elim (split (chartMessage C e)) [
-      | inl q ↦ rw q (conclude-fit (place C (m .at) e) (place-fits (m .at) e at-now))
-      | inr q ↦ rw q (unbroken-fits (m .at) (m .tally .kept) (m .tally .dropped) at-now (F .unfinished) (F .settled unbroken) (omega (arith, F .counts)))
+      | inl q ↦ rw q (conclude-fit (offer C (m .place) e) (offer-fits (m .place) e at-now))
+      | inr q ↦ rw q (unbroken-fits (m .place) (m .tally .kept) (m .tally .dropped) at-now (F .unfinished) (F .settled unbroken) (omega (arith, F .counts)))
     ]
 
   pub feed-fit : (m : Monitor) (e : LogRecord) → Fit C m → Fit C (feed C m e .next)

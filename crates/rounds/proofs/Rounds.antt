@@ -12,15 +12,15 @@ use borrow.Author.Tests.{lt-ltb}
 use Rattle.base.specs.Lists.{Snoc, ε, _▸_, size, each, EachIn}
 use Rattle.rounds.specs.Chart.{Chart, Accepted}
 use Rattle.rounds.specs.Rows.{LogRecord, Row, stands, chartMessage, chartMessages, messageRegions, Ready, values, momentOf, resetMoment, holds, Placed, Lawful, waived, LawfulButLast, firstFailing}
-use Rattle.rounds.specs.Machine.{Place, Move, stuck, fails, rests, readyPlain, readyFor, unfired, fire, settle, place}
+use Rattle.rounds.specs.Machine.{Place, Move, stuck, fails, rests, readyPlain, readyFor, unfired, fire, settle, offer}
 use Rattle.base.proofs.Bools.{split, clash, or-left}
 use Rattle.base.proofs.Facts.{found, none-some}
-use Rattle.rounds.proofs.Machine.{plain-some, plain-none, for-some, has-message, place-stuck, place-fails, place-fires}
+use Rattle.rounds.proofs.Machine.{plain-some, plain-none, for-some, has-message, offer-stuck, offer-fails, offer-fires}
 use Rattle.rounds.proofs.Moments.{chartMessages-take, messageRegions-take, messageRegions-skip, momentOf-last, resetMoment-earlier, holds-earlier, retest}
 use Rattle.rounds.proofs.Settling.{RowMove, failsAt, restsAt, settleRow, Plains, stop, more, Result, resting, failing, free, placed-plain, settling, plains-placed, plains-messages}
 use Rattle.rounds.proofs.Rows.{codes, as-many, placed-waived, waived-early, through, one-row}
 
--- the place that a row shows
+-- the offer that a row shows
 unfoldable pub placeOf : Chart → ℕ → Snoc LogRecord → Row → Place
 placeOf C o l r = record { fired = stands r; clocks = resetMoment C o l r }
 
@@ -192,25 +192,25 @@ module _ (C : Chart) (A : Accepted C) (o : ℕ) (s : Snoc LogRecord) (e : LogRec
         (rw (messageRegions-skip C r i (plain-some C A (stands r) i f .is-plain), plains-messages C A strict w) codes-m)
         (plain-last last-m w f)
 
-    place-settles : So (strict q m) → place C (placeOf C o l q) e ≡ asMove C o l (settleRow C strict (free C (q ▸ m)) (q ▸ m))
+    place-settles : So (strict q m) → offer C (placeOf C o l q) e ≡ asMove C o l (settleRow C strict (free C (q ▸ m)) (q ▸ m))
     unfolding free placeOf
-    place-settles t = place-fires C (placeOf C o l q) e m fits (sym (tests-same C o l (e .time) q m (now (q ▸ m) last-m)) ∙ t)
+    place-settles t = offer-fires C (placeOf C o l q) e m fits (sym (tests-same C o l (e .time) q m (now (q ▸ m) last-m)) ∙ t)
         ∙ ap (λ (p : Place). settle C (e .time) (unfired C (p .fired)) p) (fire-is C o l (e .time) q m (now (q ▸ m) last-m))
         ∙ settle-is C o l (e .time) A (unfired C (stands (q ▸ m))) (q ▸ m) (now (q ▸ m) last-m)
 
-    means-for : Means C o s q e (place C (placeOf C o l q) e)
+    means-for : Means C o s q e (offer C (placeOf C o l q) e)
     unfolding placeOf
     means-for = elim (split (strict q m)) [
       | inl t ↦ rw (place-settles t) (means-settled (settleRow C strict (free C (q ▸ m)) (q ▸ m)) t (settling C A strict (q ▸ m)))
-      | inr t ↦ rw (place-fails C (placeOf C o l q) e m fits (sym (tests-same C o l (e .time) q m (now (q ▸ m) last-m)) ∙ t))
+      | inr t ↦ rw (offer-fails C (placeOf C o l q) e m fits (sym (tests-same C o l (e .time) q m (now (q ▸ m) last-m)) ∙ t))
           (fails-here q m placed-q (placed-m loose (waived-last q m last-m)) t codes-m last-m)
     ]
 
   -- the machine's move on a chart message, after the lawful row of the stretch so far
-  pub move-means : Means C o s q e (place C (placeOf C o (chartMessages C s) q) e)
+  pub move-means : Means C o s q e (offer C (placeOf C o (chartMessages C s) q) e)
   unfolding LawfulButLast placeOf
   move-means = rw (← place-q) (elim (found (readyFor C (stands q) e)) [
-    | inl n ↦ rw (place-stuck C (placeOf C o l q) e n) (unplaced
+    | inl n ↦ rw (offer-stuck C (placeOf C o l q) e n) (unplaced
         (λ r M. none-some n (through C A o s e chart q only loose r (waived-early C o s e chart) M .fits)))
     | inr f ↦ means-for (f .0) (f .1)
   ])

@@ -5,7 +5,7 @@ use Prim.Native.Nat.{ℕ}
 use Rattle.base.specs.Lists.{Snoc, ε, _▸_, EachIn, all-of-it, shorter}
 use Rattle.rounds.specs.Chart.{Chart, Accepted}
 use Rattle.rounds.specs.Rows.{LogRecord, Row, stands, Lawful, Full}
-use Rattle.rounds.specs.Feeds.{Outcome, kept, dropped, broken, Stretch, Last, unended, behindBreak, behind, Answer, FedOne, refuses, runs-on, ends, again, Fed, none-yet, one-more}
+use Rattle.rounds.specs.Feeds.{Outcome, kept, dropped, broken, Stretch, Last, unended, afterBreak, lastAfter, Answer, FedOne, refuses, runs-on, ends, again, Fed, none-yet, one-more}
 use Rattle.rounds.specs.Demand3.{RunsOn, Ended, Meaning}
 use Rattle.rounds.proofs.Machine.{opening-lacks}
 use Rattle.rounds.proofs.Feeds.{opens}
@@ -25,9 +25,9 @@ module _ (C : Chart) (A : Accepted C) where
   -- what runs on in the last stretch
   abbrev AtLast : Last → Type 0
   AtLast (unended o s) = RunsOn C o s
-  AtLast (behindBreak k) = Unit {0}
+  AtLast (afterBreak k) = Unit {0}
 
-  behind-it : (x : Outcome) (t : ℕ) → AtLast (behind x t)
+  behind-it : (x : Outcome) (t : ℕ) → AtLast (lastAfter x t)
   behind-it kept t = opened t
   behind-it dropped t = opened t
   behind-it (broken k) t = tt

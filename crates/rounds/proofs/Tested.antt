@@ -12,7 +12,7 @@ use borrow.Author.Tests.{ltb-true, leb-true}
 use Rattle.base.specs.Lists.{Snoc, ε, _▸_, each, EachIn, onFound}
 use Rattle.rounds.specs.Chart.{Chart, Accepted}
 use Rattle.rounds.specs.Rows.{LogRecord, Row, stands, chartMessage, chartMessages, plain, messageRegions, Ready, holds, Placed, LawfulIf, Lawful, waived, LawfulButLast}
-use Rattle.rounds.specs.Machine.{Move, stuck, ready, readyPlain, place}
+use Rattle.rounds.specs.Machine.{Move, stuck, ready, readyPlain, offer}
 use Rattle.base.proofs.Bools.{and-left, and-right}
 use Rattle.base.proofs.Facts.{found}
 use Rattle.rounds.proofs.Machine.{ready-true, plain-some, plain-none}
@@ -85,7 +85,7 @@ module _ (C : Chart) (A : Accepted C) (o : ℕ) (s : Snoc LogRecord) where
 module _ (C : Chart) (A : Accepted C) (o : ℕ) (s : Snoc LogRecord) (e : LogRecord) (q : Row) (lawful : Lawful C o s q)
     (chart : So (chartMessage C e)) where
   abbrev move : Move
-  move = place C (placeOf C o (chartMessages C s) q) e
+  move = offer C (placeOf C o (chartMessages C s) q) e
 
   means : {v : Move} → move ≡ v → Means C o s q e v
   means p = rw p at (move-means C A o s e chart q lawful)

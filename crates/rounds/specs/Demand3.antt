@@ -7,7 +7,7 @@ use Rattle.base.specs.Lists.{Snoc, _▸_, size, EachIn, Beginning}
 use Rattle.rounds.specs.Chart.{Chart}
 use Rattle.rounds.specs.Rows.{LogRecord, Row, stands, chartMessages, resetMoment, Lawful, Full}
 use Rattle.rounds.specs.Rows.{LawfulButLast}
-use Rattle.rounds.specs.Feeds.{lastMoment, refusal, Stretch, Last, unended, behindBreak, Ends, Answer, Fed}
+use Rattle.rounds.specs.Feeds.{lastMoment, refusal, Stretch, Last, unended, afterBreak, Ends, Answer, Fed}
 use Rattle.rounds.specs.Feeds.{keptAmong, droppedAmong, Exactly}
 use Rattle.rounds.specs.Machine.{Monitor, feed, after, answers, Fit}
 
@@ -23,15 +23,15 @@ module _ (C : Chart) where
     pub row : Row
     pub lawful : Lawful C o s row
     pub lacks-one : ¬ Full C (stands row)
-    pub has-fired : m .at .fired ≡ stands row
-    pub has-clocks : m .at .clocks ≡ resetMoment C o (chartMessages C s) row
+    pub has-fired : m .place .fired ≡ stands row
+    pub has-clocks : m .place .clocks ≡ resetMoment C o (chartMessages C s) row
     pub no-break : m .tally .broken .at ≡ 0
     pub no-reason : m .tally .broken .reason ≡ 0
 
   -- what the monitor holds of the last stretch
   unfoldable pub AtLast : Last → Snoc LogRecord → Monitor → Type 0
   AtLast (unended o s) rs m = Unbroken o s m
-  AtLast (behindBreak k) rs m = Broken k rs m
+  AtLast (afterBreak k) rs m = Broken k rs m
 
   -- W26: counts and time, each as the accepted records and the stretches have it; the rest by W27 and W28
   pub record Agrees (rs : Snoc LogRecord) (es : Snoc Stretch) (last : Last) (m : Monitor) : Type 0 where
@@ -55,14 +55,14 @@ module _ (C : Chart) where
 
   -- What a list of feeds means: its answers, the accepted records, the ended stretches and what follows them.
   pub record Meaning (fs : Snoc LogRecord) : Type 0 where
-    pub told : Snoc Answer
+    pub ans : Snoc Answer
     pub accepted : Snoc LogRecord
     pub stretches : Snoc Stretch
     pub last : Last
-    pub fed : Fed C fs told accepted stretches last
+    pub fed : Fed C fs ans accepted stretches last
 
   pub record Same {fs : Snoc LogRecord} (M M′ : Meaning fs) : Type 0 where
-    pub same-told : M .told ≡ M′ .told
+    pub same-answers : M .ans ≡ M′ .ans
     pub same-accepted : M .accepted ≡ M′ .accepted
     pub same-stretches : M .stretches ≡ M′ .stretches
     pub same-last : M .last ≡ M′ .last
@@ -86,7 +86,7 @@ pub record Demand3 (C : Chart) : Type 0 where
       → LawfulButLast C o s e r → LawfulButLast C o s e r′ → r ≡ r′
   -- W22 to W28: every answer, and the monitor in the end
   pub monitor-agrees : {fs : Snoc LogRecord} (M : Meaning C fs)
-      → (answers C fs ≡ M .told) × Agrees C (M .accepted) (M .stretches) (M .last) (after C fs)
+      → (answers C fs ≡ M .ans) × Agrees C (M .accepted) (M .stretches) (M .last) (after C fs)
   -- no other tally agrees, and if the last stretch has no end, no other monitor
   pub agrees-only : {fs : Snoc LogRecord} (M : Meaning C fs) (m : Monitor)
       → Agrees C (M .accepted) (M .stretches) (M .last) m

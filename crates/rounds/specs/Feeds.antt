@@ -43,13 +43,13 @@ pub record Stretch : Type 0 where
 -- W16: what follows the ended stretches, with its opening and records; or, after a broken one, nothing but the reason.
 pub data Last : Type 0 where
   unended : ℕ → Snoc LogRecord → Last
-  behindBreak : ℕ → Last
+  afterBreak : ℕ → Last
 
 -- W15: where the next stretch opens
-abbrev pub behind : Outcome → ℕ → Last
-behind kept t = unended t ε
-behind dropped t = unended t ε
-behind (broken k) t = behindBreak k
+abbrev pub lastAfter : Outcome → ℕ → Last
+lastAfter kept t = unended t ε
+lastAfter dropped t = unended t ε
+lastAfter (broken k) t = afterBreak k
 
 module _ (C : Chart) where
   -- W14: the stretch s and then e ends with e, in this outcome.
@@ -71,14 +71,14 @@ module _ (C : Chart) where
 -- N9, T27: what a feed is answered
 pub data Answer : Type 0 where
   refused : ℕ → Answer
-  toldBroken : ℕ → ℕ → Answer
-  toldKept toldDropped entered moved quiet : Answer
+  brokenAt : ℕ → ℕ → Answer
+  keptNow droppedNow entered moved quiet : Answer
 
 -- W22: the answer where a stretch ends, at the n-th accepted record
 abbrev pub ending : Outcome → ℕ → Answer
-ending kept n = toldKept
-ending dropped n = toldDropped
-ending (broken k) n = toldBroken n k
+ending kept n = keptNow
+ending dropped n = droppedNow
+ending (broken k) n = brokenAt n k
 
 module _ (C : Chart) where
   -- W23: the answer where the round runs on, from row q to row r
@@ -101,9 +101,9 @@ module _ (C : Chart) where
     ends : {o : ℕ} {s : Snoc LogRecord} → refusal rs e ≡ none
         → (x : Outcome) → Ends C o s e x
         → FedOne rs es e (unended o s) (ending x (suc (size rs))) (rs ▸ e)
-        (es ▸ record { opening = o; records = s ▸ e; outcome = x }) (behind x (e .time))
+        (es ▸ record { opening = o; records = s ▸ e; outcome = x }) (lastAfter x (e .time))
     -- W25: after a break the answer is the same again
-    again : {k : ℕ} → FedOne rs es e (behindBreak k) (toldBroken (size rs) k) rs es (behindBreak k)
+    again : {k : ℕ} → FedOne rs es e (afterBreak k) (brokenAt (size rs) k) rs es (afterBreak k)
 
   -- W10, W13: a whole list of feeds, with its answers, the accepted records, the ended stretches and what follows them.
   pub data Fed : Snoc LogRecord → Snoc Answer → Snoc LogRecord → Snoc Stretch → Last → Type 0 where
@@ -135,12 +135,12 @@ abbrev pub SaysRunsOn : Answer → Type 0
 SaysRunsOn a = (a ≡ entered) ⊎ (a ≡ moved) ⊎ (a ≡ quiet)
 
 abbrev pub SaysDroppedOrBroken : Answer → Type 0
-SaysDroppedOrBroken a = (a ≡ toldDropped) ⊎ ((n : ℕ) × (k : ℕ) × (a ≡ toldBroken n k))
+SaysDroppedOrBroken a = (a ≡ droppedNow) ⊎ ((n : ℕ) × (k : ℕ) × (a ≡ brokenAt n k))
 
 -- W24, of the answer to record e after the stretch s
 pub record Exactly (C : Chart) (o : ℕ) (s : Snoc LogRecord) (e : LogRecord) (a : Answer) : Type 0 where
   -- kept: some lawful row is complete
-  pub kept-exactly : (a ≡ toldKept) ↔ ((r : Row) × Lawful C o (s ▸ e) r × Full C (stands r))
+  pub kept-exactly : (a ≡ keptNow) ↔ ((r : Row) × Lawful C o (s ▸ e) r × Full C (stands r))
   -- running on: some lawful row is not
   pub runs-on-exactly : SaysRunsOn a ↔ ((r : Row) × Lawful C o (s ▸ e) r × (¬ Full C (stands r)))
   -- dropped or broken: no row is lawful

@@ -11,28 +11,28 @@ use Rattle.rounds.specs.Chart.{Chart}
 use Rattle.rounds.specs.Rows.{LogRecord, chartMessage, plain, Ready, Full, values, opened}
 use Rattle.rounds.specs.Tally.{Tally, freshTally, counted, countedKept, countedDropped, countedBroken}
 use Rattle.rounds.specs.Feeds.{noReadyRegion, conditionFails, Answer}
-use Rattle.rounds.specs.Feeds.{refused, toldBroken, toldKept, toldDropped, entered, moved, quiet}
+use Rattle.rounds.specs.Feeds.{refused, brokenAt, keptNow, droppedNow, entered, moved, quiet}
 
 -- T1: which regions are fired, and when each clock was last reset
 pub record Place : Type 0 where
   pub fired : ℕ → Bool
   pub clocks : ℕ → ℕ
 
--- T1: a place, and the tally with now, the counts and the break
+-- T1: a offer, and the tally with now, the counts and the break
 pub record Monitor : Type 0 where
-  pub at : Place
+  pub place : Place
   pub tally : Tally
 
 -- T2: no region is fired, and every number is 0
 abbrev pub fresh : Monitor
-fresh = record { at = record { fired = λ i. false; clocks = λ c. 0 }; tally = freshTally }
+fresh = record { place = record { fired = λ i. false; clocks = λ c. 0 }; tally = freshTally }
 
 -- what a feed gives
 pub record Step : Type 0 where
   pub answer : Answer
   pub next : Monitor
 
--- what steps 3 and 4 come to: no ready region has the message; a region's condition fails, at the place before it; or
+-- what steps 3 and 4 come to: no ready region has the message; a region's condition fails, at the offer before it; or
 -- nothing more is ready
 pub data Move : Type 0 where
   stuck : Move
@@ -68,8 +68,8 @@ module _ (C : Chart) where
       (λ i. cond (C .condition i (values C t (p .clocks))) (settle t k (fire t p i)) (fails i p))
 
   -- T11, T12: the message's region is tested and fired, its resets come after the test; then T13
-  unfoldable pub place : Place → LogRecord → Move
-  place p e = onFound (readyFor (p .fired) e) stuck
+  unfoldable pub offer : Place → LogRecord → Move
+  offer p e = onFound (readyFor (p .fired) e) stuck
       (λ i. cond (C .condition i (values C (e .time) (p .clocks)))
       (let q = fire (e .time) p i in settle (e .time) (unfired (q .fired)) q)
       (fails i p))
@@ -86,46 +86,46 @@ module _ (C : Chart) where
   unfoldable pub prechartDone : (ℕ → Bool) → Bool
   prechartDone fired = allBelow (C .prechart) fired
 
-  -- Each of the four that follow counts the record and moves now (T9). The round runs on at place p:
+  -- Each of the four that follow counts the record and moves now (T9). The round runs on at offer p:
   unfoldable pub goOn : Monitor → LogRecord → Answer → Place → Step
-  goOn m e a p = record { answer = a; next = record { at = p; tally = counted (m .tally) (e .time) } }
+  goOn m e a p = record { answer = a; next = record { place = p; tally = counted (m .tally) (e .time) } }
 
   -- T17, T18: one more round is kept, or dropped, and another opens
   unfoldable pub keepRound : Monitor → LogRecord → Step
   keepRound m e = record {
-    answer = toldKept;
-    next = record { at = opening (e .time); tally = countedKept (m .tally) (e .time) };
+    answer = keptNow;
+    next = record { place = opening (e .time); tally = countedKept (m .tally) (e .time) };
   }
 
   unfoldable pub dropRound : Monitor → LogRecord → Step
   dropRound m e = record {
-    answer = toldDropped;
-    next = record { at = opening (e .time); tally = countedDropped (m .tally) (e .time) };
+    answer = droppedNow;
+    next = record { place = opening (e .time); tally = countedDropped (m .tally) (e .time) };
   }
 
-  -- T23 to T25: the break has this record and reason k, and place p stays
+  -- T23 to T25: the break has this record and reason k, and offer p stays
   unfoldable pub breakRound : Monitor → LogRecord → ℕ → Place → Step
   breakRound m e k p = record {
-    answer = toldBroken (suc (m .tally .records)) k;
-    next = record { at = p; tally = countedBroken (m .tally) (e .time) k };
+    answer = brokenAt (suc (m .tally .records)) k;
+    next = record { place = p; tally = countedBroken (m .tally) (e .time) k };
   }
 
   -- T18, T19: stuck, which is a drop or a break by the phase. T21: a condition fails, cold or hot. T17: at rest with
   -- all regions fired; else T28, T29.
   unfoldable pub conclude : Monitor → LogRecord → Move → Step
-  conclude m e stuck = cond (prechartDone (m .at .fired)) (breakRound m e noReadyRegion (m .at)) (dropRound m e)
+  conclude m e stuck = cond (prechartDone (m .place .fired)) (breakRound m e noReadyRegion (m .place)) (dropRound m e)
   conclude m e (fails i p) = cond (C .hot i) (breakRound m e conditionFails p) (dropRound m e)
   conclude m e (rests p) = cond (full (p .fired)) (keepRound m e)
-      (goOn m e (cond (not (prechartDone (m .at .fired)) && prechartDone (p .fired)) entered moved) p)
+      (goOn m e (cond (not (prechartDone (m .place .fired)) && prechartDone (p .fired)) entered moved) p)
 
   -- T10: only a chart message does more than count
   unfoldable pub accept : Monitor → LogRecord → Step
-  accept m e = cond (chartMessage C e) (conclude m e (place (m .at) e)) (goOn m e quiet (m .at))
+  accept m e = cond (chartMessage C e) (conclude m e (offer (m .place) e)) (goOn m e quiet (m .place))
 
   -- M12 to M14: broken again, 22 or 23, each with the monitor unchanged; or the record is taken
   unfoldable pub feed : Monitor → LogRecord → Step
   feed m e = cond (not (eqb (m .tally .broken .at) 0))
-      (record { answer = toldBroken (m .tally .broken .at) (m .tally .broken .reason); next = m })
+      (record { answer = brokenAt (m .tally .broken .at) (m .tally .broken .reason); next = m })
       (cond (ltb (e .time) (m .tally .now)) (record { answer = refused timeFalls; next = m })
       (cond (leb mostRecords (m .tally .records)) (record { answer = refused tooManyRecords; next = m })
       (accept m e)))
@@ -142,16 +142,16 @@ module _ (C : Chart) where
 -- M10: the monitor fits the chart.
 pub record Fit (C : Chart) (m : Monitor) : Type 0 where
   -- the fired regions are a cut (O7)
-  pub closed : (i a : ℕ) → So (m .at .fired i) → So (C .above a i) → So (m .at .fired a)
+  pub closed : (i a : ℕ) → So (m .place .fired i) → So (C .above a i) → So (m .place .fired a)
   -- and regions of the chart
-  pub within : (i : ℕ) → So (m .at .fired i) → i < C .regions
+  pub within : (i : ℕ) → So (m .place .fired i) → i < C .regions
   -- one is left to fire
-  pub unfinished : ¬ Full C (m .at .fired)
+  pub unfinished : ¬ Full C (m .place .fired)
   -- there is a break, or no plain region could fire
-  pub settled : m .tally .broken .at ≡ 0 → (j : ℕ) → So (plain C j) → ¬ Ready C (m .at .fired) j
+  pub settled : m .tally .broken .at ≡ 0 → (j : ℕ) → So (plain C j) → ¬ Ready C (m .place .fired) j
   -- no reset lies in the future; a clock that the chart lacks has 0
-  pub moments : (c : ℕ) → m .at .clocks c ≤ m .tally .now
-  pub unused : (c : ℕ) → C .clocks ≤ c → m .at .clocks c ≡ 0
+  pub moments : (c : ℕ) → m .place .clocks c ≤ m .tally .now
+  pub unused : (c : ℕ) → C .clocks ≤ c → m .place .clocks c ≡ 0
   -- no more records than there can be
   pub few : m .tally .records ≤ mostRecords
   -- no more rounds have ended than records came

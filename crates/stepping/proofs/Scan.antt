@@ -14,7 +14,7 @@ use Rattle.base.specs.Lists.{first, someBelow}
 use Rattle.rounds.specs.Chart.{Chart}
 use Rattle.rounds.specs.Rows.{LogRecord, chartMessage, Ready}
 use Rattle.rounds.specs.Feeds.{quiet}
-use Rattle.rounds.specs.Machine.{Monitor as AbstractMonitor, Step, stuck, readyFor, place, goOn, conclude, accept}
+use Rattle.rounds.specs.Machine.{Monitor as AbstractMonitor, Step, stuck, readyFor, offer, goOn, conclude, accept}
 use Rattle.base.proofs.Bools.{split, and-left}
 use Rattle.base.proofs.Facts.{found, first-some}
 use Rattle.rounds.proofs.Machine.{for-some}
@@ -41,21 +41,21 @@ not-ready false e = absurd (let z : _≡_ {A = ℕ} 0 1 = cc in omega arith)
 module _ (C : Chart) (m : AbstractMonitor) (e : LogRecord) where
   -- step 2, and steps 3 and 6 with what the regions have for the record's message
   unfoldable pub afterScan : Sought → Step
-  afterScan (ReadyAt i) = conclude C m e (takenAt C (e .time) (m .at) i)
+  afterScan (ReadyAt i) = conclude C m e (takenAt C (e .time) (m .place) i)
   afterScan Unready = conclude C m e stuck
-  afterScan Foreign = goOn C m e quiet (m .at)
+  afterScan Foreign = goOn C m e quiet (m .place)
 
 module _ {h : Head} {keys above resets terms : List ℕ} (K : Compiled h keys above resets terms) (m : Monitor) (code t : ℕ) where
-  ready-for : readyFor (planChart h keys above resets terms) (contains (m .at .fired)) (recordOf code t)
-      ≡ theReady keys above (h .count) (m .at .fired) code
+  ready-for : readyFor (planChart h keys above resets terms) (contains (m .place .fired)) (recordOf code t)
+      ≡ theReady keys above (h .count) (m .place .fired) code
   unfolding readyFor
-  ready-for = sym (first-same (h .count) _ _ (λ i l. ap (λ (b : Bool). eqb (getD keys i 0) code && b) (ready-same K (m .at .fired) i l)))
+  ready-for = sym (first-same (h .count) _ _ (λ i l. ap (λ (b : Bool). eqb (getD keys i 0) code && b) (ready-same K (m .place .fired) i l)))
 
   pub accept-scan : eqb code 0 ≡ false
       → accept (planChart h keys above resets terms) (monitorAt m) (recordOf code t)
-      ≡ afterScan (planChart h keys above resets terms) (monitorAt m) (recordOf code t) (soughtBy keys above (h .count) (m .at .fired) code)
-  unfolding accept place chartMessage soughtBy afterScan
-  accept-scan z = elim (found (theReady keys above (h .count) (m .at .fired) code)) [
+      ≡ afterScan (planChart h keys above resets terms) (monitorAt m) (recordOf code t) (soughtBy keys above (h .count) (m .place .fired) code)
+  unfolding accept offer chartMessage soughtBy afterScan
+  accept-scan z = elim (found (theReady keys above (h .count) (m .place .fired) code)) [
     | inl n ↦ elim (split (someHas keys (h .count) code)) [
       | inl s ↦ rw (z, s, ready-for, n)
       | inr s ↦ rw (z, s, n)
@@ -63,14 +63,14 @@ module _ {h : Head} {keys above resets terms : List ℕ} (K : Compiled h keys ab
     | inr f ↦ rw (z, has (f .0) (f .1), ready-for, f .1)
   ]
     where
-      has : (i : ℕ) → theReady keys above (h .count) (m .at .fired) code ≡ some i
+      has : (i : ℕ) → theReady keys above (h .count) (m .place .fired) code ≡ some i
           → someHas keys (h .count) code ≡ true
       has i f = let L = first-some (h .count) _ i f in one-passes (λ i. eqb (getD keys i 0) code) i (h .count) (L .below) (and-left _ _ (L .passes))
 
-  pub sought-ready : {o : Sought} {i : ℕ} → o ≡ soughtBy keys above (h .count) (m .at .fired) code → o ≡ ReadyAt i
-      → Ready (planChart h keys above resets terms) (contains (m .at .fired)) i
+  pub sought-ready : {o : Sought} {i : ℕ} → o ≡ soughtBy keys above (h .count) (m .place .fired) code → o ≡ ReadyAt i
+      → Ready (planChart h keys above resets terms) (contains (m .place .fired)) i
   unfolding soughtBy
-  sought-ready {i = i} r e = let q = sym r ∙ e in elim (found (theReady keys above (h .count) (m .at .fired) code)) [
+  sought-ready {i = i} r e = let q = sym r ∙ e in elim (found (theReady keys above (h .count) (m .place .fired) code)) [
     | inl n ↦ not-ready (someHas keys (h .count) code) (rw n at q)
     | inr f ↦
         let g : ReadyAt (f .0) ≡ ReadyAt i = rw (f .1) at q in

@@ -13,13 +13,13 @@ use Rattle.rounds.specs.Machine.{fresh}
 use Rattle.firing.specs.Places.{momentsOf}
 use Rattle.stepping.specs.Monitors.{monitorAt}
 
-zero-moments : (k : ℕ) → momentsOf (zeroMonitor .at .resets) k ≡ 0
+zero-moments : (k : ℕ) → momentsOf (zeroMonitor .place .resets) k ≡ 0
 zero-moments k = by (decLt k mostClocks)
   where
     zero : Moment
     zero = record { 0 = 0 }
 
-    by : Dec (k < mostClocks) → momentsOf (zeroMonitor .at .resets) k ≡ 0
+    by : Dec (k < mostClocks) → momentsOf (zeroMonitor .place .resets) k ≡ 0
     by (yes h) = ap (λ (x : Moment). x .0) (getD-replicate mostClocks k (record { 0 = 0 }) (record { 0 = 0 }) h)
     by (no h) =
         let l : length (replicate {A = Moment} mostClocks (record { 0 = 0 })) ≤ k = simp length-replicate (omega arith) in
@@ -27,6 +27,6 @@ zero-moments k = by (decLt k mostClocks)
 
 pub zero-fresh : monitorAt zeroMonitor ≡ fresh
 zero-fresh = λ i. record {
-  at = record { fired = fun-ext contains-empty i; clocks = fun-ext zero-moments i };
+  place = record { fired = fun-ext contains-empty i; clocks = fun-ext zero-moments i };
   tally = freshTally;
 }

@@ -6,15 +6,15 @@ use Rattle.model.specs.declared.FeedRefusal.{FeedRefusal}
 use Rattle.model.specs.declared.Answer.{Answer}
 use Rattle.model.specs.declared.Answer.the-variants.{Refused, Broken, Kept, Dropped, Entered, Moved, Quiet}
 use Rattle.model.specs.Answers.{feedRefusalNumber}
-use Rattle.rounds.specs.Feeds.{Answer as AbstractAnswer, refused, toldBroken}
-use Rattle.rounds.specs.Feeds.{toldKept, toldDropped, entered, moved, quiet}
+use Rattle.rounds.specs.Feeds.{Answer as AbstractAnswer, refused, brokenAt}
+use Rattle.rounds.specs.Feeds.{keptNow, droppedNow, entered, moved, quiet}
 use Rattle.stepping.specs.declared.Step.{Step}
 
 abbrev pub answerOf : Answer → AbstractAnswer
 answerOf (Refused k) = refused (feedRefusalNumber k)
-answerOf (Broken n k) = toldBroken n k
-answerOf Kept = toldKept
-answerOf Dropped = toldDropped
+answerOf (Broken n k) = brokenAt n k
+answerOf Kept = keptNow
+answerOf Dropped = droppedNow
 answerOf Entered = entered
 answerOf Moved = moved
 answerOf Quiet = quiet

@@ -25,7 +25,7 @@ tallyAt x = record {
 
 -- a stored monitor
 abbrev pub monitorAt : Monitor → AbstractMonitor
-monitorAt m = record { at = placeAt (m .at); tally = tallyAt (m .tally) }
+monitorAt m = record { place = placeAt (m .place); tally = tallyAt (m .tally) }
 
 -- an answer with the monitor after it
 abbrev pub stepOf : Step → AbstractStep

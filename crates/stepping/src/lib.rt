@@ -98,7 +98,7 @@ fn go_on(m: Monitor, t: Moment, answer: Answer, place: Place) -> Step
     let tally = counted(m.tally, t);
     Step {
         answer,
-        next: Monitor { at: place, tally },
+        next: Monitor { place, tally },
     }
 }
 
@@ -109,11 +109,11 @@ fn keep_round(clocks: usize, m: Monitor, t: Moment) -> Step
     ensures { λ r. ⌜ ((C : Chart) (code : ℕ) → C .clocks ≡ clocks
         → stepOf r ≡ keepRound C (monitorAt m) (recordOf code (t .0))) ⌝ }
 {
-    let at = firing::opening(clocks, t);
+    let place = firing::opening(clocks, t);
     let tally = counted_kept(m.tally, t);
     Step {
         answer: Answer::Kept,
-        next: Monitor { at, tally },
+        next: Monitor { place, tally },
     }
 }
 
@@ -124,11 +124,11 @@ fn drop_round(clocks: usize, m: Monitor, t: Moment) -> Step
     ensures { λ r. ⌜ ((C : Chart) (code : ℕ) → C .clocks ≡ clocks
         → stepOf r ≡ dropRound C (monitorAt m) (recordOf code (t .0))) ⌝ }
 {
-    let at = firing::opening(clocks, t);
+    let place = firing::opening(clocks, t);
     let tally = counted_dropped(m.tally, t);
     Step {
         answer: Answer::Dropped,
-        next: Monitor { at, tally },
+        next: Monitor { place, tally },
     }
 }
 
@@ -141,7 +141,7 @@ fn break_round(m: Monitor, t: Moment, reason: u8, place: Place) -> Step
     let tally = counted_broken(m.tally, t, reason);
     Step {
         answer: Answer::Broken(tally.broken.at, reason),
-        next: Monitor { at: place, tally },
+        next: Monitor { place, tally },
     }
 }
 
@@ -162,9 +162,9 @@ fn unplaced(h: Head, m: Monitor, t: Moment) -> Step
     ensures { λ r. ⌜ ((keys above resets terms : List ℕ) (code : ℕ)
         → stepOf r ≡ concluded (planChart h keys above resets terms) (monitorAt m) (recordOf code (t .0)) stuck) ⌝ }
 {
-    let at = m.at;
-    if firing::all_fired(h.prechart, at.fired) {
-        return break_round(m, t, NO_READY_REGION, at);
+    let place = m.place;
+    if firing::all_fired(h.prechart, place.fired) {
+        return break_round(m, t, NO_READY_REGION, place);
     }
     drop_round(h.clocks, m, t)
 }
@@ -180,7 +180,7 @@ fn conclude(h: Head, m: Monitor, t: Moment, s: Settled) -> Step
 {
     let rest = s.rest;
     let place = s.place;
-    let at = m.at;
+    let from = m.place;
     match rest {
         Rest::Fails(i) => {
             if bitset::member(h.hot, i as u32) {
@@ -192,7 +192,7 @@ fn conclude(h: Head, m: Monitor, t: Moment, s: Settled) -> Step
             if firing::all_fired(h.count, place.fired) {
                 return keep_round(h.clocks, m, t);
             }
-            let before = firing::all_fired(h.prechart, at.fired);
+            let before = firing::all_fired(h.prechart, from.fired);
             let after = firing::all_fired(h.prechart, place.fired);
             go_on(m, t, entered_or_moved(before, after), place)
         }
@@ -214,22 +214,22 @@ pub fn accept<'a>(
 ) -> Step
     requires { ⌜ Compiled h (now keys) (now above) (now resets) (now terms) ⌝ }
     requires { ⌜ (m .tally .records < mostRecords) × (m .tally .kept + m .tally .dropped ≤ m .tally .records) ⌝ }
-    requires { ⌜ ((c : ℕ) → momentsOf (m .at .resets) c ≤ t .0) ⌝ }
+    requires { ⌜ ((c : ℕ) → momentsOf (m .place .resets) c ≤ t .0) ⌝ }
     requires { ⌜ Covers (h .count) (now keys) code among ⌝ }
     ensures { λ r. ⌜ stepOf r
         ≡ accepted (planChart h (now (keys .entry)) (now (above .entry)) (now (resets .entry)) (now (terms .entry)))
         (monitorAt m) (recordOf code (t .0)) ⌝ }
 {
-    let at = m.at;
+    let place = m.place;
     if code == 0 {
-        return go_on(m, t, Answer::Quiet, at);
+        return go_on(m, t, Answer::Quiet, place);
     }
-    let sought = firing::seek(keys, above, among, at.fired, code);
+    let sought = firing::seek(keys, above, among, place.fired, code);
     match sought {
-        Sought::Foreign => go_on(m, t, Answer::Quiet, at),
+        Sought::Foreign => go_on(m, t, Answer::Quiet, place),
         Sought::Unready => unplaced(h, m, t),
         Sought::Ready(i) => {
-            let s = firing::take_region(h, keys, above, resets, terms, at, i, t);
+            let s = firing::take_region(h, keys, above, resets, terms, place, i, t);
             conclude(h, m, t, s)
         }
     }

@@ -19,20 +19,20 @@ sets-append l i (a ∷ t) u =
 -- one text after another
 pub then : {l t m u k : List ℕ} {i j n : ℕ} → Wrote l i t m j → Wrote m j u k n → Wrote l i (t ++ u) k n
 then {l} {t} {m} {u} {k} {i} {j} {n} a b = record {
-  place = omega (arith, a .place, b .place, length-append t u);
+  next = omega (arith, a .next, b .next, length-append t u);
   bytes =
       b .bytes
       ∙ ap (λ (x : List ℕ). sets x j u) (a .bytes)
-      ∙ ap (λ (x : ℕ). sets (sets l i t) x u) (a .place)
+      ∙ ap (λ (x : ℕ). sets (sets l i t) x u) (a .next)
       ∙ sym (sets-append l i t u);
   size = b .size ∙ a .size;
 }
 
 pub nothing : (l : List ℕ) (i j : ℕ) → j ≡ i → Wrote l i [] l j
-nothing l i j e = record { place = e ∙ sym (add-zero i); bytes = refl; size = refl }
+nothing l i j e = record { next = e ∙ sym (add-zero i); bytes = refl; size = refl }
 
 pub one : (l : List ℕ) (i a j : ℕ) → j ≡ i + 1 → Wrote l i (a ∷ []) (set l i a) j
-one l i a j e = record { place = e; bytes = refl; size = length-set l i a }
+one l i a j e = record { next = e; bytes = refl; size = length-set l i a }
 
 -- the same text, written otherwise
 pub spelled : {l t u m : List ℕ} {i j : ℕ} → t ≡ u → Wrote l i t m j → Wrote l i u m j
@@ -55,9 +55,9 @@ pub word-of : {l m : List ℕ} {i j a b c d : ℕ} (x : ℕ) → Wrote l i (a �
 word-of {l} {m} {i} {j} {a} {b} {c} {d} x w p q r s = spelled (cc) w
 
 -- a number of 32 bits, put together from its bytes
-pub word-told : (x : ℕ) → x < 2 ^ 32
+pub word-back : (x : ℕ) → x < 2 ^ 32
     → (x / 0x100_0000 % 256 * 256 + x / 0x1_0000 % 256) * 65536 + (x / 0x100 % 256 * 256 + x % 256) ≡ x
-word-told x h =
+word-back x h =
     let a : x ≡ x / 0x100 * 256 + x % 256 = omega arith in
     let b : x / 0x100 ≡ x / 0x1_0000 * 256 + x / 0x100 % 256 = omega arith in
     let c : x / 0x1_0000 ≡ x / 0x100_0000 * 256 + x / 0x1_0000 % 256 = omega arith in
@@ -65,8 +65,8 @@ word-told x h =
     omega arith
 
 -- and one of 64
-pub long-told : (x : ℕ) (rest : List ℕ) → x < 2 ^ 64 → word64 (longBytes x ++ rest) 0 ≡ x
-long-told x rest h =
+pub long-back : (x : ℕ) (rest : List ℕ) → x < 2 ^ 64 → word64 (longBytes x ++ rest) 0 ≡ x
+long-back x rest h =
     let a : x / 0x1_0000_0000 < 2 ^ 32 = omega arith in
     let b : x % 0x1_0000_0000 < 2 ^ 32 = omega arith in
-    rw (word-told (x / 0x1_0000_0000) a, word-told (x % 0x1_0000_0000) b) (omega arith)
+    rw (word-back (x / 0x1_0000_0000) a, word-back (x % 0x1_0000_0000) b) (omega arith)

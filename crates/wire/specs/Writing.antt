@@ -7,7 +7,7 @@ use lib.Seq.{sets}
 
 -- a buffer l has become m: the text t stands in it from i on, every other byte is as it was, and j is just after t
 pub record Wrote (l : List ℕ) (i : ℕ) (t m : List ℕ) (j : ℕ) : Type 0 where
-  pub place : j ≡ i + length t
+  pub next : j ≡ i + length t
   pub bytes : m ≡ sets l i t
   pub size : length m ≡ length l
 

@@ -7,15 +7,15 @@ use Rattle.chart_reader.specs.Read.{readChart, readFrom, advanceOf}
 use Rattle.chart_value.specs.WellFormed.{isZeroTerm, termPlaced, termsFit, regionFits, isZeroRegion, touchedBefore, regionPlaced, wellFormed}
 use Rattle.rounds.specs.Rows.{momentAt, chartMessage, chartMessages, plain, messageRegions, momentOf, values, opened, resetMoment, holds, waived, firstFailing}
 use Rattle.rounds.specs.Feeds.{refusal}
-use Rattle.rounds.specs.Machine.{ready, readyFor, readyPlain, fire, unfired, settle, place, opening, full, prechartDone, goOn, keepRound, dropRound, breakRound, conclude, accept, feed, after}
+use Rattle.rounds.specs.Machine.{ready, readyFor, readyPlain, fire, unfired, settle, offer, opening, full, prechartDone, goOn, keepRound, dropRound, breakRound, conclude, accept, feed, after}
 use Rattle.rounds.proofs.Tested.{promptTest, placedTest, rowTest}
 use Rattle.rounds.proofs.Rounds.{placeOf}
-use Rattle.runs.specs.Paper.{add, reset, shift, configAt}
+use Rattle.paper.specs.Runs.{add, reset, shift, configAt}
 use Rattle.log_reader.specs.Records.{recordsFrom, recordsIn}
 use Rattle.judge.specs.Check.{stepAt, checkFrom, checkLog}
 use Rattle.judge.specs.Judge.{judgeOf}
 use Rattle.judge.specs.Verdict.{standingOf}
 
 unfoldable pub computing : Unit {0}
-unfolding contains single inserted union isSubset within isOver gathered aboveSets termsHold readChart readFrom advanceOf isZeroTerm termPlaced termsFit regionFits isZeroRegion touchedBefore regionPlaced wellFormed momentAt chartMessage chartMessages plain messageRegions momentOf values opened resetMoment holds waived firstFailing refusal ready readyFor readyPlain fire unfired settle place opening full prechartDone goOn keepRound dropRound breakRound conclude accept feed after promptTest placedTest rowTest placeOf add reset shift configAt recordsFrom recordsIn stepAt checkFrom checkLog standingOf judgeOf
+unfolding contains single inserted union isSubset within isOver gathered aboveSets termsHold readChart readFrom advanceOf isZeroTerm termPlaced termsFit regionFits isZeroRegion touchedBefore regionPlaced wellFormed momentAt chartMessage chartMessages plain messageRegions momentOf values opened resetMoment holds waived firstFailing refusal ready readyFor readyPlain fire unfired settle offer opening full prechartDone goOn keepRound dropRound breakRound conclude accept feed after promptTest placedTest rowTest placeOf add reset shift configAt recordsFrom recordsIn stepAt checkFrom checkLog standingOf judgeOf
 computing = tt

@@ -16,18 +16,18 @@ use Rattle.chart_reader.specs.Said.{acceptedAs}
 use Rattle.chart_value.specs.Given.{Given}
 use Rattle.chart_value.proofs.Sound.{sound}
 use Rattle.base.specs.Lists.{Snoc, ε, _▸_, size}
-use Rattle.rounds.specs.Feeds.{refused, toldBroken, entered}
+use Rattle.rounds.specs.Feeds.{refused, brokenAt, entered}
 use Rattle.rounds.specs.Machine.{Monitor as AbstractMonitor, Fit, feed, after}
 use Rattle.base.proofs.Bools.{clash, and-left, and-right}
 use Rattle.rounds.proofs.Fitness.{after-fit}
-use Rattle.runs.specs.Taken.{Taken, statusOf, Acceptable}
-use Rattle.runs.proofs.Demand2.{demand-2}
+use Rattle.paper.specs.Taken.{Taken, statusOf, Acceptable}
+use Rattle.paper.proofs.Demand2.{demand-2}
 use Rattle.stepping.specs.Monitors.{monitorAt}
 use Rattle.chart_value.specs.Records.{logRecord}
 use Rattle.monitor.specs.Fit.{closedUpward, restsUnlessBroken, momentsFit, countsFit, breakFits, placeFits, fits}
-use Rattle.monitor.specs.Runs.{RunOver}
+use Rattle.monitor.specs.History.{HistoryOver}
 use Rattle.monitor.proofs.Fitness.{of-fit, fit-exactly}
-use Rattle.monitor.proofs.Runs.{feeding}
+use Rattle.monitor.proofs.History.{feeding}
 use Rattle.stepping.proofs.Zeros.{zero-fresh}
 use Rattle.log_reader.specs.Record as found
 use Rattle.claims.specs.Examples.{chartU}
@@ -56,14 +56,14 @@ zeros-not : ¬ Given zeroChart
 unfolding computing
 zeros-not g = clash (sound (g .bytes) zeroChart (g .accepted) .fine) refl
 
-fit : (m : Monitor) → length (m .at .resets) ≡ 8 → fits U m ≡ true → Fit U (monitorAt m)
+fit : (m : Monitor) → length (m .place .resets) ≡ 8 → fits U m ≡ true → Fit U (monitorAt m)
 fit m p q = fit-exactly U accepted-u m p true (sym q) .0 refl
 
 unfit : FeedsAs valueU (stored 7 0 3 0 0) (undo 100) (refused 21) (stored 7 0 3 0 0)
 unfolding computing fits placeFits closedUpward restsUnlessBroken momentsFit countsFit breakFits
 unfit = cases.unfit given-u (λ F. clash (of-fit U accepted-u (stored 7 0 3 0 0) F) refl)
 
-broken-again : FeedsAs valueU (stored 1 110 2 2 1) (undo 120) (toldBroken 2 1) (stored 1 110 2 2 1)
+broken-again : FeedsAs valueU (stored 1 110 2 2 1) (undo 120) (brokenAt 2 1) (stored 1 110 2 2 1)
 unfolding computing fits placeFits closedUpward restsUnlessBroken momentsFit countsFit breakFits
 broken-again = cases.broken-again given-u (fit (stored 1 110 2 2 1) refl refl) (λ z. omega (arith, z))
 
@@ -80,7 +80,7 @@ takes : (n : Monitor) × FeedsAs valueU zeroMonitor (undo 100) entered n
 unfolding computing
 takes =
     let G = feeding valueU refl accepted-u in
-    let X : RunOver valueU (ε ▸ undo 100) = G .exists (ε ▸ undo 100) in
+    let X : HistoryOver valueU (ε ▸ undo 100) = G .exists (ε ▸ undo 100) in
     let z : monitorAt zeroMonitor ≡ after U ε = zero-fresh in
     let L : monitorAt (X .monitor) ≡ feed U (monitorAt zeroMonitor) (logRecord (undo 100)) .next
     = G .leads (X .run) ∙ ap (λ (m : AbstractMonitor). feed U m (logRecord (undo 100)) .next) (sym z) in
@@ -102,7 +102,7 @@ two =
     cases.step (cases.step cases.start (undo 100) 9 (cases.message refl (omega arith)) (omega arith) (omega arith)) (passed 110) 14
     (cases.time refl (omega arith)) (omega arith) (omega arith)
 
--- a log of n records of time 0: the byte at each place, and a walk over the first k of them
+-- a log of n records of time 0: the byte at each offer, and a walk over the first k of them
 module _ where
   ticks-length : (n : ℕ) → length (ticks n) ≡ 5 * n
   unfolding ticks

@@ -16,17 +16,17 @@ use Rattle.model.specs.Answers.{mostRecords}
 use Rattle.rounds.specs.Chart.{Chart, Accepted}
 use Rattle.rounds.specs.Rows.{LogRecord, Row, stands, chartMessage, values, Ready}
 use Rattle.rounds.specs.Feeds.{Answer}
-use Rattle.rounds.specs.Machine.{Place, fails, ready, readyPlain, place, opening, Monitor, Step, feed, after}
+use Rattle.rounds.specs.Machine.{Place, fails, ready, readyPlain, offer, opening, Monitor, Step, feed, after}
 use Rattle.base.specs.Table.{table}
 use Rattle.base.proofs.Bools.{split, and-left, and-right}
 use Rattle.rounds.proofs.Machine.{LowestPlain, ready-true, plain-some, plain-none}
 use Rattle.base.proofs.Table.{getD-table}
 use Rattle.rounds.proofs.Fitness.{after-fit}
-use Rattle.runs.specs.Paper.{Config, initial, reset, shift, add, wait, successor, Next, AtRest, configAt}
-use Rattle.runs.specs.Taken.{Status, Turn, Taken, caseOf, statusOf, Acceptable}
-use Rattle.runs.proofs.Steps.{opening-config, failure-of}
-use Rattle.runs.proofs.Turns.{turn-of}
-use Rattle.runs.proofs.Taking.{unplaceable, caseFor, numbered, given}
+use Rattle.paper.specs.Runs.{Config, initial, reset, shift, add, wait, successor, Next, AtRest, configAt}
+use Rattle.paper.specs.Taken.{Status, Turn, Taken, caseOf, statusOf, Acceptable}
+use Rattle.paper.proofs.Steps.{opening-config, failure-of}
+use Rattle.paper.proofs.Turns.{turn-of}
+use Rattle.paper.proofs.Taking.{unplaceable, caseFor, numbered, given}
 use Rattle.witness_rounds.specs.Rounds.{configOf, statusAs}
 
 -- a table holds nothing beyond its bound
@@ -106,15 +106,15 @@ module _ (C : Chart) (A : Accepted C) (fs : Snoc LogRecord) (e : LogRecord) wher
       }
 
   module _ (P : Acceptable C m e) where
-    at-rest : AtRest C (m .at .fired)
+    at-rest : AtRest C (m .place .fired)
     unfolding AtRest
     at-rest = P .fit .settled (P .unbroken)
 
-    turn-failing : (i : ℕ) (p : Place) → So (chartMessage C e) → place C (m .at) e ≡ fails i p
+    turn-failing : (i : ℕ) (p : Place) → So (chartMessage C e) → offer C (m .place) e ≡ fails i p
         → Turn C (statusOf C m) e i (configAt C (e .time) p)
     unfolding configAt
     turn-failing i p c q =
-        turn-of C (statusOf C m) e at-rest (failure-of C A (m .at) e (m .tally .now) (P .fit .moments) (P .forward) c i p q)
+        turn-of C (statusOf C m) e at-rest (failure-of C A (m .place) e (m .tally .now) (P .fit .moments) (P .forward) c i p q)
 
   -- taken by this case, with the machine's status, whose configuration is z
   abbrev TakenSo : ℕ → Config → Answer → Type 0
@@ -122,12 +122,12 @@ module _ (C : Chart) (A : Accepted C) (fs : Snoc LogRecord) (e : LogRecord) wher
 
   -- the answer with the machine's move decides the case
   abbrev Case : Answer → ℕ
-  Case a = caseFor (unplaceable (place C (m .at) e)) a
+  Case a = caseFor (unplaceable (offer C (m .place) e)) a
 
   abbrev v : Step
   v = feed C m e
 
-  taken-by : (n : ℕ) (z : Config) (a : Answer) → So accepts → configAt C (v .next .tally .now) (v .next .at) ≡ z
+  taken-by : (n : ℕ) (z : Config) (a : Answer) → So accepts → configAt C (v .next .tally .now) (v .next .place) ≡ z
       → v .answer ≡ a → Case a ≡ n → TakenSo n z a
   taken-by n z a h p q c =
       let P : Acceptable C m e = acceptable h in
@@ -138,20 +138,20 @@ module _ (C : Chart) (A : Accepted C) (fs : Snoc LogRecord) (e : LogRecord) wher
       (T, numbered C A m e P T ∙ c)
 
   -- a round opens
-  pub taken-anew : (n : ℕ) (a : Answer) → So accepts → v .next .at ≡ opening C (v .next .tally .now)
+  pub taken-anew : (n : ℕ) (a : Answer) → So accepts → v .next .place ≡ opening C (v .next .tally .now)
       → v .answer ≡ a → Case a ≡ n → TakenSo n initial a
   taken-anew n a h p q c =
       taken-by n initial a h (ap (configAt C (v .next .tally .now)) p ∙ opening-config C (v .next .tally .now)) q c
 
   -- the round runs on, or is broken
-  pub taken-at : (n : ℕ) (r : Row) (l : List ℕ) (a : Answer) → So accepts → v .next .at .fired ≡ stands r
-      → table (C .clocks) (values C (v .next .tally .now) (v .next .at .clocks)) ≡ l → v .answer ≡ a → Case a ≡ n
+  pub taken-at : (n : ℕ) (r : Row) (l : List ℕ) (a : Answer) → So accepts → v .next .place .fired ≡ stands r
+      → table (C .clocks) (values C (v .next .tally .now) (v .next .place .clocks)) ≡ l → v .answer ≡ a → Case a ≡ n
       → TakenSo n (configOf r l) a
-  taken-at n r l a h f k q c = taken-by n (configOf r l) a h (config-at C (v .next .tally .now) (v .next .at) r l f k) q c
+  taken-at n r l a h f k q c = taken-by n (configOf r l) a h (config-at C (v .next .tally .now) (v .next .place) r l f k) q c
 
   -- the condition of region i fails when it is its turn
   pub turn-at : (i : ℕ) (p : Place) (r : Row) (l : List ℕ) → So accepts → So (chartMessage C e)
-      → place C (m .at) e ≡ fails i p → p .fired ≡ stands r → table (C .clocks) (values C (e .time) (p .clocks)) ≡ l
+      → offer C (m .place) e ≡ fails i p → p .fired ≡ stands r → table (C .clocks) (values C (e .time) (p .clocks)) ≡ l
       → Turn C (statusOf C m) e i (configOf r l)
   turn-at i p r l h c q f k =
       subst (λ (y : Config). Turn C (statusOf C m) e i y) (config-at C (e .time) p r l f k)

@@ -7,7 +7,7 @@ use Rattle.chart_value.proofs.Shown.{shown-of}
 use Rattle.base.specs.Lists.{Snoc, ε, _▸_}
 use Rattle.rounds.specs.Chart.{Accepted}
 use Rattle.rounds.specs.Rows.{LogRecord, stands, Lawful, Full, LawfulButLast}
-use Rattle.rounds.specs.Feeds.{conditionFails, dropped, broken, Ends, complete, fails-cold, fails-hot, toldKept, toldDropped, toldBroken}
+use Rattle.rounds.specs.Feeds.{conditionFails, dropped, broken, Ends, complete, fails-cold, fails-hot, keptNow, droppedNow, brokenAt}
 use Rattle.rounds.proofs.Endings.{unlawful}
 use Rattle.rounds.proofs.Tested.{lawful-tested, waived-tested}
 use Rattle.rounds.proofs.Machine.{full-true}
@@ -16,7 +16,7 @@ use Rattle.claims.specs.Examples.{chartU}
 use Rattle.witness_rounds.specs.Charts.{chartA, chartB}
 use Rattle.witness_rounds.specs.Rounds.{valueOf, U, A, B, RoundShown, roundU, keptA, droppedA, brokenA, keptB, droppedB, brokenB}
 use Rattle.witness_rounds.proofs.Computing.{computing}
-use Rattle.runs.proofs.Taking.{unplaceable, caseFor}
+use Rattle.paper.proofs.Taking.{unplaceable, caseFor}
 use Rattle.witness_rounds.proofs.Laws.{accepts, taken-anew, taken-at}
 
 pub read-u : readChart chartU ≡ acceptedAs (valueOf chartU)
@@ -54,7 +54,7 @@ round-u =
       row-before = lawful-tested U accepted-u 0 s (roundU .row) refl refl refl;
       row-with = (L, F);
       ends = complete (roundU .whole) L F;
-      taken = taken-anew U accepted-u s e 3 toldKept refl refl refl refl;
+      taken = taken-anew U accepted-u s e 3 keptNow refl refl refl refl;
     }
 
 pub kept-a : RoundShown keptA
@@ -71,7 +71,7 @@ kept-a =
       row-before = lawful-tested A accepted-a 0 s (keptA .row) refl refl refl;
       row-with = (L, F);
       ends = complete (keptA .whole) L F;
-      taken = taken-anew A accepted-a s e 3 toldKept refl refl refl refl;
+      taken = taken-anew A accepted-a s e 3 keptNow refl refl refl refl;
     }
 
 pub dropped-a : RoundShown droppedA
@@ -90,7 +90,7 @@ dropped-a =
       row-before = Q;
       row-with = (unlawful A accepted-a 0 s e E refl, W, refl);
       ends = E;
-      taken = taken-anew A accepted-a s e 4 toldDropped refl refl refl refl;
+      taken = taken-anew A accepted-a s e 4 droppedNow refl refl refl refl;
     }
 
 pub broken-a : RoundShown brokenA
@@ -110,7 +110,7 @@ broken-a =
       row-with = (unlawful A accepted-a 0 s e E refl, W, refl);
       ends = E;
       taken = taken-at A accepted-a s e 5 (ε ▸ 0 ▸ 1 ▸ 2 ▸ 3) (31 ∷ 21 ∷ [])
-          (toldBroken 3 conditionFails) refl refl refl refl refl;
+          (brokenAt 3 conditionFails) refl refl refl refl refl;
     }
 
 pub kept-b : RoundShown keptB
@@ -127,7 +127,7 @@ kept-b =
       row-before = lawful-tested B accepted-b 0 s (keptB .row) refl refl refl;
       row-with = (L, F);
       ends = complete (keptB .whole) L F;
-      taken = taken-anew B accepted-b s e 3 toldKept refl refl refl refl;
+      taken = taken-anew B accepted-b s e 3 keptNow refl refl refl refl;
     }
 
 pub dropped-b : RoundShown droppedB
@@ -146,7 +146,7 @@ dropped-b =
       row-before = Q;
       row-with = (unlawful B accepted-b 0 s e E refl, W, refl);
       ends = E;
-      taken = taken-anew B accepted-b s e 4 toldDropped refl refl refl refl;
+      taken = taken-anew B accepted-b s e 4 droppedNow refl refl refl refl;
     }
 
 pub broken-b : RoundShown brokenB
@@ -166,5 +166,5 @@ broken-b =
       row-with = (unlawful B accepted-b 0 s e E refl, W, refl);
       ends = E;
       taken = taken-at B accepted-b s e 5 (ε ▸ 0 ▸ 2 ▸ 1) (20 ∷ [])
-          (toldBroken 2 conditionFails) refl refl refl refl refl;
+          (brokenAt 2 conditionFails) refl refl refl refl refl;
     }

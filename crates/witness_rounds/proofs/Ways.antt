@@ -8,19 +8,19 @@ use native.Mathlib.Omega.{arith}
 use Rattle.base.specs.Lists.{Snoc, ε, _▸_}
 use Rattle.model.specs.Answers.{timeFalls}
 use Rattle.rounds.specs.Rows.{LogRecord, Row, stands, plain, Lawful, LawfulButLast, PrechartDone}
-use Rattle.rounds.specs.Feeds.{noReadyRegion, dropped, broken, Ends, unplaced-main, unplaced-prechart, toldDropped, toldBroken, entered, moved, quiet, Onward, completes-prechart, fires, stays, refuses, runs-on, ends, again, none-yet, one-more}
+use Rattle.rounds.specs.Feeds.{noReadyRegion, dropped, broken, Ends, unplaced-main, unplaced-prechart, droppedNow, brokenAt, entered, moved, quiet, Onward, completes-prechart, fires, stays, refuses, runs-on, ends, again, none-yet, one-more}
 use Rattle.rounds.specs.Machine.{after}
 use Rattle.rounds.proofs.Endings.{unlawful}
 use Rattle.rounds.proofs.Tested.{lawful-tested, no-region}
 use Rattle.rounds.proofs.Machine.{full-false, done-true, done-false}
-use Rattle.runs.specs.Paper.{Config, Letter, message, silent, delay, initial, Advance, wait, successor, Prompt, begins, settles, Over, spelled}
-use Rattle.runs.proofs.Prompts.{synchronizes, advances, terminates, delays, goes-on}
+use Rattle.paper.specs.Runs.{Config, Letter, message, silent, delay, initial, Advance, wait, successor, Prompt, begins, settles, Over, spelled}
+use Rattle.paper.proofs.Prompts.{synchronizes, advances, terminates, delays, goes-on}
 use Rattle.chart_value.specs.Records.{logRecord, logged}
 use Rattle.witness_rounds.specs.Charts.{passed, undo, headings, references, ask, pass, answer}
 use Rattle.witness_rounds.specs.Rounds.{U, A, configOf, statusAs, TakenBy}
 use Rattle.witness_rounds.specs.Witnesses.{Unplaced, StepBy, TurnOf, FiveFed}
 use Rattle.witness_rounds.proofs.Computing.{computing}
-use Rattle.runs.proofs.Taking.{unplaceable, caseFor}
+use Rattle.paper.proofs.Taking.{unplaceable, caseFor}
 use Rattle.witness_rounds.proofs.Laws.{wait-is, successor-is, ready-at, rests-at, next-at, accepts, taken-anew, taken-at, turn-at}
 use Rattle.witness_rounds.proofs.Logs.{accepted-u, accepted-a}
 
@@ -177,7 +177,7 @@ unfolding computing accepts
 turn-heard =
     let s : Snoc LogRecord = logged (ε ▸ undo 100 ▸ references 120) in
     let e : LogRecord = logRecord (headings 141) in
-    (refl, turn-at U accepted-u s e 1 (after U s .at) (ε ▸ 0 ▸ 2) (41 ∷ []) refl refl refl refl refl)
+    (refl, turn-at U accepted-u s e 1 (after U s .place) (ε ▸ 0 ▸ 2) (41 ∷ []) refl refl refl refl refl)
 
 pub turn-plain : (plain A 4 ≡ true)
     × TurnOf A (ε ▸ ask 10 ▸ pass 20) (answer 41) 4 (configOf (ε ▸ 0 ▸ 1 ▸ 2 ▸ 3) (31 ∷ 21 ∷ []))
@@ -185,7 +185,7 @@ unfolding computing accepts
 turn-plain =
     let s : Snoc LogRecord = logged (ε ▸ ask 10 ▸ pass 20) in
     let e : LogRecord = logRecord (answer 41) in
-    (refl, turn-at A accepted-a s e 4 (after A (s ▸ e) .at) (ε ▸ 0 ▸ 1 ▸ 2 ▸ 3) (31 ∷ 21 ∷ []) refl refl refl refl refl)
+    (refl, turn-at A accepted-a s e 4 (after A (s ▸ e) .place) (ε ▸ 0 ▸ 1 ▸ 2 ▸ 3) (31 ∷ 21 ∷ []) refl refl refl refl refl)
 
 pub passes-by : TakenBy 0 U (ε ▸ undo 100) (passed 110) (statusAs (configOf (ε ▸ 0) (10 ∷ [])) 110 2 0 0 0 0) quiet
 unfolding computing accepts caseFor unplaceable
@@ -201,12 +201,12 @@ pub enters-by : TakenBy 2 U ε (undo 100) (statusAs (configOf (ε ▸ 0) (0 ∷ 
 unfolding computing accepts caseFor unplaceable
 enters-by = taken-at U accepted-u ε (logRecord (undo 100)) 2 (ε ▸ 0) (0 ∷ []) entered refl refl refl refl refl
 
-pub unmatched-in-prechart : TakenBy 6 U ε (headings 5) (statusAs initial 5 1 0 1 0 0) toldDropped
+pub unmatched-in-prechart : TakenBy 6 U ε (headings 5) (statusAs initial 5 1 0 1 0 0) droppedNow
 unfolding computing accepts caseFor unplaceable
-unmatched-in-prechart = taken-anew U accepted-u ε (logRecord (headings 5)) 6 toldDropped refl refl refl refl
+unmatched-in-prechart = taken-anew U accepted-u ε (logRecord (headings 5)) 6 droppedNow refl refl refl refl
 
 pub unmatched-in-main : TakenBy 7 U (ε ▸ undo 100) (undo 110)
-    (statusAs (configOf (ε ▸ 0) (10 ∷ [])) 110 2 0 0 2 noReadyRegion) (toldBroken 2 noReadyRegion)
+    (statusAs (configOf (ε ▸ 0) (10 ∷ [])) 110 2 0 0 2 noReadyRegion) (brokenAt 2 noReadyRegion)
 unfolding computing accepts caseFor unplaceable
 unmatched-in-main =
-    taken-at U accepted-u undone second 7 (ε ▸ 0) (10 ∷ []) (toldBroken 2 noReadyRegion) refl refl refl refl refl
+    taken-at U accepted-u undone second 7 (ε ▸ 0) (10 ∷ []) (brokenAt 2 noReadyRegion) refl refl refl refl refl

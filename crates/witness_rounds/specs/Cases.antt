@@ -7,7 +7,7 @@ use Rattle.model.specs.declared.Monitor.{Monitor}
 use Rattle.model.specs.Chart.{zeroChart}
 use Rattle.model.specs.Monitor.{zeroMonitor}
 use Rattle.base.specs.Lists.{ε, _▸_}
-use Rattle.rounds.specs.Feeds.{refused, toldBroken, entered}
+use Rattle.rounds.specs.Feeds.{refused, brokenAt, entered}
 use Rattle.chart_reader.specs.Said.{acceptedAs}
 use Rattle.log_reader.specs.Record as found
 use Rattle.monitor.specs.declared.MadeAnswer.the-variants.{Fresh, NoChart}
@@ -24,7 +24,7 @@ valueU = valueOf chartU
 abbrev pub stored : ℕ → ℕ → ℕ → ℕ → ℕ → Monitor
 stored fired now records break reason =
     record {
-      at = record { fired = fired; resets = replicate 8 (record { 0 = 0 }) };
+      place = record { fired = fired; resets = replicate 8 (record { 0 = 0 }) };
       tally = record {
         now = record { 0 = now };
         records = records;
@@ -49,7 +49,7 @@ pub record Cases : Type 0 where
   -- feeding: no chart; every region fired; broken at record 2; a time below now; a record too many; undo is taken
   pub not-a-chart : FeedsAs zeroChart zeroMonitor (undo 100) (refused 20) zeroMonitor
   pub unfit : FeedsAs valueU (stored 7 0 3 0 0) (undo 100) (refused 21) (stored 7 0 3 0 0)
-  pub broken-again : FeedsAs valueU (stored 1 110 2 2 1) (undo 120) (toldBroken 2 1) (stored 1 110 2 2 1)
+  pub broken-again : FeedsAs valueU (stored 1 110 2 2 1) (undo 120) (brokenAt 2 1) (stored 1 110 2 2 1)
   pub time-falls : FeedsAs valueU (stored 0 100 1 0 0) (undo 99) (refused 22) (stored 0 100 1 0 0)
   pub too-many : FeedsAs valueU (stored 0 100 1000000 0 0) (undo 100) (refused 23) (stored 0 100 1000000 0 0)
   pub takes : (n : Monitor) × FeedsAs valueU zeroMonitor (undo 100) entered n

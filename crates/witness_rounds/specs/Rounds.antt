@@ -15,10 +15,10 @@ use Rattle.base.specs.Lists.{Snoc, ε, _▸_}
 use Rattle.rounds.specs.Chart.{Chart as Abstract}
 use Rattle.rounds.specs.Rows.{LogRecord, Row, stands, chartMessages, Lawful, NoRow, Full, LawfulButLast, firstFailing}
 use Rattle.rounds.specs.Feeds.{conditionFails, Outcome, kept, dropped, broken}
-use Rattle.rounds.specs.Feeds.{Ends, Answer, toldKept, toldDropped, toldBroken}
+use Rattle.rounds.specs.Feeds.{Ends, Answer, keptNow, droppedNow, brokenAt}
 use Rattle.rounds.specs.Machine.{after}
-use Rattle.runs.specs.Paper.{Config, initial}
-use Rattle.runs.specs.Taken.{Status, Taken, caseOf, statusOf}
+use Rattle.paper.specs.Runs.{Config, initial}
+use Rattle.paper.specs.Taken.{Status, Taken, caseOf, statusOf}
 use Rattle.chart_value.specs.Records.{logRecord, logged}
 use Rattle.judge.specs.Judge.{judgeOf}
 use Rattle.claims.specs.Examples.{chartU}
@@ -74,7 +74,7 @@ pub record Round : Type 0 where
   pub outcome : Outcome
   -- the last record's case in `Taken`, its answer and the status after it; and the verdict over the log
   pub case : ℕ
-  pub told : Answer
+  pub ans : Answer
   pub status : Status
   pub verdict : Verdict
 
@@ -94,7 +94,7 @@ pub record RoundShown (g : Round) : Type 0 where
   pub row-before : Lawful (theory (g .chart)) 0 (logged (g .before)) (g .row)
   pub row-with : RowOf (theory (g .chart)) (logged (g .before)) (logRecord (g .last)) (g .whole) (g .failing)
   pub ends : Ends (theory (g .chart)) 0 (logged (g .before)) (logRecord (g .last)) (g .outcome)
-  pub taken : TakenBy (g .case) (theory (g .chart)) (g .before) (g .last) (g .status) (g .told)
+  pub taken : TakenBy (g .case) (theory (g .chart)) (g .before) (g .last) (g .status) (g .ans)
 
 -- X3: undo is region 0, headings 1, references 2
 abbrev pub roundU : Round
@@ -107,7 +107,7 @@ roundU = record {
   failing = none;
   outcome = kept;
   case = 3;
-  told = toldKept;
+  ans = keptNow;
   status = statusAs initial 140 3 1 0 0 0;
   verdict = verdictAs 0 1 0 3 0 0;
 }
@@ -123,7 +123,7 @@ keptA = record {
   failing = none;
   outcome = kept;
   case = 3;
-  told = toldKept;
+  ans = keptNow;
   status = statusAs initial 40 3 1 0 0 0;
   verdict = verdictAs 0 1 0 3 0 0;
 }
@@ -139,7 +139,7 @@ droppedA = record {
   failing = some 2;
   outcome = dropped;
   case = 4;
-  told = toldDropped;
+  ans = droppedNow;
   status = statusAs initial 21 2 0 1 0 0;
   verdict = verdictAs 0 0 1 2 0 0;
 }
@@ -155,7 +155,7 @@ brokenA = record {
   failing = some 4;
   outcome = broken conditionFails;
   case = 5;
-  told = toldBroken 3 conditionFails;
+  ans = brokenAt 3 conditionFails;
   status = statusAs (configOf (ε ▸ 0 ▸ 1 ▸ 2 ▸ 3) (31 ∷ 21 ∷ [])) 41 3 0 0 3 conditionFails;
   verdict = verdictAs 3 0 0 3 3 conditionFails;
 }
@@ -171,7 +171,7 @@ keptB = record {
   failing = none;
   outcome = kept;
   case = 3;
-  told = toldKept;
+  ans = keptNow;
   status = statusAs initial 69 2 1 0 0 0;
   verdict = verdictAs 0 1 0 2 0 0;
 }
@@ -187,7 +187,7 @@ droppedB = record {
   failing = some 2;
   outcome = dropped;
   case = 4;
-  told = toldDropped;
+  ans = droppedNow;
   status = statusAs initial 51 2 0 1 0 0;
   verdict = verdictAs 0 0 1 2 0 0;
 }
@@ -203,7 +203,7 @@ brokenB = record {
   failing = some 3;
   outcome = broken conditionFails;
   case = 5;
-  told = toldBroken 2 conditionFails;
+  ans = brokenAt 2 conditionFails;
   status = statusAs (configOf (ε ▸ 0 ▸ 2 ▸ 1) (20 ∷ [])) 70 2 0 0 2 conditionFails;
   verdict = verdictAs 3 0 0 2 2 conditionFails;
 }

@@ -9,11 +9,11 @@ use Rattle.model.specs.Answers.{timeFalls}
 use Rattle.base.specs.Lists.{Snoc, ε, _▸_}
 use Rattle.rounds.specs.Chart.{Chart}
 use Rattle.rounds.specs.Rows.{Row, plain, NoRow, LawfulButLast}
-use Rattle.rounds.specs.Feeds.{noReadyRegion, Outcome, dropped, broken, behindBreak, Ends}
-use Rattle.rounds.specs.Feeds.{refused, toldDropped, toldBroken, entered, moved, quiet, Onward, Fed}
+use Rattle.rounds.specs.Feeds.{noReadyRegion, Outcome, dropped, broken, afterBreak, Ends}
+use Rattle.rounds.specs.Feeds.{refused, droppedNow, brokenAt, entered, moved, quiet, Onward, Fed}
 use Rattle.rounds.specs.Machine.{after}
-use Rattle.runs.specs.Paper.{Config, Letter, message, silent, delay, initial, Advance, by, Prompt, Over, spelled}
-use Rattle.runs.specs.Taken.{Turn, statusOf}
+use Rattle.paper.specs.Runs.{Config, Letter, message, silent, delay, initial, Advance, by, Prompt, Over, spelled}
+use Rattle.paper.specs.Taken.{Turn, statusOf}
 use Rattle.chart_value.specs.Records.{logRecord, logged}
 use Rattle.witness_rounds.specs.Charts.{passed, undo, headings, references, ask, pass, answer}
 use Rattle.witness_rounds.specs.Rounds.{U, A, configOf, statusAs, TakenBy, RoundShown}
@@ -37,11 +37,11 @@ TurnOf C s e i z = Turn C (statusOf C (after C (logged s))) (logRecord e) i z
 abbrev pub FiveFed : Type 0
 FiveFed = Fed U
     (logged (ε ▸ headings 5 ▸ undo 100 ▸ headings 99 ▸ undo 110 ▸ references 120))
-    (ε ▸ toldDropped ▸ entered ▸ refused timeFalls ▸ toldBroken 3 noReadyRegion ▸ toldBroken 3 noReadyRegion)
+    (ε ▸ droppedNow ▸ entered ▸ refused timeFalls ▸ brokenAt 3 noReadyRegion ▸ brokenAt 3 noReadyRegion)
     (logged (ε ▸ headings 5 ▸ undo 100 ▸ undo 110))
     (ε ▸ record { opening = 0; records = logged (ε ▸ headings 5); outcome = dropped }
     ▸ record { opening = 5; records = logged (ε ▸ undo 100 ▸ undo 110); outcome = broken noReadyRegion })
-    (behindBreak noReadyRegion)
+    (afterBreak noReadyRegion)
 
 pub record Witnesses : Type 0 where
   -- seven rounds, from bytes to rows; `Ends` by `complete`, `fails-cold` and `fails-hot`; `Taken` by cases 3, 4 and 5
@@ -82,6 +82,6 @@ pub record Witnesses : Type 0 where
   pub moves-by : TakenBy 1 U (ε ▸ undo 100) (references 120) (statusAs (configOf (ε ▸ 0 ▸ 2) (20 ∷ [])) 120 2 0 0 0 0)
       moved
   pub enters-by : TakenBy 2 U ε (undo 100) (statusAs (configOf (ε ▸ 0) (0 ∷ [])) 100 1 0 0 0 0) entered
-  pub unmatched-in-prechart : TakenBy 6 U ε (headings 5) (statusAs initial 5 1 0 1 0 0) toldDropped
+  pub unmatched-in-prechart : TakenBy 6 U ε (headings 5) (statusAs initial 5 1 0 1 0 0) droppedNow
   pub unmatched-in-main : TakenBy 7 U (ε ▸ undo 100) (undo 110)
-      (statusAs (configOf (ε ▸ 0) (10 ∷ [])) 110 2 0 0 2 noReadyRegion) (toldBroken 2 noReadyRegion)
+      (statusAs (configOf (ε ▸ 0) (10 ∷ [])) 110 2 0 0 2 noReadyRegion) (brokenAt 2 noReadyRegion)

@@ -10,7 +10,7 @@ use Rattle.condition.specs.Condition.{termsHold}
 use Rattle.chart_reader.specs.Read.{readChart, readFrom, advanceOf}
 use Rattle.chart_value.specs.WellFormed.{isZeroTerm, termPlaced, termsFit, regionFits, isZeroRegion, touchedBefore, regionPlaced, wellFormed}
 use Rattle.rounds.specs.Rows.{chartMessage, plain, values, opened}
-use Rattle.rounds.specs.Machine.{ready, readyFor, readyPlain, fire, unfired, settle, place, opening, full, prechartDone, goOn, keepRound, dropRound, breakRound, conclude, accept, feed, after}
+use Rattle.rounds.specs.Machine.{ready, readyFor, readyPlain, fire, unfired, settle, offer, opening, full, prechartDone, goOn, keepRound, dropRound, breakRound, conclude, accept, feed, after}
 use Rattle.monitor.specs.Fit.{closedUpward, restsUnlessBroken, momentsFit, breakFits, countsFit, placeFits, fits}
 use Rattle.monitor.specs.Feed.{feedOf}
 use Rattle.log_reader.specs.Records.{recordsFrom, recordsIn}
@@ -28,7 +28,7 @@ use Rattle.witnesses.specs.Formats.{Prints, texts, LastRecord, Formats}
 
 -- every definition that the lines look into
 computed : Unit {0}
-unfolding contains single inserted union isSubset within isOver gathered aboveSets termsHold readChart readFrom advanceOf isZeroTerm termPlaced termsFit regionFits isZeroRegion touchedBefore regionPlaced wellFormed chartMessage plain values opened ready readyFor readyPlain fire unfired settle place opening full prechartDone goOn keepRound dropRound breakRound conclude accept feed after closedUpward restsUnlessBroken momentsFit breakFits countsFit placeFits fits feedOf recordsFrom recordsIn stepAt checkFrom checkLog standingOf judgeOf bytesOf digitsOf verdictLines refusalLine partsReport reportOf
+unfolding contains single inserted union isSubset within isOver gathered aboveSets termsHold readChart readFrom advanceOf isZeroTerm termPlaced termsFit regionFits isZeroRegion touchedBefore regionPlaced wellFormed chartMessage plain values opened ready readyFor readyPlain fire unfired settle offer opening full prechartDone goOn keepRound dropRound breakRound conclude accept feed after closedUpward restsUnlessBroken momentsFit breakFits countsFit placeFits fits feedOf recordsFrom recordsIn stepAt checkFrom checkLog standingOf judgeOf bytesOf digitsOf verdictLines refusalLine partsReport reportOf
 computed = tt
 
 refusals-said : Each Says refusals

@@ -44,7 +44,7 @@ references time = message 2 3 3 time
 abbrev pub stored : ℕ → ℕ → ℕ → ℕ → ℕ → ℕ → Monitor
 stored fired reset now records break reason =
     record {
-      at = record { fired = fired; resets = record { 0 = reset } ∷ replicate 7 (record { 0 = 0 }) };
+      place = record { fired = fired; resets = record { 0 = reset } ∷ replicate 7 (record { 0 = 0 }) };
       tally = record {
         now = record { 0 = now };
         records = records;

@@ -56,14 +56,14 @@ texts =
     ∷ []
 
 -- a log's record of time 5 at offset 0, checked after n others and the time 5
-abbrev pub behind : ℕ → CheckStep
-behind n = stepAt (hex "02 00 00 00 05") 0 (record { 0 = 5 }) n
+abbrev pub checkedAfter : ℕ → CheckStep
+checkedAfter n = stepAt (hex "02 00 00 00 05") 0 (record { 0 = 5 }) n
 
 -- 23: record 1,000,000 of a log is taken, the next one is refused at its offset.
 pub record LastRecord : Type 0 where
   pub most : mostRecords ≡ 1000000
-  pub taken : behind 999999 ≡ check.Going 5 (record { 0 = 5 }) 1000000
-  pub refused : behind 1000000 ≡ check.Over (checked.Refused log.TooManyRecords 0)
+  pub taken : checkedAfter 999999 ≡ check.Going 5 (record { 0 = 5 }) 1000000
+  pub refused : checkedAfter 1000000 ≡ check.Over (checked.Refused log.TooManyRecords 0)
   pub number : logRefusalNumber log.TooManyRecords ≡ 23
 
 -- The page: every line, and what is said of longer logs and inputs than a line has.

@@ -34,7 +34,7 @@ pub fn run(seen: &mut Seen) -> Result<(), Box<Difference>> {
     Ok(())
 }
 
-/// Logs of 1,000,000 and of 1,000,001 records, with a falling time before and behind.
+/// Logs of 1,000,000 and of 1,000,001 records, with a falling time before and after.
 fn judged() -> Vec<Case> {
     let chart = read_chart(&CHART_U).expect("chart U is read");
     let full = charts::keeping_log(&chart, MAX_RECORDS as usize, 3);

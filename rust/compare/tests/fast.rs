@@ -41,15 +41,15 @@ fn the_widest_heading_is_given() {
 fn the_millionth_record_and_the_next() {
     let chart = read_chart(&CHART_U).unwrap();
     let full = RecordValue::Time(9).to_bytes().repeat(1_000_000);
-    let behind = [
+    let after = [
         Vec::new(),
         RecordValue::Time(9).to_bytes(),
         RecordValue::Time(8).to_bytes(),
         vec![2, 0, 0, 0],
         vec![3],
     ];
-    let said = behind.map(|behind| {
-        let log = [&full[..], &behind].concat();
+    let said = after.map(|after| {
+        let log = [&full[..], &after].concat();
         let verdict = fast::judge(&chart, &log);
         assert_eq!(verdict, judge(&chart, &log));
         verdict.map(|verdict| verdict.records)

@@ -80,10 +80,10 @@ fn check_scan(log: &[u8]) {
         match read_record(log, place) {
             Next::End => break true,
             Next::Refused(_) => break false,
-            Next::Taken(record, behind) => {
+            Next::Taken(record, after) => {
                 records += 1;
                 sum += u64::from(record.time());
-                place = behind;
+                place = after;
             }
         }
     };
@@ -135,7 +135,7 @@ fn hostile_charts(rng: &mut Rng, seen: &mut Coverage) {
         Err((code, offset)) => {
             seen.refusal(code);
             assert!(offset <= bytes.len());
-            // No fault depends on what stands behind its command, 6 and 7 aside.
+            // No fault depends on what stands after its command, 6 and 7 aside.
             if !matches!(code, 1 | 6 | 7 | 11) {
                 let length = Command::of(bytes[offset]).map_or(0, Command::operands);
                 let cut = &bytes[..offset + 1 + length];

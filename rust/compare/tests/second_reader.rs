@@ -38,7 +38,7 @@ fn starts_region(command: &Command) -> bool {
     command.byte == 0x20 || command.byte == 0x21
 }
 
-/// The commands behind the last 50, or all.
+/// The commands after the last 50, or all.
 fn this_half<'a, 'b>(earlier: &'b [Command<'a>]) -> &'b [Command<'a>] {
     match earlier.iter().rposition(|command| command.byte == 0x50) {
         Some(place) => &earlier[place + 1..],
@@ -277,7 +277,7 @@ fn both_readers_agree() {
 
 #[test]
 fn every_short_string_of_telling_bytes() {
-    // All strings of up to five bytes over a few telling ones behind a heading.
+    // All strings of up to five bytes over a few telling ones after a heading.
     let telling = [0x00, 0x01, 0x02, 0x10, 0x20, 0x21, 0x32, 0x40, 0x50, 0x7F];
     for prefix in [
         &[][..],

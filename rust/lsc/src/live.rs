@@ -28,7 +28,7 @@ impl LiveMonitor {
     }
 
     /// Takes up a monitor from the bytes of an earlier one. Refused with 20 or 21 if they
-    /// hold no live monitor, or an unfit one. Bytes behind the chart are kept and not read.
+    /// hold no live monitor, or an unfit one. Bytes after the chart are kept and not read.
     pub fn from_bytes(bytes: Vec<u8>) -> Result<LiveMonitor, FeedRefusal> {
         match call::standing(&bytes, &mut [0; 6]) {
             0 => Ok(LiveMonitor { bytes }),
@@ -47,7 +47,7 @@ impl LiveMonitor {
         self.bytes
     }
 
-    /// Feeds a message. A refusal (22, 23) changes nothing; behind a break the answer is
+    /// Feeds a message. A refusal (22, 23) changes nothing; after a break the answer is
     /// [`Answer::Broken`] again and nothing changes.
     pub fn feed_message(
         &mut self,

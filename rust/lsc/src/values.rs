@@ -64,7 +64,7 @@ impl Reason {
     }
 }
 
-/// What is known behind a log, or so far.
+/// What is known after a log, or so far.
 #[derive(Clone, Copy, Debug, PartialEq, Eq, Hash)]
 pub struct Verdict {
     /// How the chart stands.

@@ -39,7 +39,7 @@ impl Command {
         ALL.into_iter().find(|command| command.byte() == byte)
     }
 
-    /// How many operand bytes stand behind.
+    /// How many operand bytes stand after.
     pub fn operands(self) -> usize {
         match self {
             Heading | PlainRegion => 2,

@@ -4,7 +4,7 @@ use crate::monitor::{feed_fit, in_prechart, Order};
 use crate::value::*;
 use crate::well_formed::is_given;
 
-/// What reading one record says. The place behind a taken record stands with it; in the
+/// What reading one record says. The place after a taken record stands with it; in the
 /// other cases the place stays.
 #[derive(Clone, Copy, Debug, PartialEq, Eq)]
 pub enum Next {
@@ -50,7 +50,7 @@ impl Verdict {
 }
 
 /// "With the place at or past the end of the bytes, it says 'end'; otherwise 31 or 30 as in
-/// judging, or the record. The place moves only when a record is handed out, to just behind
+/// judging, or the record. The place moves only when a record is handed out, to just after
 /// it."
 pub fn read_record(bytes: &[u8], place: usize) -> Next {
     if place >= bytes.len() {
@@ -80,7 +80,7 @@ pub fn read_log(bytes: &[u8]) -> Result<Vec<RecordValue>, (u8, usize)> {
         match read_record(bytes, place) {
             Next::End => return Ok(records),
             Next::Refused(code) => return Err((code, place)),
-            Next::Taken(record, behind) => {
+            Next::Taken(record, after) => {
                 if let Some(last) = records.last() {
                     if record.time() < last.time() {
                         return Err((22, place));
@@ -90,7 +90,7 @@ pub fn read_log(bytes: &[u8]) -> Result<Vec<RecordValue>, (u8, usize)> {
                     return Err((23, place));
                 }
                 records.push(record);
-                place = behind;
+                place = after;
             }
         }
     }

@@ -144,7 +144,7 @@ pub fn feed(
     feed_fit(chart, &order, monitor, record)
 }
 
-/// Feeding behind refusals 20 and 21.
+/// Feeding after refusals 20 and 21.
 pub fn feed_fit(
     chart: &ChartValue,
     order: &Order,

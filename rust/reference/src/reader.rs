@@ -28,18 +28,18 @@ pub fn read_chart(bytes: &[u8]) -> Result<ChartValue, Fault> {
     let mut offset = 0;
     loop {
         let (command, operands) = command_at(bytes, offset)?;
-        let behind = offset + 1 + operands.len();
+        let after = offset + 1 + operands.len();
         reading.check(command, operands, offset)?;
         if command == End {
             // "11 bytes after the end, at the first of them"
-            return if behind < bytes.len() {
-                Err((11, behind))
+            return if after < bytes.len() {
+                Err((11, after))
             } else {
                 Ok(reading.chart)
             };
         }
         reading.apply(command, operands, offset);
-        offset = behind;
+        offset = after;
     }
 }
 

@@ -53,7 +53,7 @@ pub struct RegionValue {
 }
 
 /// A chart. The first `prechart` regions are the prechart, the rest up to `count` the main
-/// chart; places behind `count` are unused.
+/// chart; places after `count` are unused.
 #[derive(Clone, Copy, Debug, PartialEq, Eq)]
 pub struct ChartValue {
     pub lines: u8,
@@ -238,7 +238,7 @@ impl ChartValue {
 }
 
 impl MonitorValue {
-    /// "Fresh: nothing fired, all else zero"; also the monitor of zeros behind refusal 20.
+    /// "Fresh: nothing fired, all else zero"; also the monitor of zeros after refusal 20.
     pub const ZERO: MonitorValue = MonitorValue {
         fired: 0,
         resets: [0; MAX_CLOCKS],

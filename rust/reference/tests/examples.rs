@@ -206,7 +206,7 @@ fn four_terms_are_read_and_a_fifth_of_either_kind_refused() {
 
 #[test]
 fn charts_at_the_edges_are_read() {
-    // A plain region first in a main chart behind a prechart is fine.
+    // A plain region first in a main chart after a prechart is fine.
     let plain_first = [
         0x10, 3, 1, 0x20, 0, 1, 0, 1, 0x50, 0x21, 0, 4, 0x40, 1, 0x7F,
     ];

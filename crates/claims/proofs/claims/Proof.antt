@@ -2,7 +2,7 @@
 use mathlib.Core.Path.{refl}
 use Rattle.chart_value.proofs.Shown.{shown, codes-tell}
 use Rattle.chart_value.proofs.Guards.{never-fire}
-use Rattle.monitor.proofs.Runs.{view-tells}
+use Rattle.monitor.proofs.History.{view-tells}
 use Rattle.claims.proofs.Answers.{answers-tell}
 use Rattle.claims.proofs.Examples.{examples-said}
 use Rattle.claims.proofs.Watching.{demands-read, judged-walk}

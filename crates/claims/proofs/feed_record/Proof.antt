@@ -16,8 +16,8 @@ feed-requires : tie.Need-feed-requires
 feed-requires c κs = search needs
 
 -- a stored monitor has a place for each of eight clocks
-places : (m : Monitor) (vs : List Val) → Is (row monitor.the-type) m vs → length (m .at .resets) ≡ 8
-places m vs p = sym (length-map (m .at .resets) _) ∙ p .1 .1 .0 .1 .1 .1 .0 .1 .0 .1
+places : (m : Monitor) (vs : List Val) → Is (row monitor.the-type) m vs → length (m .place .resets) ≡ 8
+places m vs p = sym (length-map (m .place .resets) _) ∙ p .1 .1 .0 .1 .1 .1 .0 .1 .0 .1
 
 returns : tie.Need-returns
 returns c = feeds-just (c .before .args .chart) (exact-test (c .before .args .chart) _ (c .before .good .0) _ refl .1) _ _ _ (places (c .before .args .m) _ (c .before .good .1 .0)) (c .feed .ensures .0) (c .feed .ensures .1) (c .feed .ensures .2)

@@ -9,12 +9,12 @@ use borrow.Author.Tests.{eq-eqb, ne-eqb}
 use Rattle.model.specs.Chart.{mostRegions}
 use Rattle.layout.specs.View.{Covers}
 use Rattle.base.proofs.Loops.{one-passes, none-some}
-use Rattle.firing.proofs.Skips.{Run, run-of, run-less, Skips, skips-start, not-first, skips-more, all-skipped, known-start, known-left}
+use Rattle.firing.proofs.Skips.{FirstGap, gap-of, run-less, Skips, skips-start, not-first, skips-more, all-skipped, known-start, known-left}
 use Rattle.firing.proofs.is_known.Statement.{statement}
 use Rattle.firing.proofs.is_known.Tie as tie
 
 abbrev Inv-loop : tie.InvT-loop
-Inv-loop keys among code skip₀ i₀ skip i = Run skip i × ((n : ℕ) → Covers n keys code among → Skips n (λ k. eqb (getD keys k 0) code) skip₀ skip i)
+Inv-loop keys among code skip₀ i₀ skip i = FirstGap skip i × ((n : ℕ) → Covers n keys code among → Skips n (λ k. eqb (getD keys k 0) code) skip₀ skip i)
 
 abbrev μ-loop : tie.MeasureT-loop
 μ-loop keys among code skip₀ i₀ skip i = mostRegions - i
@@ -30,7 +30,7 @@ cast-i c = search needs
 
 loop-holds : tie.Need-loop-holds Inv-loop μ-loop
 loop-holds c =
-    let R = run-of (c .run .ensures) in
+    let R = gap-of (c .run .ensures) in
     (R, λ n W. skips-start (known-start W _ (c .before .others .ensures)) R)
 
 mul-if1 : tie.Need-mul-if1 Inv-loop μ-loop
@@ -59,11 +59,11 @@ cast-i-2 : tie.Need-cast-i-2 Inv-loop μ-loop
 cast-i-2 c = search needs
 
 loop-less : tie.Need-loop-less Inv-loop μ-loop
-loop-less c = run-less (c .before .before .before .before .before .loop .inv .0) (c .before .insert .ensures) (run-of (c .run2 .ensures)) (c .before .before .before .before .loop-test .taken)
+loop-less c = run-less (c .before .before .before .before .before .loop .inv .0) (c .before .insert .ensures) (gap-of (c .run2 .ensures)) (c .before .before .before .before .loop-test .taken)
 
 loop-again : tie.Need-loop-again Inv-loop μ-loop
 loop-again c =
-    let R = run-of (c .run2 .ensures) in
+    let R = gap-of (c .run2 .ensures) in
     (R, λ n W. skips-more (c .before .before .before .before .before .loop .inv .1 n W) (c .before .insert .ensures) (ne-eqb _ _ (c .before .before .if1 .left)) R)
 
 returns-2 : tie.Need-returns-2 Inv-loop μ-loop

@@ -10,13 +10,13 @@ use Rattle.model.specs.Chart.{mostRegions}
 use Rattle.layout.specs.View.{Within}
 use Rattle.firing.specs.Parts.{readyBy}
 use Rattle.base.proofs.Loops.{none-passes, first-passes}
-use Rattle.firing.proofs.Skips.{Run, run-of, run-less, Skips, skips-start, not-first, skips-more, skipped, all-skipped, apart, ready-is, unready, plain-start}
+use Rattle.firing.proofs.Skips.{FirstGap, gap-of, run-less, Skips, skips-start, not-first, skips-more, skipped, all-skipped, apart, ready-is, unready, plain-start}
 use Rattle.firing.proofs.ready_plain.Statement.{statement}
 use Rattle.firing.proofs.ready_plain.Tie as tie
 
 abbrev Inv-loop : tie.InvT-loop
 Inv-loop plain above fired skip₀ i₀ skip i =
-    Run skip i × ((n : ℕ) → Within n plain → Skips n (λ k. contains plain k && readyBy above fired k) skip₀ skip i)
+    FirstGap skip i × ((n : ℕ) → Within n plain → Skips n (λ k. contains plain k && readyBy above fired k) skip₀ skip i)
 
 abbrev μ-loop : tie.MeasureT-loop
 μ-loop plain above fired skip₀ i₀ skip i = mostRegions - i
@@ -35,7 +35,7 @@ cast-i c = search needs
 
 loop-holds : tie.Need-loop-holds Inv-loop μ-loop
 loop-holds c =
-    let R = run-of (c .run .ensures) in
+    let R = gap-of (c .run .ensures) in
     (R, λ n W. skips-start (plain-start (c .before .before .before .args .above .now) (W .few) (apart _ _ _ _ (c .before .before .others .ensures) (c .before .join .ensures))) R)
 
 mul-subset : tie.Need-mul-subset Inv-loop μ-loop
@@ -70,13 +70,13 @@ cast-i-2 : tie.Need-cast-i-2 Inv-loop μ-loop
 cast-i-2 c = search needs
 
 loop-less : tie.Need-loop-less Inv-loop μ-loop
-loop-less c = run-less (c .before .before .before .before .before .before .loop .inv .0) (c .before .insert .ensures) (run-of (c .run2 .ensures)) (c .before .before .before .before .before .loop-test .taken)
+loop-less c = run-less (c .before .before .before .before .before .before .loop .inv .0) (c .before .insert .ensures) (gap-of (c .run2 .ensures)) (c .before .before .before .before .before .loop-test .taken)
 
 loop-again : tie.Need-loop-again Inv-loop μ-loop
 loop-again c =
     let a = c .before .before .before .before .before .before .before .before .before .before .args in
     let L = c .before .before .before .before .before .before .loop in
-    let R = run-of (c .run2 .ensures) in (
+    let R = gap-of (c .run2 .ensures) in (
       R,
       λ n W. skips-more (L .inv .1 n W) (c .before .insert .ensures)
           (rw (unready (a .above .now) (a .fired) (L .i) (sym (c .before .before .before .subset .ensures) ∙ c .before .before .if1 .left)) (and-false (contains (a .plain) (L .i))))

@@ -30,7 +30,7 @@ returns c = let p = c .before .before .before .before .before .before .before .b
     let n = c .before .before .before .before .before .before .before .before .before .before .before .put-field .ensures in
     let a = c .before .before .before .before .before .before .put-bytes .ensures in
     let o = c .before .before .put-field2 .ensures in
-    (spelled (refusal-joined _ _ _) (then (then (then (p .0) (n .0)) a) (o .0)), omega (arith, p .1, n .1, a .place, o .1))
+    (spelled (refusal-joined _ _ _) (then (then (then (p .0) (n .0)) a) (o .0)), omega (arith, p .1, n .1, a .next, o .1))
 
 pub put-refusal-spec : {M : Type 1} → statement M
 put-refusal-spec =

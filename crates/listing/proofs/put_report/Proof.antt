@@ -15,7 +15,7 @@ use Rattle.listing.proofs.put_report.Tie as tie
 stands : {l t m : List ℕ} {j : ℕ} → Wrote l 0 t m j → j ≤ room → room ≤ length l → (j ≡ length t) × ((m ≡ listed l t) × (j ≤ room))
 stands {l} {t} {m} {j} w h k =
     let p : 0 + length t ≡ length t = omega arith in
-    (w .place ∙ p, (w .bytes ∙ sets-eq t l 0 (omega (arith, w .place)) ∙ ap (λ (k : ℕ). t ++ drop k l) p, h))
+    (w .next ∙ p, (w .bytes ∙ sets-eq t l 0 (omega (arith, w .next)) ∙ ap (λ (k : ℕ). t ++ drop k l) p, h))
 
 enum-known-report : tie.Need-enum-known-report
 enum-known-report c = search needs

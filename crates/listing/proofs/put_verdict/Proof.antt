@@ -44,7 +44,7 @@ unfolding bytesOf
 returns c = let h = c .before .before .before .before .before .before .before .before .before .before .before .before .before .before .before .before .put-bytes .ensures in
     let x = c .before .before .before .before .before .before .before .before .before .put-three .ensures in
     let y = c .before .before .put-three2 .ensures in
-    (spelled (verdict-joined _) (then (then h (x .0)) (y .0)), omega (arith, h .place))
+    (spelled (verdict-joined _) (then (then h (x .0)) (y .0)), omega (arith, h .next))
 
 pub put-verdict-spec : {M : Type 1} → statement M
 put-verdict-spec =

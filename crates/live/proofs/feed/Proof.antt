@@ -3,7 +3,7 @@
 use native.Mathlib.Omega.{arith}
 use Rattle.live.proofs.Feeding.{fed-none, fed-live}
 use Rattle.live.proofs.Charts.{too-few}
-use Rattle.live.proofs.Runs.{runs-on}
+use Rattle.live.proofs.History.{runs-on}
 use borrow.Author.Needs.{needs}
 use Rattle.live.proofs.feed.Statement.{statement}
 use Rattle.live.proofs.feed.Tie as tie

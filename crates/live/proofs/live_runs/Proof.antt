@@ -1,5 +1,5 @@
 -- `live::live_runs` meets its contract: the claims. Assumes nothing.
-use Rattle.live.proofs.Runs.{live-claims}
+use Rattle.live.proofs.History.{live-claims}
 use Rattle.live.proofs.live_runs.Statement.{statement}
 use Rattle.live.proofs.live_runs.Tie as tie
 

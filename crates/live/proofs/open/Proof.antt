@@ -1,6 +1,6 @@
 -- `live::open` meets its contract: the tests in their order, then the bytes of a fresh live monitor. Assumes nothing.
 use Rattle.live.specs.Live.{headSize, largest}
-use Rattle.live.specs.Runs.{opened}
+use Rattle.live.specs.History.{opened}
 use lib.ListN.{length}
 use native.Mathlib.Omega.{arith}
 use Prim.Native.Nat.{_-_, _≤_}

@@ -1,6 +1,6 @@
 -- `live::put_fresh` meets its contract: the three parts one behind the other. Assumes nothing.
 use Rattle.live.proofs.Opening.{fresh-parts}
-use Rattle.image.proofs.Laws.{monitor-length}
+use Rattle.monitor_image.proofs.Laws.{monitor-length}
 use native.Mathlib.Omega.{arith}
 use borrow.Author.Needs.{needs}
 use Rattle.live.proofs.put_fresh.Statement.{statement}
@@ -14,12 +14,12 @@ put-monitor-requires c κs = search needs
 
 put-word64-requires : tie.Need-put-word64-requires
 put-word64-requires c κs = let p = c .before .before .before .put-monitor in
-    omega (arith, c .before .before .before .before .before .before .before .before .pre, p .ensures .0 .place, p .ensures .0 .size, monitor-length (c .before .before .before .before .zero-monitor .result))
+    omega (arith, c .before .before .before .before .before .before .before .before .pre, p .ensures .0 .next, p .ensures .0 .size, monitor-length (c .before .before .before .before .zero-monitor .result))
 
 put-bytes-requires : tie.Need-put-bytes-requires
 put-bytes-requires c κs = let p = c .before .before .before .before .before .before .before .put-monitor in
     let w = c .before .before .before .put-word64 in
-    omega (arith, c .before .before .before .before .before .before .before .before .before .before .before .before .pre, p .ensures .0 .place, p .ensures .0 .size, w .ensures .place, w .ensures .size, monitor-length (c .before .before .before .before .before .before .before .before .zero-monitor .result))
+    omega (arith, c .before .before .before .before .before .before .before .before .before .before .before .before .pre, p .ensures .0 .next, p .ensures .0 .size, w .ensures .next, w .ensures .size, monitor-length (c .before .before .before .before .before .before .before .before .zero-monitor .result))
 
 same-length : tie.Need-same-length
 same-length c = search needs

@@ -59,7 +59,7 @@ module _ {M : Type 1} (𝓤 : URA M) (H : Heap 𝓤) (A : Atoms 𝓤) (W : Given
   v = sliceVal (s .ptr) (length (s .now))
 
   abbrev made : LogReader
-  made = record { log = s; at = n }
+  made = record { log = s; offset = n }
 
   abbrev at : List Val × (List Val × Unit {0})
   at = (v ∷ [], (vint w64 n ∷ [], tt))

@@ -52,7 +52,7 @@ use denote.Triple.Table.{entered, cited}
 use denote.Triple.Walked.{says, Stays, stay-ref, walkOf, goes-ref, Walks, ends-at, walked, walk-meets}
 use denote.Triple.Clauses.{ensured, lasts}
 use Rattle.log_reader.specs.Next.{nextAt}
-use Rattle.log_reader.specs.Reader.{placeOr, placeAfter}
+use Rattle.log_reader.specs.Reader.{offsetOr, offsetAfter}
 use Rattle.log_reader.specs.declared.LogReader.{LogReader}
 use Rattle.log_reader.specs.declared.Next.{Next}
 use Rattle.log_reader.proofs.LogReader as T
@@ -63,10 +63,10 @@ use Rattle.log_reader.proofs.read_record as read
 use Rattle.log_reader.proofs.read_record.Symbol as read-def
 use Rattle.log_reader.proofs.read_record.Symbol.{name as #log-reader·read-record}
 use Rattle.log_reader.proofs.read_record.Met as read-thm
-use Rattle.log_reader.proofs.place_after as after
-use Rattle.log_reader.proofs.place_after.Symbol as after-def
-use Rattle.log_reader.proofs.place_after.Symbol.{name as #log-reader·place-after}
-use Rattle.log_reader.proofs.place_after.Met as after-thm
+use Rattle.log_reader.proofs.offset_after as after
+use Rattle.log_reader.proofs.offset_after.Symbol as after-def
+use Rattle.log_reader.proofs.offset_after.Symbol.{name as #log-reader·offset-after}
+use Rattle.log_reader.proofs.offset_after.Met as after-thm
 use Rattle.log_reader.proofs.take_record.Key.{name as #log-reader·take-record}
 use Rattle.log_reader.proofs.take_record as take
 use Rattle.log_reader.proofs.take_record.Statement as stated
@@ -115,11 +115,11 @@ module _ {M : Type 1} (𝓤 : URA M) (H : Heap 𝓤) (A : Atoms 𝓤) (W : Given
   v = sliceVal (h .log .ptr) (length (h .log .now))
 
   abbrev found : Next
-  found = nextAt (now (h .log)) (h .at)
+  found = nextAt (now (h .log)) (h .offset)
 
-  -- the reader at the place p
+  -- the reader at the offset p
   abbrev h′ : ℕ → LogReader
-  h′ p = record { log = h .log; at = p }
+  h′ p = record { log = h .log; offset = p }
 
   abbrev Post : Val → SProp 𝓤
   Post = walkOf 𝓤 H A take.ended stayed (take.clauses 𝓤 H A at-mem run) .post
@@ -133,22 +133,22 @@ module _ {M : Type 1} (𝓤 : URA M) (H : Heap 𝓤) (A : Atoms 𝓤) (W : Given
   L = T′.the-laws (α κ′)
 
   abbrev vd : Values (D .parts)
-  vd = (h .log, (h .at, tt))
+  vd = (h .log, (h .offset, tt))
 
   abbrev Own : Fml
   Own = B κ′ .own h (T′.lowered h ∷ [])
 
   -- the call of `read_record`: what it is passed, what it asks, and what is known of its result
   abbrev to-read : ReadRecord 𝓤 H A at-mem run .Ghost
-  to-read = (((κ′, tt), (q′, tt), tt, (h .log, (h .at, tt)), (v ∷ [], (vint w64 (h .at) ∷ [], tt))), tt)
+  to-read = (((κ′, tt), (q′, tt), tt, (h .log, (h .offset, tt)), (v ∷ [], (vint w64 (h .offset) ∷ [], tt))), tt)
 
-  asked : ent 𝓤 (onEntry 𝓤 H A read.signature (κ′, tt) (q′, tt) (h .log, (h .at, tt))
-      (v ∷ [], (vint w64 (h .at) ∷ [], tt))) (ReadRecord 𝓤 H A at-mem run .pre to-read)
+  asked : ent 𝓤 (onEntry 𝓤 H A read.signature (κ′, tt) (q′, tt) (h .log, (h .offset, tt))
+      (v ∷ [], (vint w64 (h .offset) ∷ [], tt))) (ReadRecord 𝓤 H A at-mem run .pre to-read)
   asked = qed W ((‵ (flft κ′ q′) ⊛ ‵ ftrue) ∷
-      ‵ (owns (ShrSlice (named 0) κ′ u8 ∷ usize ∷ []) (h .log, (h .at, tt)) (v ∷ [], (vint w64 (h .at) ∷ [], tt)))
+      ‵ (owns (ShrSlice (named 0) κ′ u8 ∷ usize ∷ []) (h .log, (h .offset, tt)) (v ∷ [], (vint w64 (h .offset) ∷ [], tt)))
       ∷ []) ∵ join ! $ frame ! $ done !
 
-  goes-read : h .at < 2 ^ 64 → ent 𝓤 (⋆ 𝓤 H A (‵ Own ∷ (‵ (flft κ′ q′) ⊛ ‵ ftrue) ∷ []))
+  goes-read : h .offset < 2 ^ 64 → ent 𝓤 (⋆ 𝓤 H A (‵ Own ∷ (‵ (flft κ′ q′) ⊛ ‵ ftrue) ∷ []))
       (sep 𝓤 (ReadRecord 𝓤 H A at-mem run .pre to-read) (sem 𝓤 H A Own))
   goes-read fits =
       qed W (‵ Own ∷ (‵ (flft κ′ q′) ⊛ ‵ ftrue) ∷ []) ∵
@@ -158,7 +158,7 @@ module _ {M : Type 1} (𝓤 : URA M) (H : Heap 𝓤) (A : Atoms 𝓤) (W : Given
       learn ! (λ _. use1 W (‵ (ownAt (D .parts) L 0 (h .log)) ⊛ ‵ (rest (D .parts) L 0 vd))
       (own-out 𝓤 H A W (D .parts) L 0 vd) $ split ! $
       -- [what log owns; what at owns; what the struct owns; the token]
-      move ! (1 ∷ []) $ drop ! $ nothing ! $ owned ! usize (Is usize) (uint-makes 𝓤 H A W w64) (h .at) _ (refl, fits) $
+      move ! (1 ∷ []) $ drop ! $ nothing ! $ owned ! usize (Is usize) (uint-makes 𝓤 H A W w64) (h .offset) _ (refl, fits) $
       fjoin ! $ move ! (1 ∷ 0 ∷ []) $ fjoin ! $
       move ! (2 ∷ 0 ∷ []) $ use2 W (raw (ReadRecord 𝓤 H A at-mem run .pre to-read)) asked $ frame ! $ done !)
 
@@ -166,33 +166,33 @@ module _ {M : Type 1} (𝓤 : URA M) (H : Heap 𝓤) (A : Atoms 𝓤) (W : Given
   ReadSaid r = (r ≡ found) × (now (h .log) ≡ now (h .log))
 
   read-said : (r : Next) → ent 𝓤 (ensured 𝓤 H A read.ended (read.clauses 𝓤 H A at-mem run) (κ′, tt)
-      (h .log, (h .at, tt)) tt r) (fact 𝓤 (ReadSaid r))
-  read-said r = exE 𝓤 _ (λ ws. snd∗ 𝓤 (sem 𝓤 H A (lasts read.ended (κ′, tt) (h .log, (h .at, tt)) ws))
+      (h .log, (h .offset, tt)) tt r) (fact 𝓤 (ReadSaid r))
+  read-said r = exE 𝓤 _ (λ ws. snd∗ 𝓤 (sem 𝓤 H A (lasts read.ended (κ′, tt) (h .log, (h .offset, tt)) ws))
       (fact 𝓤 (ReadSaid r)))
 
   -- the call of `place_after`, at the result r with the machine value u
   abbrev to-after : Next → Val → PlaceAfter 𝓤 H A at-mem run .Ghost
-  to-after r u = ((tt, tt, tt, (h .at, (r, tt)), (vint w64 (h .at) ∷ [], (u ∷ [], tt))), tt)
+  to-after r u = ((tt, tt, tt, (h .offset, (r, tt)), (vint w64 (h .offset) ∷ [], (u ∷ [], tt))), tt)
 
-  goes-after : h .at < 2 ^ 64 → (r : Next) (u : Val)
+  goes-after : h .offset < 2 ^ 64 → (r : Next) (u : Val)
       → ent 𝓤 (sem 𝓤 H A (S.the-row .own r (u ∷ []))) (PlaceAfter 𝓤 H A at-mem run .pre (to-after r u))
   goes-after fits r u =
       qed W (‵ (S.the-row .own r (u ∷ [])) ∷ []) ∵ nothing ! $ move ! (1 ∷ 0 ∷ []) $ fjoin ! $
-      owned ! usize (Is usize) (uint-makes 𝓤 H A W w64) (h .at) _ (refl, fits) $ fjoin ! $
+      owned ! usize (Is usize) (uint-makes 𝓤 H A W w64) (h .offset) _ (refl, fits) $ fjoin ! $
       nothing ! $ join ! $ frame ! $ done !
 
   after-said : (r : Next) (p : ℕ)
-      → ent 𝓤 (ensured 𝓤 H A after.ended (after.clauses 𝓤 H A at-mem run) tt (h .at, (r, tt)) tt p)
-      (fact 𝓤 (p ≡ placeOr (h .at) r))
+      → ent 𝓤 (ensured 𝓤 H A after.ended (after.clauses 𝓤 H A at-mem run) tt (h .offset, (r, tt)) tt p)
+      (fact 𝓤 (p ≡ offsetOr (h .offset) r))
   after-said r p = exE 𝓤 _ (λ ws.
-      snd∗ 𝓤 (sem 𝓤 H A (lasts after.ended tt (h .at, (r, tt)) ws)) (fact 𝓤 (p ≡ placeOr (h .at) r)))
+      snd∗ 𝓤 (sem 𝓤 H A (lasts after.ended tt (h .offset, (r, tt)) ws)) (fact 𝓤 (p ≡ offsetOr (h .offset) r)))
 
   -- what log owns is kept, and at's facts are made anew
   again : (p : ℕ) → p < 2 ^ 64 → ent 𝓤 (sem 𝓤 H A Own) (sem 𝓤 H A (B κ′ .own (h′ p) (T′.lowered (h′ p) ∷ [])))
   again p fits = qed W (‵ Own ∷ []) ∵ owned ! usize (Is usize) (uint-makes 𝓤 H A W w64) p _ (refl, fits) $
       move ! (1 ∷ 0 ∷ []) $ by ! (own-put 𝓤 H A W D L 1 vd p (T′.lowered h))
 
-  exits : (r : Next) (u : Val) (p : ℕ) → r ≡ found → p ≡ placeAfter (now (h .log)) (h .at)
+  exits : (r : Next) (u : Val) (p : ℕ) → r ≡ found → p ≡ offsetAfter (now (h .log)) (h .offset)
       → ent 𝓤 (⋆ 𝓤 H A (‵ (fobs γ (B κ′ .coded .code (h′ p))) ∷ ‵ (fbor κ (Body (mem (B κ′)) b o γ)) ∷ ‵ (flft κ q) ∷
       ‵ (S.the-row .own r (u ∷ [])) ∷ (‵ (flft κ′ q′) ⊛ ‵ ftrue) ∷ [])) (Post u)
   exits r u p e f =
@@ -200,14 +200,14 @@ module _ {M : Type 1} (𝓤 : URA M) (H : Heap 𝓤) (A : Atoms 𝓤) (W : Given
       ‵ (S.the-row .own r (u ∷ [])) ∷ (‵ (flft κ′ q′) ⊛ ‵ ftrue) ∷ []) ∵
       suffices ! _ (ends-at 𝓤 H A take.ended stayed (take.clauses 𝓤 H A at-mem run) W
       (((κ, (κ′, tt)), (q, (q′, tt)), bounds, x, at), tt) u r (h′ p, tt) (tt, tt)) $
-      says ! (record { record-there = e; place = f; bytes = refl }) $
+      says ! (record { record-there = e; offset = f; bytes = refl }) $
       move ! (2 ∷ 4 ∷ []) $ join ! $
       frame ! $ feqI ! (List Val) (vptr b o ∷ []) (vptr b o ∷ []) refl $ fjoin3 ! $ nothing ! $ move ! (1 ∷ 0 ∷ []) $
       fjoin ! $ frame ! $ done !
 
   module _ (C : Calls 𝓤 H) (Λ : Loops 𝓤 H) (fm : FmC 𝓤 H (W .laws) C)
       (known-read : Triple 𝓤 (C #log-reader·read-record) (ReadRecord 𝓤 H A at-mem run))
-      (known-after : Triple 𝓤 (C #log-reader·place-after) (PlaceAfter 𝓤 H A at-mem run)) where
+      (known-after : Triple 𝓤 (C #log-reader·offset-after) (PlaceAfter 𝓤 H A at-mem run)) where
     walk : ent 𝓤 (onEntry 𝓤 H A take.signature (κ, (κ′, tt)) (q, (q′, tt)) x at)
         (WpFn 𝓤 H C Λ code.function (vptr b o ∷ []) Post)
     walk =
@@ -240,7 +240,7 @@ module _ {M : Type 1} (𝓤 : URA M) (H : Heap 𝓤) (A : Atoms 𝓤) (W : Given
         (and-then ! (load ! (from ! (stop !)) (look ! 9 refl))
         (and-then ! (load ! (from ! (stop !)) (look ! 13 refl)) (no-more !))) (λ u.
         use1 W (later (some (λ (r : Next). ((‵ (flft κ′ q′) ⊛ ‵ ftrue) ⊛ ‵ (S.the-row .own r (u ∷ []))) ⊛
-        raw (ensured 𝓤 H A read.ended (read.clauses 𝓤 H A at-mem run) (κ′, tt) (h .log, (h .at, tt)) tt r))))
+        raw (ensured 𝓤 H A read.ended (read.clauses 𝓤 H A at-mem run) (κ′, tt) (h .log, (h .offset, tt)) tt r))))
         (id⊢ 𝓤 _) $ await ! tt $ pick ! (λ r.
         split ! $ move ! (1 ∷ []) $ use1 W (raw (fact 𝓤 (ReadSaid r))) (read-said r) $
         heard ! (ReadSaid r) (λ e. split ! $ move ! (1 ∷ []) $
@@ -255,10 +255,10 @@ module _ {M : Type 1} (𝓤 : URA M) (H : Heap 𝓤) (A : Atoms 𝓤) (W : Given
         (and-then ! (load ! (from ! (stop !)) (look ! 15 refl))
         (and-then ! (load ! (from ! (stop !)) (look ! 13 refl)) (no-more !))) (λ w.
         use1 W (later (some (λ (p : ℕ). (‵ ftrue ⊛ ‵ (usize .own p (w ∷ []))) ⊛
-        raw (ensured 𝓤 H A after.ended (after.clauses 𝓤 H A at-mem run) tt (h .at, (r, tt)) tt p)))) (id⊢ 𝓤 _) $
+        raw (ensured 𝓤 H A after.ended (after.clauses 𝓤 H A at-mem run) tt (h .offset, (r, tt)) tt p)))) (id⊢ 𝓤 _) $
         await ! tt $ pick ! (λ p.
-        split ! $ move ! (1 ∷ []) $ use1 W (raw (fact 𝓤 (p ≡ placeOr (h .at) r))) (after-said r p) $
-        heard ! (p ≡ placeOr (h .at) r) (λ f. split ! $ drop ! $
+        split ! $ move ! (1 ∷ []) $ use1 W (raw (fact 𝓤 (p ≡ offsetOr (h .offset) r))) (after-said r p) $
+        heard ! (p ≡ offsetOr (h .offset) r) (λ f. split ! $ drop ! $
         -- [the place; the result; the token; what the struct owns; the struct's cell; the open borrow; obs; auth; …;
         -- _5; …; _4; …; _3; …; _2; …; _1; …; room for _0; …]
         peeks ! usize (Is usize) (shows 𝓤 H A usize) p (w ∷ []) (λ in-range.
@@ -280,13 +280,13 @@ module _ {M : Type 1} (𝓤 : URA M) (H : Heap 𝓤) (A : Atoms 𝓤) (W : Given
         forget ! 14 refl $ forget ! 16 refl $
         move ! (16 ∷ 17 ∷ []) $ free1 ! $ move ! (14 ∷ 15 ∷ []) $ free1 ! $ move ! (12 ∷ 13 ∷ []) $ free1 ! $
         move ! (10 ∷ 11 ∷ []) $ free1 ! $ move ! (8 ∷ 9 ∷ []) $ free1 ! $ move ! (6 ∷ 7 ∷ []) $ free1 ! $ free0 ! $
-        keep ! (0 ∷ 1 ∷ 2 ∷ 3 ∷ 4 ∷ []) $ by ! (exits r u p (e .0) (f ∙ ap (placeOr (h .at)) (e .0)))))))))))))))))))
+        keep ! (0 ∷ 1 ∷ 2 ∷ 3 ∷ 4 ∷ []) $ by ! (exits r u p (e .0) (f ∙ ap (offsetOr (h .offset)) (e .0)))))))))))))))))))
 
 module _ {M : Type 1} (𝓤 : URA M) (H : Heap 𝓤) (A : Atoms 𝓤) (W : Given 𝓤 H A) (mem : Memory → SProp 𝓤)
     (run : Routine → Fun 𝓤) where
   take-record-walks : (C : Calls 𝓤 H) (Λ : Loops 𝓤 H) → FmC 𝓤 H (W .laws) C
       → Triple 𝓤 (C #log-reader·read-record) (ReadRecord 𝓤 H A mem run)
-      → Triple 𝓤 (C #log-reader·place-after) (PlaceAfter 𝓤 H A mem run)
+      → Triple 𝓤 (C #log-reader·offset-after) (PlaceAfter 𝓤 H A mem run)
       → Walks 𝓤 H A take.ended stayed (WpFn 𝓤 H C Λ code.function) (take.clauses 𝓤 H A mem run)
   take-record-walks C Λ fm known-read known-after = walked 𝓤 H A take.ended stayed (take.clauses 𝓤 H A mem run)
       (WpFn 𝓤 H C Λ code.function) (λ κs. (ptr-vals, tt)) (λ κs. (mut-tells (named 0) (κs .0) (B (κs .1 .0)), tt))
@@ -297,7 +297,7 @@ module _ {M : Type 1} (𝓤 : URA M) (H : Heap 𝓤) (A : Atoms 𝓤) (W : Given
 take-record-meets : {M : Type 1} (𝓤 : URA M) (H : Heap 𝓤) (A : Atoms 𝓤) (W : Given 𝓤 H A) (mem : Memory → SProp 𝓤)
     (run : Routine → Fun 𝓤) (𝓣 : Tables 𝓤 H)
     → Triple 𝓤 (𝓣 .C #log-reader·read-record) (ReadRecord 𝓤 H A mem run)
-    → Triple 𝓤 (𝓣 .C #log-reader·place-after) (PlaceAfter 𝓤 H A mem run)
+    → Triple 𝓤 (𝓣 .C #log-reader·offset-after) (PlaceAfter 𝓤 H A mem run)
     → Meets 𝓤 H A take.signature (WpFn 𝓤 H (𝓣 .C) (𝓣 .Λ) code.function) (take.spec 𝓤 H A mem run)
 take-record-meets 𝓤 H A W mem run 𝓣 known-read known-after = walk-meets 𝓤 H A take.ended stayed W
     (goes-ref 𝓤 H A W 2 0 tt behind, tt) (take.clauses 𝓤 H A mem run) (WpFn 𝓤 H (𝓣 .C) (𝓣 .Λ) code.function)
@@ -315,5 +315,5 @@ take-record-spec 𝓤 H 𝓜 𝓖 𝓡 =
     (𝓡 .run)) 𝓜 𝓡 code.env #log-reader·read-record read-def.routine code.calls-log-reader·read-record
     (read-thm.met 𝓤 H 𝓜 𝓖 𝓡))
     (cited 𝓤 H (PlaceAfter 𝓤 H (𝓖 .A) (𝓜 .mem)
-    (𝓡 .run)) 𝓜 𝓡 code.env #log-reader·place-after after-def.routine code.calls-log-reader·place-after
+    (𝓡 .run)) 𝓜 𝓡 code.env #log-reader·offset-after after-def.routine code.calls-log-reader·offset-after
     (after-thm.met 𝓤 H 𝓜 𝓖 𝓡)))

@@ -1,5 +1,5 @@
 -- `witness_rounds::rounds` carries the page. Assumes nothing.
-use Rattle.runs.specs.Paper.{begins}
+use Rattle.paper.specs.Runs.{begins}
 use Rattle.witness_rounds.proofs.Logs.{round-u, kept-a, dropped-a, broken-a, kept-b, dropped-b, broken-b}
 use Rattle.witness_rounds.proofs.Ways.{unplaced-in-prechart, unplaced-in-main, row-entered, row-moved, row-quiet, five-fed, delays-by, synchronizes-by, advances-by, terminates-by, run-goes, run-settles, run-over, turn-heard, turn-plain, passes-by, moves-by, enters-by, unmatched-in-prechart, unmatched-in-main}
 use Rattle.witness_rounds.proofs.rounds.Statement.{statement}

@@ -2,16 +2,16 @@
 
 use lsc_reference::value::MAX_RECORDS;
 
-/// The next record's time and the bytes behind it; none at the log's end, at an unknown
+/// The next record's time and the bytes after it; none at the log's end, at an unknown
 /// record byte and at a cut record. One arm for both kinds would make every walk slower.
 #[inline(always)]
 fn next(rest: &[u8]) -> Option<(u32, &[u8])> {
     match rest {
-        [1, _, _, _, _, t0, t1, t2, t3, behind @ ..] => {
-            Some((u32::from_be_bytes([*t0, *t1, *t2, *t3]), behind))
+        [1, _, _, _, _, t0, t1, t2, t3, after @ ..] => {
+            Some((u32::from_be_bytes([*t0, *t1, *t2, *t3]), after))
         }
-        [2, t0, t1, t2, t3, behind @ ..] => {
-            Some((u32::from_be_bytes([*t0, *t1, *t2, *t3]), behind))
+        [2, t0, t1, t2, t3, after @ ..] => {
+            Some((u32::from_be_bytes([*t0, *t1, *t2, *t3]), after))
         }
         _ => None,
     }
@@ -22,7 +22,7 @@ pub fn check_log(log: &[u8]) -> Result<u32, (u8, usize)> {
     let mut rest = log;
     let mut last = 0;
     let mut records = 0;
-    while let Some((time, behind)) = next(rest) {
+    while let Some((time, after)) = next(rest) {
         let offset = log.len() - rest.len();
         if time < last {
             return Err((22, offset));
@@ -32,7 +32,7 @@ pub fn check_log(log: &[u8]) -> Result<u32, (u8, usize)> {
         }
         last = time;
         records += 1;
-        rest = behind;
+        rest = after;
     }
     let offset = log.len() - rest.len();
     match rest {
@@ -48,10 +48,10 @@ pub fn scan(log: &[u8]) -> Option<(u64, u64)> {
     let mut rest = log;
     let mut records = 0;
     let mut sum = 0u64;
-    while let Some((time, behind)) = next(rest) {
+    while let Some((time, after)) = next(rest) {
         records += 1;
         sum = sum.wrapping_add(u64::from(time));
-        rest = behind;
+        rest = after;
     }
     rest.is_empty().then_some((records, sum))
 }

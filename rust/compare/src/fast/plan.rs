@@ -95,7 +95,7 @@ impl Plan {
         Some(plan)
     }
 
-    /// Takes a record that is neither refused nor behind a break.
+    /// Takes a record that is neither refused nor after a break.
     #[inline]
     pub fn take_record(&self, state: &mut State, record: &RecordValue) -> Answer {
         state.count(record.time());
@@ -129,8 +129,8 @@ impl Plan {
         let mut state = State::FRESH;
         let mut rest = log;
         loop {
-            if let [1, k0, k1, k2, k3, t0, t1, t2, t3, behind @ ..] = rest {
-                rest = behind;
+            if let [1, k0, k1, k2, k3, t0, t1, t2, t3, after @ ..] = rest {
+                rest = after;
                 state.count(u32::from_be_bytes([*t0, *t1, *t2, *t3]));
                 let carriers = self.keys.carriers(u32::from_be_bytes([*k0, *k1, *k2, *k3]));
                 if carriers != 0 {
@@ -139,8 +139,8 @@ impl Plan {
                         break;
                     }
                 }
-            } else if let [_, t0, t1, t2, t3, behind @ ..] = rest {
-                rest = behind;
+            } else if let [_, t0, t1, t2, t3, after @ ..] = rest {
+                rest = after;
                 state.count(u32::from_be_bytes([*t0, *t1, *t2, *t3]));
             } else {
                 break;

@@ -3,7 +3,7 @@
 use super::masks::Masks;
 use lsc_reference::value::*;
 
-/// Place of "now" among the moments, behind the eight clocks.
+/// Place of "now" among the moments, after the eight clocks.
 pub const NOW: usize = MAX_CLOCKS;
 
 /// The clocks' reset moments, then now.

@@ -144,7 +144,7 @@ pub fn compare(chart: &[u8], log: &[u8], seen: &mut Seen) -> Result<(), Both> {
         let said = feed_live(&mut live, &record);
         let fields = MonitorValue::from_image(&live[..MONITOR_IMAGE]);
         same("feeding", (said, fields), (number(&answer), Some(after)))?;
-        same("bytes behind feeding", Hex(&live), Hex(&wanted))?;
+        same("bytes after feeding", Hex(&live), Hex(&wanted))?;
         seen.answer(&answer);
         let numbers = standing_numbers(&value, &after);
         check_standing(&live, Ok(numbers), seen)?;

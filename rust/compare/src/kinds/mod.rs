@@ -103,7 +103,7 @@ impl Kind {
     }
 }
 
-/// Bytes behind the part of a buffer that a function may write.
+/// Bytes after the part of a buffer that a function may write.
 const BEYOND: usize = 5;
 
 /// A buffer with contents that are easy to miss if changed.

@@ -46,7 +46,7 @@ pub fn compare(chart: &[u8], log: &[u8], seen: &mut Seen) -> Result<(), Both> {
     let wanted: Vec<u8> = meaning.answers.iter().map(number).collect();
     same("answers", said, wanted)?;
     let monitor = MonitorValue::from_image(&live[..MONITOR_IMAGE]);
-    same("the monitor behind", monitor, Some(meaning.monitor()))?;
+    same("the monitor after", monitor, Some(meaning.monitor()))?;
     let wanted = live_bytes(chart, &meaning.monitor());
     same("live bytes", Hex(&live), Hex(&wanted))?;
     for answer in &meaning.answers {

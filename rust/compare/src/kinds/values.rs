@@ -102,7 +102,7 @@ fn check_feed(
     let said = feed_images(image, &mut monitor, &record);
     let fields = MonitorValue::from_image(&monitor[..MONITOR_IMAGE]);
     same("feeding", (said, fields), (number(&answer), Some(after)))?;
-    same("bytes behind feeding", Hex(&monitor), Hex(&wanted))?;
+    same("bytes after feeding", Hex(&monitor), Hex(&wanted))?;
     seen.answer(&answer);
     Ok(())
 }

@@ -23,9 +23,9 @@ fn pieces(bytes: &[u8], length: impl Fn(u8) -> Option<usize>) -> Vec<Vec<u8>> {
     let mut rest = bytes;
     while let Some(&first) = rest.first() {
         let whole = length(first).filter(|&length| length <= rest.len());
-        let (piece, behind) = rest.split_at(whole.unwrap_or(1));
+        let (piece, after) = rest.split_at(whole.unwrap_or(1));
         pieces.push(piece.to_vec());
-        rest = behind;
+        rest = after;
     }
     pieces
 }

@@ -23,7 +23,7 @@ pub struct Meaning {
 }
 
 impl Meaning {
-    /// The monitor behind the list.
+    /// The monitor after the list.
     pub fn monitor(&self) -> MonitorValue {
         let mut resets = [0; MAX_CLOCKS];
         resets[..self.resets.len()].copy_from_slice(&self.resets);
@@ -101,7 +101,7 @@ impl<'a> Cutting<'a> {
 
     /// The answer for the next record.
     fn feed(&mut self, record: RecordValue) -> Answer {
-        // "A record not accepted gets its refusal or, behind a broken stretch, the broken
+        // "A record not accepted gets its refusal or, after a broken stretch, the broken
         // answer again."
         if let Some(known) = self.broken {
             return Answer::Broken(known);
@@ -175,7 +175,7 @@ impl<'a> Cutting<'a> {
         Answer::Dropped
     }
 
-    /// "The next opening is just behind, at that record's time."
+    /// "The next opening is just after, at that record's time."
     fn open(&mut self) {
         self.opening = self.now;
         self.records.clear();

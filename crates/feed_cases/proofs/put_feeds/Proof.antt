@@ -1,0 +1,65 @@
+-- `feed_cases::put_feeds` is safe and ends: each turn takes one from what is left. Assumes nothing.
+use borrow.Author.Needs.{needs}
+use Rattle.feed_cases.proofs.put_feeds.Statement.{statement}
+use Rattle.feed_cases.proofs.put_feeds.Tie as tie
+
+abbrev Inv-loop : tie.InvT-loop
+Inv-loop chart log c m₀ at₀ left₀ m at left = Unit {0}
+
+abbrev μ-loop : tie.MeasureT-loop
+μ-loop chart log c m₀ at₀ left₀ m at left = left
+
+read-requires : tie.Need-read-requires Inv-loop μ-loop
+read-requires c κs = search needs
+
+new-requires : tie.Need-new-requires Inv-loop μ-loop
+new-requires c κs = search needs
+
+loop-holds : tie.Need-loop-holds Inv-loop μ-loop
+loop-holds c = tt
+
+read-record-requires : tie.Need-read-record-requires Inv-loop μ-loop
+read-record-requires c κs = search needs
+
+enum-known-next : tie.Need-enum-known-next Inv-loop μ-loop
+enum-known-next c = search needs
+
+returns : tie.Need-returns Inv-loop μ-loop
+returns c = search needs
+
+feed-requires : tie.Need-feed-requires Inv-loop μ-loop
+feed-requires c κs = search needs
+
+put-step-requires : tie.Need-put-step-requires Inv-loop μ-loop
+put-step-requires c κs = search needs
+
+sub-left : tie.Need-sub-left Inv-loop μ-loop
+sub-left c = search needs
+
+loop-less : tie.Need-loop-less Inv-loop μ-loop
+loop-less c = search needs
+
+loop-again : tie.Need-loop-again Inv-loop μ-loop
+loop-again c = tt
+
+returns-2 : tie.Need-returns-2 Inv-loop μ-loop
+returns-2 c = search needs
+
+pub put-feeds-spec : {M : Type 1} → statement M
+put-feeds-spec =
+    tie.close
+    (tie.spec
+    Inv-loop
+    μ-loop
+    read-requires
+    new-requires
+    loop-holds
+    read-record-requires
+    enum-known-next
+    returns
+    feed-requires
+    put-step-requires
+    sub-left
+    loop-less
+    loop-again
+    returns-2)

@@ -1,0 +1,110 @@
+// Feeds logs to charts record by record. Standard input has a line for each: a name, ':', the chart's bytes in
+// hexadecimal, '/', the log's. For each record it writes the answer's number, and of the monitor then handed back:
+// fired regions as a set, now, records, kept, dropped, break, reason, and each clock's reset moment. The expected
+// lines, in the file stdout, are worked out from the rules.
+use hex::COLON;
+use hex::LINE_FEED;
+use libc::STDIN_FILENO;
+use libc::STDOUT_FILENO;
+use log_reader::Next;
+use model::CLOCK_PLACES;
+use model::Moment;
+use model::Monitor;
+use stepping::Step;
+
+const SLASH: u8 = b'/';
+
+fn put(text: &[u8]) {
+    io::write_all(STDOUT_FILENO, text);
+}
+
+fn put_number(n: u32) {
+    put(b" ");
+    io::print_decimal(STDOUT_FILENO, n as u64);
+}
+
+fn put_moments(moments: [Moment; CLOCK_PLACES]) {
+    let mut k: usize = 0;
+    while k < CLOCK_PLACES {
+        let t = moments[k];
+        put_number(t.0);
+        k += 1;
+    }
+}
+
+fn put_monitor(m: Monitor) {
+    let at = m.place;
+    let tally = m.tally;
+    let moments = at.resets;
+    put_number(at.fired);
+    put_number(tally.now.0);
+    put_number(tally.records);
+    put_number(tally.kept);
+    put_number(tally.dropped);
+    put_number(tally.broken.at);
+    put_number(tally.broken.reason as u32);
+    put_moments(moments);
+}
+
+fn put_step(s: Step) {
+    let answer = s.answer;
+    put_number(model::answer_number(answer) as u32);
+    put_monitor(s.next);
+    put(b"\n");
+}
+
+// Feeds the log's records from the left, as far as its bytes are records.
+fn put_feeds(chart: &[u8], log: &[u8]) {
+    let read = chart_reader::read(chart);
+    let c = read.chart;
+    let made = monitor::new(c);
+    let mut m = made.monitor;
+    let mut at: usize = 0;
+    let mut left = log.len();
+    while 0 < left {
+        let next = log_reader::read_record(log, at);
+        let Next::Handed(e, past) = next else {
+            return;
+        };
+        let s = monitor::feed(c, m, e);
+        put_step(s);
+        m = s.next;
+        at = past;
+        left -= 1;
+    }
+}
+
+fn put_log(chart: &[u8], digits: &[u8]) {
+    let mut log = [0u8; 256];
+    let n = hex::put_bytes(digits, &mut log);
+    put_feeds(chart, &log[..n]);
+}
+
+// One line: the name, the chart's digits and the log's.
+fn show(name: &[u8], digits: &[u8], log: &[u8]) {
+    let mut chart = [0u8; 256];
+    let n = hex::put_bytes(digits, &mut chart);
+    put(name);
+    put(b"\n");
+    put_log(&chart[..n], log);
+}
+
+fn show_all(text: &[u8]) {
+    let mut at: usize = 0;
+    while at < text.len() {
+        let end = hex::find(text, at, text.len(), LINE_FEED);
+        let colon = hex::find(text, at, end, COLON);
+        let slash = hex::find(text, colon, end, SLASH);
+        show(&text[at..colon], &text[colon..slash], &text[slash..end]);
+        if end == text.len() {
+            return;
+        }
+        at = end + 1;
+    }
+}
+
+fn main() {
+    let mut text = [0u8; 65536];
+    let n = io::read_full(STDIN_FILENO, &mut text);
+    show_all(&text[..n]);
+}

@@ -1,0 +1,3 @@
+pub mod Runs
+pub mod Taken
+pub mod Demand2
