@@ -1,25 +1,8 @@
-//! Finds the static library of the functions that only tests use, `lsc_test`, and links it.
+//! Links the static library of the functions that only tests use, `lsc_test`.
 
-use std::env;
-use std::path::PathBuf;
+#[path = "../archives.rs"]
+mod archives;
 
 fn main() {
-    println!("cargo:rerun-if-env-changed=LSC_LIB_DIR");
-    let package = PathBuf::from(env::var_os("CARGO_MANIFEST_DIR").expect("cargo sets it"));
-    let folder = match env::var_os("LSC_LIB_DIR") {
-        Some(folder) => package.join(folder),
-        None => package.join("../../target/staticlib"),
-    };
-    let archive = folder.join("liblsc_test.a");
-    println!("cargo:rerun-if-changed={}", archive.display());
-    let Ok(archive) = archive.canonicalize() else {
-        panic!(
-            "{} is missing: run \"rt staticlib lsc_test\" in the repository's root first \
-             (or set LSC_LIB_DIR to the folder that has it)",
-            archive.display()
-        );
-    };
-    let folder = archive.parent().expect("a file stands in a folder");
-    println!("cargo:rustc-link-search=native={}", folder.display());
-    println!("cargo:rustc-link-lib=static=lsc_test");
+    archives::link("lsc_test");
 }

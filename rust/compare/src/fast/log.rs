@@ -10,9 +10,7 @@ fn next(rest: &[u8]) -> Option<(u32, &[u8])> {
         [1, _, _, _, _, t0, t1, t2, t3, after @ ..] => {
             Some((u32::from_be_bytes([*t0, *t1, *t2, *t3]), after))
         }
-        [2, t0, t1, t2, t3, after @ ..] => {
-            Some((u32::from_be_bytes([*t0, *t1, *t2, *t3]), after))
-        }
+        [2, t0, t1, t2, t3, after @ ..] => Some((u32::from_be_bytes([*t0, *t1, *t2, *t3]), after)),
         _ => None,
     }
 }
