@@ -3,7 +3,7 @@ use model::Length;
 use model::MOST_REGIONS;
 use model::MOST_TERMS;
 ghost use mathlib.Core.Path.{_≡_};
-ghost use Prim.Native.Nat.{ℕ, _<_, _+_};
+ghost use Prim.Native.Nat.{_<_, _+_};
 ghost use Rattle.layout.specs.View.{bias, boundOf, bounded};
 
 pub const TERM_PLACES: usize = MOST_REGIONS * MOST_TERMS;

@@ -4,9 +4,8 @@ use mathlib.Core.Path.{_≡_, sym, ap, subst, _∙_}
 use Prim.Native.Nat.{ℕ}
 use Rattle.base.specs.Lists.{Snoc}
 use Rattle.rounds.specs.Chart.{Chart, Accepted}
-use Rattle.rounds.specs.Rows.{LogRecord, Row, stands, chartMessages, resetMoment}
+use Rattle.rounds.specs.Rows.{LogRecord, stands, chartMessages, resetMoment}
 use Rattle.rounds.specs.Feeds.{Stretch, Last, unended, afterBreak}
-use Rattle.rounds.specs.Tally.{Break, Tally}
 use Rattle.rounds.specs.Machine.{Monitor, after}
 use Rattle.rounds.specs.Demand3.{AtLast, Agrees, Meaning}
 use Rattle.rounds.proofs.Rows.{one-row}

@@ -34,9 +34,10 @@ use Rattle.claims.specs.Examples.{chartU}
 use Rattle.claims.specs.Demand1 as cases
 use Rattle.claims.specs.Demand1.{FeedsAs, FindsAs, Walk, refusedLog, JudgesAs}
 use Rattle.claims.proofs.Demand1.{reads-just}
-use Rattle.witness_rounds.specs.Charts.{passed, undo, headings, references, written}
+use Rattle.witnesses.specs.Feeds.{passes as passed, undo, headings, references, stored}
+use Rattle.witness_rounds.specs.Charts.{written}
 use Rattle.witness_rounds.specs.Rounds.{U, verdictAs}
-use Rattle.witness_rounds.specs.Cases.{valueU, stored, ticks, Cases}
+use Rattle.witness_rounds.specs.Cases.{valueU, ticks, Cases}
 use Rattle.witness_rounds.proofs.Computing.{computing}
 use Rattle.witness_rounds.proofs.Logs.{read-u, accepted-u}
 
@@ -59,21 +60,21 @@ zeros-not g = clash (sound (g .bytes) zeroChart (g .accepted) .fine) refl
 fit : (m : Monitor) → length (m .place .resets) ≡ 8 → fits U m ≡ true → Fit U (monitorAt m)
 fit m p q = fit-exactly U accepted-u m p true (sym q) .0 refl
 
-unfit : FeedsAs valueU (stored 7 0 3 0 0) (undo 100) (refused 21) (stored 7 0 3 0 0)
+unfit : FeedsAs valueU (stored 7 0 0 3 0 0) (undo 100) (refused 21) (stored 7 0 0 3 0 0)
 unfolding computing fits placeFits closedUpward restsUnlessBroken momentsFit countsFit breakFits
-unfit = cases.unfit given-u (λ F. clash (of-fit U accepted-u (stored 7 0 3 0 0) F) refl)
+unfit = cases.unfit given-u (λ F. clash (of-fit U accepted-u (stored 7 0 0 3 0 0) F) refl)
 
-broken-again : FeedsAs valueU (stored 1 110 2 2 1) (undo 120) (brokenAt 2 1) (stored 1 110 2 2 1)
+broken-again : FeedsAs valueU (stored 1 0 110 2 2 1) (undo 120) (brokenAt 2 1) (stored 1 0 110 2 2 1)
 unfolding computing fits placeFits closedUpward restsUnlessBroken momentsFit countsFit breakFits
-broken-again = cases.broken-again given-u (fit (stored 1 110 2 2 1) refl refl) (λ z. omega (arith, z))
+broken-again = cases.broken-again given-u (fit (stored 1 0 110 2 2 1) refl refl) (λ z. omega (arith, z))
 
-time-falls : FeedsAs valueU (stored 0 100 1 0 0) (undo 99) (refused 22) (stored 0 100 1 0 0)
+time-falls : FeedsAs valueU (stored 0 0 100 1 0 0) (undo 99) (refused 22) (stored 0 0 100 1 0 0)
 unfolding computing fits placeFits closedUpward restsUnlessBroken momentsFit countsFit breakFits
-time-falls = cases.time-falls given-u (fit (stored 0 100 1 0 0) refl refl) refl (omega arith)
+time-falls = cases.time-falls given-u (fit (stored 0 0 100 1 0 0) refl refl) refl (omega arith)
 
-too-many : FeedsAs valueU (stored 0 100 1000000 0 0) (undo 100) (refused 23) (stored 0 100 1000000 0 0)
+too-many : FeedsAs valueU (stored 0 0 100 1000000 0 0) (undo 100) (refused 23) (stored 0 0 100 1000000 0 0)
 unfolding computing fits placeFits closedUpward restsUnlessBroken momentsFit countsFit breakFits
-too-many = cases.too-many given-u (fit (stored 0 100 1000000 0 0) refl refl) refl (omega arith) (omega arith)
+too-many = cases.too-many given-u (fit (stored 0 0 100 1000000 0 0) refl refl) refl (omega arith) (omega arith)
 
 -- undo, fed to a fresh monitor: the monitor of a list of one feed
 takes : (n : Monitor) × FeedsAs valueU zeroMonitor (undo 100) entered n

@@ -1,20 +1,25 @@
 -- The rounds: the laws leave equations and tests, which compute. Assumes nothing.
 use mathlib.Core.Path.{_≡_, refl}
+use mathlib.Core.Bool.{false}
+use mathlib.Core.Option.{some}
 use mathlib.Core.List.{[], _∷_}
+use Prim.Native.Nat.{ℕ}
 use Rattle.chart_reader.specs.Read.{readChart}
 use Rattle.chart_reader.specs.Said.{acceptedAs}
 use Rattle.chart_value.proofs.Shown.{shown-of}
 use Rattle.base.specs.Lists.{Snoc, ε, _▸_}
 use Rattle.rounds.specs.Chart.{Accepted}
-use Rattle.rounds.specs.Rows.{LogRecord, stands, Lawful, Full, LawfulButLast}
-use Rattle.rounds.specs.Feeds.{conditionFails, dropped, broken, Ends, complete, fails-cold, fails-hot, keptNow, droppedNow, brokenAt}
+use Rattle.rounds.specs.Rows.{LogRecord, stands, chartMessages, Lawful, Full, LawfulButLast, firstFailing}
+use Rattle.rounds.specs.Feeds.{conditionFails, isKept, Ends, complete, fails-cold, fails-hot, keptNow, droppedNow, brokenAt}
 use Rattle.rounds.proofs.Endings.{unlawful}
 use Rattle.rounds.proofs.Tested.{lawful-tested, waived-tested}
 use Rattle.rounds.proofs.Machine.{full-true}
 use Rattle.chart_value.specs.Records.{logRecord, logged}
+use Rattle.log_reader.specs.Records.{recordsIn}
+use Rattle.judge.specs.Judge.{judgeOf}
 use Rattle.claims.specs.Examples.{chartU}
-use Rattle.witness_rounds.specs.Charts.{chartA, chartB}
-use Rattle.witness_rounds.specs.Rounds.{valueOf, U, A, B, RoundShown, roundU, keptA, droppedA, brokenA, keptB, droppedB, brokenB}
+use Rattle.witness_rounds.specs.Charts.{chartA, chartB, written}
+use Rattle.witness_rounds.specs.Rounds.{valueOf, theory, U, A, B, TakenBy, Round, RoundShown, roundU, keptA, droppedA, brokenA, keptB, droppedB, brokenB}
 use Rattle.witness_rounds.proofs.Computing.{computing}
 use Rattle.paper.proofs.Taking.{unplaceable, caseFor}
 use Rattle.witness_rounds.proofs.Laws.{accepts, taken-anew, taken-at}
@@ -39,6 +44,25 @@ read-b = refl
 
 pub accepted-b : Accepted B
 accepted-b = shown-of chartB (valueOf chartB) read-b .accepted
+
+-- a round that ends where a condition fails, from the tests of its row
+failing : (g : Round) (A : Accepted (theory (g .chart))) (i : ℕ) → readChart (g .chart) ≡ acceptedAs (valueOf (g .chart))
+    → recordsIn (written (g .before ▸ g .last) []) ≡ g .before ▸ g .last
+    → judgeOf (valueOf (g .chart)) (written (g .before ▸ g .last) []) ≡ record { number = 0; offset = 0; verdict = g .verdict }
+    → Lawful (theory (g .chart)) 0 (logged (g .before)) (g .row)
+    → (W : LawfulButLast (theory (g .chart)) 0 (logged (g .before)) (logRecord (g .last)) (g .whole)) → g .failing ≡ some i
+    → firstFailing (theory (g .chart)) 0 (chartMessages (theory (g .chart)) (logged (g .before) ▸ logRecord (g .last))) (g .whole) ≡ some i
+    → Ends (theory (g .chart)) 0 (logged (g .before)) (logRecord (g .last)) (g .outcome) → isKept (g .outcome) ≡ false
+    → TakenBy (g .case) (theory (g .chart)) (g .before) (g .last) (g .status) (g .ans) → RoundShown g
+failing g A i c l j Q W f h E k T = record {
+  chart-read = c;
+  log-read = l;
+  judged = j;
+  row-before = Q;
+  row-with = rw f (unlawful (theory (g .chart)) A 0 (logged (g .before)) (logRecord (g .last)) E k, W, h);
+  ends = E;
+  taken = T;
+}
 
 pub round-u : RoundShown roundU
 unfolding computing unplaceable caseFor accepts
@@ -79,39 +103,20 @@ unfolding computing unplaceable caseFor accepts
 dropped-a =
     let s : Snoc LogRecord = logged (droppedA .before) in
     let e : LogRecord = logRecord (droppedA .last) in
-    let Q : Lawful A 0 s (droppedA .row) = lawful-tested A accepted-a 0 s (droppedA .row) refl refl refl in
-    let W : LawfulButLast A 0 s e (droppedA .whole)
-    = waived-tested A accepted-a 0 s e (droppedA .whole) refl refl refl in
-    let E : Ends A 0 s e dropped = fails-cold (droppedA .whole) 2 W refl refl in
-    record {
-      chart-read = refl;
-      log-read = refl;
-      judged = refl;
-      row-before = Q;
-      row-with = (unlawful A accepted-a 0 s e E refl, W, refl);
-      ends = E;
-      taken = taken-anew A accepted-a s e 4 droppedNow refl refl refl refl;
-    }
+    let W : LawfulButLast A 0 s e (droppedA .whole) = waived-tested A accepted-a 0 s e (droppedA .whole) refl refl refl in
+    failing droppedA accepted-a 2 refl refl refl (lawful-tested A accepted-a 0 s (droppedA .row) refl refl refl) W refl refl
+    (fails-cold (droppedA .whole) 2 W refl refl) refl
+    (taken-anew A accepted-a s e 4 droppedNow refl refl refl refl)
 
 pub broken-a : RoundShown brokenA
 unfolding computing unplaceable caseFor accepts
 broken-a =
     let s : Snoc LogRecord = logged (brokenA .before) in
     let e : LogRecord = logRecord (brokenA .last) in
-    let Q : Lawful A 0 s (brokenA .row) = lawful-tested A accepted-a 0 s (brokenA .row) refl refl refl in
-    let W : LawfulButLast A 0 s e (brokenA .whole)
-    = waived-tested A accepted-a 0 s e (brokenA .whole) refl refl refl in
-    let E : Ends A 0 s e (broken conditionFails) = fails-hot (brokenA .whole) 4 W refl refl in
-    record {
-      chart-read = refl;
-      log-read = refl;
-      judged = refl;
-      row-before = Q;
-      row-with = (unlawful A accepted-a 0 s e E refl, W, refl);
-      ends = E;
-      taken = taken-at A accepted-a s e 5 (ε ▸ 0 ▸ 1 ▸ 2 ▸ 3) (31 ∷ 21 ∷ [])
-          (brokenAt 3 conditionFails) refl refl refl refl refl;
-    }
+    let W : LawfulButLast A 0 s e (brokenA .whole) = waived-tested A accepted-a 0 s e (brokenA .whole) refl refl refl in
+    failing brokenA accepted-a 4 refl refl refl (lawful-tested A accepted-a 0 s (brokenA .row) refl refl refl) W refl refl
+    (fails-hot (brokenA .whole) 4 W refl refl) refl
+    (taken-at A accepted-a s e 5 (ε ▸ 0 ▸ 1 ▸ 2 ▸ 3) (31 ∷ 21 ∷ []) (brokenAt 3 conditionFails) refl refl refl refl refl)
 
 pub kept-b : RoundShown keptB
 unfolding computing unplaceable caseFor accepts
@@ -135,36 +140,17 @@ unfolding computing unplaceable caseFor accepts
 dropped-b =
     let s : Snoc LogRecord = logged (droppedB .before) in
     let e : LogRecord = logRecord (droppedB .last) in
-    let Q : Lawful B 0 s (droppedB .row) = lawful-tested B accepted-b 0 s (droppedB .row) refl refl refl in
-    let W : LawfulButLast B 0 s e (droppedB .whole)
-    = waived-tested B accepted-b 0 s e (droppedB .whole) refl refl refl in
-    let E : Ends B 0 s e dropped = fails-cold (droppedB .whole) 2 W refl refl in
-    record {
-      chart-read = refl;
-      log-read = refl;
-      judged = refl;
-      row-before = Q;
-      row-with = (unlawful B accepted-b 0 s e E refl, W, refl);
-      ends = E;
-      taken = taken-anew B accepted-b s e 4 droppedNow refl refl refl refl;
-    }
+    let W : LawfulButLast B 0 s e (droppedB .whole) = waived-tested B accepted-b 0 s e (droppedB .whole) refl refl refl in
+    failing droppedB accepted-b 2 refl refl refl (lawful-tested B accepted-b 0 s (droppedB .row) refl refl refl) W refl refl
+    (fails-cold (droppedB .whole) 2 W refl refl) refl
+    (taken-anew B accepted-b s e 4 droppedNow refl refl refl refl)
 
 pub broken-b : RoundShown brokenB
 unfolding computing unplaceable caseFor accepts
 broken-b =
     let s : Snoc LogRecord = logged (brokenB .before) in
     let e : LogRecord = logRecord (brokenB .last) in
-    let Q : Lawful B 0 s (brokenB .row) = lawful-tested B accepted-b 0 s (brokenB .row) refl refl refl in
-    let W : LawfulButLast B 0 s e (brokenB .whole)
-    = waived-tested B accepted-b 0 s e (brokenB .whole) refl refl refl in
-    let E : Ends B 0 s e (broken conditionFails) = fails-hot (brokenB .whole) 3 W refl refl in
-    record {
-      chart-read = refl;
-      log-read = refl;
-      judged = refl;
-      row-before = Q;
-      row-with = (unlawful B accepted-b 0 s e E refl, W, refl);
-      ends = E;
-      taken = taken-at B accepted-b s e 5 (ε ▸ 0 ▸ 2 ▸ 1) (20 ∷ [])
-          (brokenAt 2 conditionFails) refl refl refl refl refl;
-    }
+    let W : LawfulButLast B 0 s e (brokenB .whole) = waived-tested B accepted-b 0 s e (brokenB .whole) refl refl refl in
+    failing brokenB accepted-b 3 refl refl refl (lawful-tested B accepted-b 0 s (brokenB .row) refl refl refl) W refl refl
+    (fails-hot (brokenB .whole) 3 W refl refl) refl
+    (taken-at B accepted-b s e 5 (ε ▸ 0 ▸ 2 ▸ 1) (20 ∷ []) (brokenAt 2 conditionFails) refl refl refl refl refl)

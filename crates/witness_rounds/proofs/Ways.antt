@@ -16,7 +16,8 @@ use Rattle.rounds.proofs.Machine.{full-false, done-true, done-false}
 use Rattle.paper.specs.Runs.{Config, Letter, message, silent, delay, initial, Advance, wait, successor, Prompt, begins, settles, Over, spelled}
 use Rattle.paper.proofs.Prompts.{synchronizes, advances, terminates, delays, goes-on}
 use Rattle.chart_value.specs.Records.{logRecord, logged}
-use Rattle.witness_rounds.specs.Charts.{passed, undo, headings, references, ask, pass, answer}
+use Rattle.witnesses.specs.Feeds.{passes as passed, undo, headings, references}
+use Rattle.witness_rounds.specs.Charts.{ask, pass, answer}
 use Rattle.witness_rounds.specs.Rounds.{U, A, configOf, statusAs, TakenBy}
 use Rattle.witness_rounds.specs.Witnesses.{Unplaced, StepBy, TurnOf, FiveFed}
 use Rattle.witness_rounds.proofs.Computing.{computing}

@@ -1,7 +1,6 @@
 -- Every case of the first demand's claims, with an instance: charts, monitors, places and logs that it is about.
 use mathlib.Core.List.{List, [], _∷_}
 use Prim.Native.Nat.{ℕ, zero, suc}
-use lib.ListN.{replicate}
 use Rattle.model.specs.declared.Chart.{Chart}
 use Rattle.model.specs.declared.Monitor.{Monitor}
 use Rattle.model.specs.Chart.{zeroChart}
@@ -13,26 +12,13 @@ use Rattle.log_reader.specs.Record as found
 use Rattle.monitor.specs.declared.MadeAnswer.the-variants.{Fresh, NoChart}
 use Rattle.claims.specs.Examples.{chartU}
 use Rattle.claims.specs.Demand1.{ReadsAs, MakesAs, FeedsAs, FindsAs, Walk, refusedLog, JudgesAs}
-use Rattle.witness_rounds.specs.Charts.{passed, undo, headings, references, written}
+use Rattle.witnesses.specs.Feeds.{passes as passed, undo, headings, references, stored}
+use Rattle.witness_rounds.specs.Charts.{written}
 use Rattle.witness_rounds.specs.Rounds.{valueOf, verdictAs}
 
 -- chart U as a value
 abbrev pub valueU : Chart
 valueU = valueOf chartU
-
--- a monitor with these regions fired, all clocks reset at 0, and no round kept or dropped
-abbrev pub stored : ℕ → ℕ → ℕ → ℕ → ℕ → Monitor
-stored fired now records break reason =
-    record {
-      place = record { fired = fired; resets = replicate 8 (record { 0 = 0 }) };
-      tally = record {
-        now = record { 0 = now };
-        records = records;
-        kept = 0;
-        dropped = 0;
-        broken = record { at = break; reason = reason };
-      };
-    }
 
 -- a log of n records of time 0
 unfoldable pub ticks : ℕ → List ℕ
@@ -48,10 +34,10 @@ pub record Cases : Type 0 where
   pub no-chart : MakesAs zeroChart (record { answer = NoChart; monitor = zeroMonitor })
   -- feeding: no chart; every region fired; broken at record 2; a time below now; a record too many; undo is taken
   pub not-a-chart : FeedsAs zeroChart zeroMonitor (undo 100) (refused 20) zeroMonitor
-  pub unfit : FeedsAs valueU (stored 7 0 3 0 0) (undo 100) (refused 21) (stored 7 0 3 0 0)
-  pub broken-again : FeedsAs valueU (stored 1 110 2 2 1) (undo 120) (brokenAt 2 1) (stored 1 110 2 2 1)
-  pub time-falls : FeedsAs valueU (stored 0 100 1 0 0) (undo 99) (refused 22) (stored 0 100 1 0 0)
-  pub too-many : FeedsAs valueU (stored 0 100 1000000 0 0) (undo 100) (refused 23) (stored 0 100 1000000 0 0)
+  pub unfit : FeedsAs valueU (stored 7 0 0 3 0 0) (undo 100) (refused 21) (stored 7 0 0 3 0 0)
+  pub broken-again : FeedsAs valueU (stored 1 0 110 2 2 1) (undo 120) (brokenAt 2 1) (stored 1 0 110 2 2 1)
+  pub time-falls : FeedsAs valueU (stored 0 0 100 1 0 0) (undo 99) (refused 22) (stored 0 0 100 1 0 0)
+  pub too-many : FeedsAs valueU (stored 0 0 100 1000000 0 0) (undo 100) (refused 23) (stored 0 0 100 1000000 0 0)
   pub takes : (n : Monitor) × FeedsAs valueU zeroMonitor (undo 100) entered n
   -- one record: past the end; an unknown byte; a message and a time cut short; both whole
   pub ends : FindsAs [] 3 (found.end 3)

@@ -6,6 +6,7 @@ use Rattle.model.specs.declared.Record.{Record}
 use Rattle.model.specs.declared.Record.the-variants.{Message, Time}
 use Rattle.base.specs.Lists.{Snoc, ε, _▸_}
 use Rattle.claims.specs.Examples.{message}
+use Rattle.witnesses.specs.Feeds.{message as sent}
 
 -- Chart A: what is asked and passed on within 10 ticks is answered within 30. Three lines, clocks 0 and 1.
 abbrev pub chartA : List ℕ
@@ -42,25 +43,6 @@ chartB =
     -- 3: plain, on lines 1 and 3; hot: clock 0 < 20
     ∷ 0x21 ∷ 0x00 ∷ 0x0a ∷ 0x30 ∷ 0x00 ∷ 0x00 ∷ 0x00 ∷ 0x00 ∷ 0x00 ∷ 0x14 ∷ 0x32
     ∷ 0x7f ∷ []
-
--- a message, by source, destination and label, at a moment
-abbrev pub sent : ℕ → ℕ → ℕ → ℕ → Record
-sent source destination label time =
-    Message (record { source = source; destination = destination; label = label }) (record { 0 = time })
-
--- a record of time
-abbrev pub passed : ℕ → Record
-passed time = Time (record { 0 = time })
-
--- chart U's messages
-abbrev pub undo : ℕ → Record
-undo = sent 0 1 1
-
-abbrev pub headings : ℕ → Record
-headings = sent 1 0 2
-
-abbrev pub references : ℕ → Record
-references = sent 2 3 3
 
 -- chart A's
 abbrev pub ask : ℕ → Record

@@ -22,7 +22,8 @@ use Rattle.paper.specs.Taken.{Status, Taken, caseOf, statusOf}
 use Rattle.chart_value.specs.Records.{logRecord, logged}
 use Rattle.judge.specs.Judge.{judgeOf}
 use Rattle.claims.specs.Examples.{chartU}
-use Rattle.witness_rounds.specs.Charts.{chartA, chartB, undo, headings, references}
+use Rattle.witnesses.specs.Feeds.{undo, headings, references}
+use Rattle.witness_rounds.specs.Charts.{chartA, chartB}
 use Rattle.witness_rounds.specs.Charts.{ask, pass, answer, load, check, written}
 
 -- the chart value that bytes give, and the chart of the theory that it shows

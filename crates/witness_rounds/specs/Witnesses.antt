@@ -15,7 +15,8 @@ use Rattle.rounds.specs.Machine.{after}
 use Rattle.paper.specs.Runs.{Config, Letter, message, silent, delay, initial, Advance, by, Prompt, Over, spelled}
 use Rattle.paper.specs.Taken.{Turn, statusOf}
 use Rattle.chart_value.specs.Records.{logRecord, logged}
-use Rattle.witness_rounds.specs.Charts.{passed, undo, headings, references, ask, pass, answer}
+use Rattle.witnesses.specs.Feeds.{passes as passed, undo, headings, references}
+use Rattle.witness_rounds.specs.Charts.{ask, pass, answer}
 use Rattle.witness_rounds.specs.Rounds.{U, A, configOf, statusAs, TakenBy, RoundShown}
 use Rattle.witness_rounds.specs.Rounds.{roundU, keptA, droppedA, brokenA, keptB, droppedB, brokenB}
 
