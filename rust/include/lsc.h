@@ -1,5 +1,5 @@
 /*
- * lsc.h: a monitor over live sequence charts, proved from its bytes to its verdict.
+ * lsc.h: Silunovam, which watches programs by live sequence charts; proved from bytes to bytes.
  *
  * Link with liblsc.a (whole logs) and liblsc_live.a (live monitors). The functions keep no
  * state and no pointer, allocate nothing, and may be called from several threads at once on
@@ -10,7 +10,7 @@
  * Numbers in charts, logs and live monitors stand most significant byte first.
  *
  * Refusals: 1 to 11 a chart's fault; 12 a buffer too short; 20 no live monitor; 21 an unfit
- * monitor; 22 a time below the one before; 23 more than 1,000,000 records; 30 a record cut
+ * monitor; 22 a time that falls; 23 more than 1,000,000 records; 30 a record cut
  * short; 31 an unknown record byte.
  */
 #ifndef LSC_H
@@ -90,9 +90,9 @@ uint8_t lsc_open(const uint8_t *chart, size_t chart_length,
  * Feeds one message to a live monitor.
  *
  * Answers 1 to 6 (LSC_BROKEN to LSC_QUIET), and the image in live is the monitor after the
- * record; all other bytes stay as they were. A broken monitor answers 1 again and nothing
- * changes. Or 20 if live holds no live monitor, 21 if the monitor is unfit, 22 if the time is
- * below the last one, 23 after 1,000,000 records; live then stays as it was.
+ * record; all other bytes stay as they were. After a break the answer is 1 each time, and no
+ * byte changes. Or 20 if live holds no live monitor, 21 if the monitor is unfit, 22 if the time
+ * falls, 23 after 1,000,000 records; live then stays as it was.
  */
 uint8_t lsc_feed_message(uint8_t *live, size_t live_length, uint8_t source,
                          uint8_t destination, uint16_t label, uint32_t time);

@@ -11,7 +11,7 @@ const EITHER_ORDER: [u8; 35] = [
     0, 2, 0x32, 0x20, 2, 3, 0, 3, 0x7F,
 ];
 
-/// Prechart a then b, both 0 to 1; main c, 1 to 0.
+/// The chart of X17.
 const TWO_THEN_ONE: [u8; 20] = [
     0x10, 2, 0, 0x20, 0, 1, 0, 1, 0x20, 0, 1, 0, 2, 0x50, 0x20, 1, 0, 0, 3, 0x7F,
 ];
@@ -23,7 +23,7 @@ const SENT_AGAIN: [u8; 51] = [
     0x7F,
 ];
 
-/// No prechart; two regions on no common line, ordered through a third between them.
+/// No prechart; the first and the last region are ordered by way of the middle one (O4).
 const THROUGH_A_THIRD: [u8; 20] = [
     0x10, 4, 0, 0x50, 0x20, 0, 1, 0, 1, 0x20, 1, 2, 0, 2, 0x20, 2, 3, 0, 3, 0x7F,
 ];

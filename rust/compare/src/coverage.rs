@@ -3,7 +3,7 @@
 use lsc_reference::value::{Answer, Reason};
 use std::collections::BTreeMap;
 
-/// Every refusal document 01 names.
+/// The refusals of N9 except 12.
 pub const REFUSALS: [u8; 19] = [
     1, 2, 3, 4, 5, 6, 7, 8, 9, 10, 11, 20, 21, 22, 23, 30, 31, 40, 41,
 ];

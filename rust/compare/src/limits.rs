@@ -95,7 +95,7 @@ fn fed() -> Vec<Case> {
     cases
 }
 
-/// "65 + chart_length; the largest usize where that would overflow".
+/// V9, for lengths at both ends.
 fn live_sizes(_: &[u8], _: &[u8], _: &mut Seen) -> Result<(), Both> {
     let near = (0..70).map(|less| usize::MAX - less);
     for length in (0..70).chain(near).chain([65_536, 1 << 32, 1 << 63]) {

@@ -5,7 +5,7 @@ use lsc_reference::value::Answer;
 use std::collections::BTreeMap;
 use std::fmt;
 
-/// A buffer too short; the one number that document 01 does not have.
+/// A buffer too short (N9); `REFUSALS` has all the others.
 pub const SHORT: u8 = 12;
 
 /// Counts of what the library answered.

@@ -1,4 +1,4 @@
-//! The fast judge on document 01's examples and at its limits.
+//! The fast judge on the examples of the rules (X) and at its limits.
 
 use lsc_compare::fast;
 use lsc_reference::examples::{undo, CHART_U, OVER_CHART_U, WIDEST};

@@ -14,9 +14,7 @@ struct Command<'a> {
 }
 
 fn length_of(byte: u8) -> Option<usize> {
-    // "10 lines(1) clocks(1)", "20 source(1) destination(1) label(2)", "21 lines(2)",
-    // "30 clock(1) relation(1) n(4)", "31 clock(1) clock(1) relation(1) n(4)", "32",
-    // "40 clocks(1)", "50", "7F".
+    // B1: each command's size, less its own byte.
     let table = [
         (0x10, 2),
         (0x20, 4),
@@ -46,7 +44,7 @@ fn this_half<'a, 'b>(earlier: &'b [Command<'a>]) -> &'b [Command<'a>] {
     }
 }
 
-/// The region started last in this half and what belongs to it.
+/// The latest region of this half (R6) and what belongs to it.
 fn open_region<'a, 'b>(earlier: &'b [Command<'a>]) -> Option<&'b [Command<'a>]> {
     let half = this_half(earlier);
     let place = half.iter().rposition(starts_region)?;

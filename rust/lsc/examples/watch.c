@@ -1,6 +1,6 @@
 /*
- * Watches messages as they come: after undo, headings and references must come back, in either
- * order, each within 40 ticks. watch.rs does the same in Rust. In the folder rust/:
+ * Watches messages as they come: after an undo both headings and references are restored, in
+ * any order, in at most 40 ticks. watch.rs does the same in Rust. In the folder rust/:
  *
  *   gcc -std=c99 -Wall -Wextra -Werror -Iinclude lsc/examples/watch.c \
  *       ../target/staticlib/liblsc_live.a -o target/watch

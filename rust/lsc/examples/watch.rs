@@ -1,5 +1,5 @@
-//! Watches messages as they come: after undo, headings and references must come back, in
-//! either order, each within 40 ticks.
+//! Watches messages as they come: after an undo both headings and references are restored, in
+//! any order, in at most 40 ticks.
 //!
 //! `cargo run --example watch`. `watch.c` does the same in C.
 

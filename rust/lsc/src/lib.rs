@@ -1,17 +1,18 @@
-//! A monitor over live sequence charts, proved from its bytes to its verdict.
+//! Safe calls of Silunovam, which watches programs by live sequence charts.
 //!
-//! A chart says what must follow once a pattern of messages is seen, in what order and by
-//! when. The monitor reads a chart and timed messages, and says whether the chart was kept,
-//! is still owed, or was broken and at which record. This crate makes safe calls of the
-//! proved static libraries `liblsc.a` and `liblsc_live.a`; it decides nothing by itself.
+//! A chart is a promise about messages between the parts of a program: whenever the prechart
+//! was seen, the main chart comes next, in its order and in time. Given messages with their
+//! times, the monitor finds how often the promise was kept, whether it is owed just now, and
+//! which record broke it. It is proved, and stands in the static libraries `liblsc.a` and
+//! `liblsc_live.a`: this crate calls them and decides nothing by itself.
 //!
 //! [`judge`] takes a whole log. [`LiveMonitor`] takes one record at a time:
 //!
 //! ```
 //! use lsc::{Answer, LiveMonitor, Standing};
 //!
-//! // After undo (line 0 to 1, label 1), headings (1 to 0, label 2) and references (2 to 3,
-//! // label 3) come back in either order, each within 40 ticks.
+//! // After an undo (label 1, line 0 to 1) both headings (label 2, 1 to 0) and references
+//! // (label 3, 2 to 3) are restored, in any order, in at most 40 ticks.
 //! let chart = [
 //!     0x10, 4, 1, // 4 lines, 1 clock
 //!     0x20, 0, 1, 0, 1, 0x40, 1, // prechart: undo resets clock 0
@@ -55,7 +56,7 @@ const TEXT_ROOM: usize = 169;
 
 /// Judges a whole log by a chart; both as bytes.
 ///
-/// The chart is read first; then the whole log is checked before a record is taken.
+/// The chart is read first, then the whole log is checked, and only then are records taken.
 pub fn judge(chart: &[u8], log: &[u8]) -> Result<Verdict, Refusal> {
     let mut out = [0; 6];
     match call::judge(chart, log, &mut out) {
@@ -68,8 +69,8 @@ pub fn judge(chart: &[u8], log: &[u8]) -> Result<Verdict, Refusal> {
     }
 }
 
-/// What the printing program prints for its input: the chart's length (2 bytes, most
-/// significant first), the chart, the log.
+/// What the printing program prints for its input: 2 bytes with the chart's length, the chart,
+/// the log.
 pub fn print(input: &[u8]) -> String {
     let mut out = [0; TEXT_ROOM];
     let mut written = 0;

@@ -47,8 +47,8 @@ impl LiveMonitor {
         self.bytes
     }
 
-    /// Feeds a message. A refusal (22, 23) changes nothing; after a break the answer is
-    /// [`Answer::Broken`] again and nothing changes.
+    /// Feeds a message. A refusal (22, 23) changes nothing, nor does feeding after a break: the
+    /// answer is then [`Answer::Broken`] each time.
     pub fn feed_message(
         &mut self,
         source: u8,

@@ -73,7 +73,7 @@ pub struct Verdict {
     pub kept: u32,
     /// Rounds dropped.
     pub dropped: u32,
-    /// Records taken, up to the break if there is one.
+    /// Records taken; one that broke the chart is the last of them.
     pub records: u32,
     /// The record that broke the chart, counted from 1; 0 if none did.
     pub break_record: u32,
@@ -124,7 +124,7 @@ pub enum Answer {
     Kept,
     /// The round is given up.
     Dropped,
-    /// The prechart was completed.
+    /// The prechart is complete, the round runs on.
     Entered,
     /// Something fired.
     Moved,
@@ -186,7 +186,7 @@ pub enum FeedRefusal {
     NoLiveMonitor,
     /// 21: the bytes hold a monitor that no feeding gives.
     Unfit,
-    /// 22: the record's time is below the one before.
+    /// 22: the record's time is less than now.
     TimeFalls,
     /// 23: 1,000,000 records were taken.
     Full,

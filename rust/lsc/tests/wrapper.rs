@@ -1,4 +1,4 @@
-//! The safe wrapper on document 01's own examples.
+//! The safe wrapper on the examples of the rules (X).
 
 use lsc::{Answer, FeedRefusal, LiveMonitor, Part, Reason, Refusal, Standing};
 use lsc_reference::examples::{CHART_U, OVER_CHART_U};

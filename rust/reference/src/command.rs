@@ -1,4 +1,4 @@
-//! "Commands of one byte, then operands, most significant byte first."
+//! The commands of B1.
 
 /// A command of a chart's bytes.
 #[derive(Clone, Copy, Debug, PartialEq, Eq)]

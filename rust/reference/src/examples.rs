@@ -2,8 +2,8 @@
 
 use crate::value::{Message, RecordValue};
 
-/// Document 01's chart U: once undo is seen, headings and references are owed, each at most
-/// 40 ticks later.
+/// Chart U (X1): once undo is seen, headings and references are owed, each at most 40 ticks
+/// later.
 pub const CHART_U: [u8; 38] = [
     0x10, 4, 1, // 4 lines, 1 clock
     0x20, 0, 1, 0, 1, 0x40, 1,    // prechart: undo resets clock 0
@@ -45,7 +45,7 @@ pub const fn references(time: u32) -> RecordValue {
     message(2, 3, 3, time)
 }
 
-/// "Examples over chart U": a log's records, and the verdict's line or the refusal's.
+/// X3 to X11: a log's records, and the verdict's line or the refusal's.
 pub const OVER_CHART_U: [(&[RecordValue], &str); 9] = [
     (&[undo(100), references(120), headings(140)], "0 1 0 3 0 0"),
     (&[undo(100), references(120), headings(141)], "3 0 0 3 3 2"),

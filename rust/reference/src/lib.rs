@@ -1,8 +1,10 @@
-//! Document 01's chart monitor, written from that document alone to be compared with.
+//! A second implementation of the rules (`docs/RULES.md`), to be compared with the proved one:
+//! it shares no code with the crates.
 //!
-//! `reader`, `well_formed`, `monitor`, `log` and `print` follow document 01 sentence by
-//! sentence. `declarative` decides demand 3 by trying every row. `examples` has chart U and
-//! the document's examples over it.
+//! `command` and `reader` read charts (B, R), `well_formed` has refusal 20 (M4), `monitor`
+//! takes records (O, M, T), `log` reads and judges logs (E, J), `print` makes the printed text
+//! (P). `declarative` decides the same by trying every row (W). `examples` has chart U and logs
+//! over it (X).
 #![forbid(unsafe_code)]
 
 pub mod command;

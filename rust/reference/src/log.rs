@@ -13,8 +13,7 @@ pub enum Next {
     Taken(RecordValue, usize),
 }
 
-/// "The verdict is standing, kept, dropped, records (to the break if there is one), break,
-/// reason."
+/// A verdict (J6).
 #[derive(Clone, Copy, Debug, PartialEq, Eq)]
 pub struct Verdict {
     pub standing: u8,
@@ -25,7 +24,7 @@ pub struct Verdict {
 }
 
 impl Verdict {
-    /// "A refusal gives zeros for the verdict."
+    /// The verdict that comes with a refusal (J5).
     pub const ZERO: Verdict = Verdict {
         standing: 0,
         kept: 0,
@@ -49,9 +48,7 @@ impl Verdict {
     }
 }
 
-/// "With the place at or past the end of the bytes, it says 'end'; otherwise 31 or 30 as in
-/// judging, or the record. The place moves only when a record is handed out, to just after
-/// it."
+/// What the log reader says at a place (E2 to E4).
 pub fn read_record(bytes: &[u8], place: usize) -> Next {
     if place >= bytes.len() {
         return Next::End;
@@ -71,8 +68,7 @@ pub fn read_record(bytes: &[u8], place: usize) -> Next {
     }
 }
 
-/// The log's records, or its first fault: "31 unknown record byte; 30 cut short; 22 a time
-/// below the one before; 23 as above. All are checked before a record is fed."
+/// The log's records, or its first fault (J2, J3).
 pub fn read_log(bytes: &[u8]) -> Result<Vec<RecordValue>, (u8, usize)> {
     let mut records: Vec<RecordValue> = Vec::new();
     let mut place = 0;
@@ -101,8 +97,7 @@ pub fn write_log(records: &[RecordValue]) -> Vec<u8> {
     records.iter().flat_map(RecordValue::to_bytes).collect()
 }
 
-/// "Standing, the first that applies: 3 broken, 0 nothing fired (also where there is no
-/// prechart; choice), 1 in the prechart, 2 owed in the main chart."
+/// How a fit monitor stands (J8, J9).
 fn standing(chart: &ChartValue, monitor: &MonitorValue) -> u8 {
     if monitor.broken().is_some() {
         3
@@ -126,7 +121,8 @@ pub fn verdict(chart: &ChartValue, monitor: &MonitorValue) -> Verdict {
     }
 }
 
-/// "Judging a whole log. 20 (offset 0), then each record from the left, with its offset."
+/// The verdict on a log, or the refusal and its offset (J1 to J6). The whole log is checked
+/// before feeding begins (J4).
 pub fn judge(chart: &ChartValue, bytes: &[u8]) -> Result<Verdict, (u8, usize)> {
     if !is_given(chart) {
         return Err((20, 0));

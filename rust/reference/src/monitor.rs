@@ -1,18 +1,17 @@
-//! The monitor: "How a record is taken", steps 1 to 7, with sets as rows of flags.
+//! The monitor: which regions are above (O), what is fit (M10), feeding (M12) and steps 1 to 7
+//! of taking a record (T).
 
 use crate::value::*;
 use crate::well_formed::is_given;
 
-/// "Above" over a chart's regions.
+/// Which of a chart's regions are above which (O3).
 pub struct Order {
     /// `above[b][a]`: region a is above region b.
     above: Vec<Vec<bool>>,
 }
 
 impl Order {
-    /// "Region a is directly above b if a has the lower number, both are in the same half,
-    /// and they share a line. 'Above' is the transitive closure. Every prechart region is
-    /// also above every main region."
+    /// O1 and its chains within each half, then O2: together they are O3.
     pub fn of(chart: &ChartValue) -> Order {
         let count = usize::from(chart.count);
         let prechart = usize::from(chart.prechart);
@@ -48,12 +47,12 @@ impl Order {
     }
 }
 
-/// Whether the set of fired regions has region `region` (from 0).
+/// Whether region `region` (from 0) is fired.
 fn has(fired: u32, region: usize) -> bool {
     (fired >> region) & 1 == 1
 }
 
-/// "A region is ready if it isn't fired and all above it are."
+/// Whether the region is ready (O5).
 fn is_ready(chart: &ChartValue, order: &Order, fired: u32, region: usize) -> bool {
     let count = usize::from(chart.count);
     !has(fired, region) && (0..count).all(|a| !order.is_above(a, region) || has(fired, a))
@@ -65,7 +64,7 @@ fn ready_plain(chart: &ChartValue, order: &Order, fired: u32) -> Option<usize> {
         .find(|&r| chart.regions[r].message().is_none() && is_ready(chart, order, fired, r))
 }
 
-/// "The phase is prechart while a prechart region is unfired, else main."
+/// Whether the phase is prechart (T6).
 pub fn in_prechart(chart: &ChartValue, fired: u32) -> bool {
     (0..usize::from(chart.prechart)).any(|region| !has(fired, region))
 }
@@ -74,13 +73,13 @@ fn all_fired(chart: &ChartValue, fired: u32) -> bool {
     (0..usize::from(chart.count)).all(|region| has(fired, region))
 }
 
-/// Whether the region's condition holds. "A clock's value is now minus its reset moment."
+/// Whether the region's condition holds (C9) with the clocks' values (T4).
 fn condition_holds(region: &RegionValue, now: u32, resets: &[u32; MAX_CLOCKS]) -> bool {
     let value = |clock: u8| i64::from(now) - i64::from(resets[usize::from(clock)]);
     region.condition().iter().all(|term| term.holds(value))
 }
 
-/// "Making a monitor": a fresh one, or refusal 20.
+/// A fresh monitor for the chart, or refusal 20 (M8).
 pub fn new(chart: &ChartValue) -> Result<MonitorValue, u8> {
     if is_given(chart) {
         Ok(MonitorValue::ZERO)
@@ -89,25 +88,21 @@ pub fn new(chart: &ChartValue) -> Result<MonitorValue, u8> {
     }
 }
 
-/// "A monitor is fit if ..."; false for a chart that no accepted bytes give.
+/// Whether the monitor is fit (M10); false for a value that is no chart (M4).
 pub fn is_fit(chart: &ChartValue, monitor: &MonitorValue) -> bool {
     is_given(chart) && is_fit_under(chart, &Order::of(chart), monitor)
 }
 
+/// M10, point by point.
 fn is_fit_under(chart: &ChartValue, order: &Order, monitor: &MonitorValue) -> bool {
     let count = usize::from(chart.count);
     let fired = monitor.fired;
-    // "all above a fired region are fired"
     let closed = (0..count)
         .all(|b| !has(fired, b) || (0..count).all(|a| !order.is_above(a, b) || has(fired, a)));
-    // "no fired region is beyond the chart"
     let within = (count..MAX_REGIONS).all(|region| !has(fired, region));
-    // "not all are fired"
     let unfinished = !all_fired(chart, fired);
-    // "no plain region is ready unless broken"
     let broken = monitor.break_record != 0 || monitor.reason != 0;
     let settled = broken || ready_plain(chart, order, fired).is_none();
-    // "reset moments are at most now, unused ones zero"
     let clocks = usize::from(chart.clocks);
     let moments = monitor.resets.iter().enumerate().all(|(clock, &moment)| {
         if clock < clocks {
@@ -116,10 +111,8 @@ fn is_fit_under(chart: &ChartValue, order: &Order, monitor: &MonitorValue) -> bo
             moment == 0
         }
     });
-    // "records are at most 1,000,000; kept plus dropped is at most records"
     let counts = monitor.records <= MAX_RECORDS
         && u64::from(monitor.kept) + u64::from(monitor.dropped) <= u64::from(monitor.records);
-    // "the break is two zeros, or a record from 1 to the count with reason 1 or 2"
     let break_fits = match monitor.broken() {
         Some(known) => (1..=monitor.records).contains(&known.record),
         None => monitor.break_record == 0 && monitor.reason == 0,
@@ -127,8 +120,8 @@ fn is_fit_under(chart: &ChartValue, order: &Order, monitor: &MonitorValue) -> bo
     closed && within && unfinished && settled && moments && counts && break_fits
 }
 
-/// "Feeding a record": refusals 20, 21, then broken again, then 22, 23, then the steps. "A
-/// refusal gives the monitor as it came."
+/// Feeding: the tests of M12 in their order, then the steps. A record that is not taken leaves
+/// the monitor alone (M14).
 pub fn feed(
     chart: &ChartValue,
     monitor: MonitorValue,
@@ -170,33 +163,31 @@ pub fn not_taken(monitor: &MonitorValue, record: &RecordValue) -> Option<Answer>
     }
 }
 
-/// Steps 1 to 7.
+/// Steps 1 to 7: T9 to T21.
 fn take(
     chart: &ChartValue,
     order: &Order,
     before: MonitorValue,
     record: RecordValue,
 ) -> (Answer, MonitorValue) {
-    // 1. "The record is counted; now becomes its time."
+    // T9.
     let counted = MonitorValue {
         records: before.records + 1,
         now: record.time(),
         ..before
     };
-    // 2. "A record of time, or a message that no region of either half has (source, label
-    // and destination all equal), does nothing more."
+    // T10: not a chart message, so that was all.
     let carried = regions_with(chart, &record);
     if carried.is_empty() {
         return (Answer::Quiet, counted);
     }
-    // 3. "A message with a ready region that has it"
+    // T11.
     let ready = carried
         .into_iter()
         .find(|&region| is_ready(chart, order, before.fired, region));
     match ready {
         Some(region) => fire(chart, order, counted, region),
-        // 6. "A chart message with no ready region: in the prechart the round is dropped; in
-        // the main chart the round is broken, reason 1."
+        // T18 in phase prechart, T19 in phase main.
         None if in_prechart(chart, before.fired) => drop_round(chart, counted),
         None => break_round(counted, Reason::NoReadyRegion),
     }
@@ -212,7 +203,7 @@ fn regions_with(chart: &ChartValue, record: &RecordValue) -> Vec<usize> {
         .collect()
 }
 
-/// Steps 3, 4, 5 and 7 from a ready region that has the message.
+/// Steps 3, 4, 5 and 7, from the ready region of T11 on.
 fn fire(
     chart: &ChartValue,
     order: &Order,
@@ -220,31 +211,30 @@ fn fire(
     first: usize,
 ) -> (Answer, MonitorValue) {
     let mut after = before;
-    // 3 and 4. The message region, then "while a plain region is ready, the lowest-numbered
-    // is tested and fired likewise, at the same moment".
+    // T12 for the message region, then T13 and T14: plain regions until none is ready.
     let mut next = Some(first);
     while let Some(place) = next {
         let region = &chart.regions[place];
-        // "the condition is tested on the clocks before the region's own resets"
+        // T12, T15: earlier resets count, the region's own are still to come.
         if !condition_holds(region, after.now, &after.resets) {
-            // 7. "A condition that fails: cold, the round is dropped; hot, broken, reason 2."
+            // T21.
             return if region.hot {
                 break_round(after, Reason::ConditionFails)
             } else {
                 drop_round(chart, after)
             };
         }
-        // "If it holds, the region fires, then resets."
+        // T12: now it is fired, and its clocks are reset.
         after.fired |= 1 << place;
         reset(&mut after, region.resets);
         next = ready_plain(chart, order, after.fired);
     }
-    // 5. "When all regions are fired, the round is kept."
+    // T17: the last region was fired, so the round is kept.
     if all_fired(chart, after.fired) {
         after.kept += 1;
         return (Answer::Kept, reopen(chart, after));
     }
-    // "entered (the prechart was completed), moved (something fired)"
+    // T28, or else T29.
     if in_prechart(chart, before.fired) && !in_prechart(chart, after.fired) {
         (Answer::Entered, after)
     } else {
@@ -261,8 +251,7 @@ fn reset(monitor: &mut MonitorValue, clocks: u8) {
     }
 }
 
-/// "Kept or dropped returns to the opening: nothing fired, every clock reset at that
-/// moment". Every clock of the chart: unused reset moments stay zero.
+/// Opens a round (T22). Places beyond the chart's clocks stay 0.
 fn reopen(chart: &ChartValue, mut monitor: MonitorValue) -> MonitorValue {
     monitor.fired = 0;
     for clock in 0..usize::from(chart.clocks) {
@@ -276,8 +265,8 @@ fn drop_round(chart: &ChartValue, mut monitor: MonitorValue) -> (Answer, Monitor
     (Answer::Dropped, reopen(chart, monitor))
 }
 
-/// "A break stores its record and reason; fired regions and clocks are those just before
-/// the failing region, or, for reason 1, before the record."
+/// T23. Fired regions and reset moments stay as they come here: T24 for reason 1, T25 for
+/// reason 2.
 fn break_round(mut monitor: MonitorValue, reason: Reason) -> (Answer, MonitorValue) {
     let record = monitor.records;
     monitor.break_record = record;

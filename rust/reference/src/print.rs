@@ -3,16 +3,16 @@
 use crate::log::judge;
 use crate::reader::read_chart;
 
-/// "It prints a header and the verdict's fields".
+/// The first line of a verdict (P8, X12).
 pub const HEADER: &str = "STANDING KEPT DROPPED RECORDS BREAK REASON";
 
-/// "It reads standard input: chart length (2 bytes, most significant first), chart, log."
+/// The text for an input (P1). Refusals are tried in the order of P2.
 pub fn respond(input: &[u8]) -> String {
-    // "`refused input 40 at 0` (over 65,536 bytes)"
+    // P3.
     if input.len() > 65_536 {
         return refused("input", 40, 0);
     }
-    // "`refused input 41 at 0` (under 2 bytes, or a length beyond the rest)"
+    // P4.
     if input.len() < 2 {
         return refused("input", 41, 0);
     }
@@ -21,15 +21,13 @@ pub fn respond(input: &[u8]) -> String {
     if length > rest.len() {
         return refused("input", 41, 0);
     }
-    // "`refused chart N at O`, `refused log N at O`, tried in this order, O counted within
-    // its part"
+    // P7: offsets count from the part's first byte.
     let (chart, log) = rest.split_at(length);
     let chart = match read_chart(chart) {
         Ok(chart) => chart,
         Err((code, offset)) => return refused("chart", code, offset),
     };
-    // "the verdict's fields in their order, decimal, one space between, a line feed after
-    // each line"
+    // P8 to P10.
     match judge(&chart, log) {
         Err((code, offset)) => refused("log", code, offset),
         Ok(verdict) => {

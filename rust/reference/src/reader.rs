@@ -1,5 +1,4 @@
-//! Reading a chart: "Commands are taken from the left; the first fault decides, with the
-//! offset of its command."
+//! Reading a chart: R1 to R9.
 
 use crate::command::Command::{self, *};
 use crate::value::*;
@@ -12,12 +11,12 @@ struct Reading {
     chart: ChartValue,
     headed: bool,
     in_main: bool,
-    /// The offset of the region started last in this half, until it is closed.
+    /// Where this half's latest region starts, until it is closed (R6).
     open: Option<usize>,
 }
 
-/// The chart the bytes give, or the refusal (1 to 11) and its offset. "A refusal gives a
-/// chart of zeros" is left to the caller: `ChartValue::ZERO`.
+/// The chart the bytes give, or the refusal (1 to 11) and its offset. The chart that R3 hands
+/// out with a refusal is left to the caller: `ChartValue::ZERO`.
 pub fn read_chart(bytes: &[u8]) -> Result<ChartValue, Fault> {
     let mut reading = Reading {
         chart: ChartValue::ZERO,
@@ -31,7 +30,7 @@ pub fn read_chart(bytes: &[u8]) -> Result<ChartValue, Fault> {
         let after = offset + 1 + operands.len();
         reading.check(command, operands, offset)?;
         if command == End {
-            // "11 bytes after the end, at the first of them"
+            // R4: 11, at the byte that is too many.
             return if after < bytes.len() {
                 Err((11, after))
             } else {
@@ -45,24 +44,22 @@ pub fn read_chart(bytes: &[u8]) -> Result<ChartValue, Fault> {
 
 /// The command at an offset, and its operands.
 fn command_at(bytes: &[u8], offset: usize) -> Result<(Command, &[u8]), Fault> {
-    // "1 no command byte (the offset is then the length)"
+    // R4: 1, nothing is left to read.
     let byte = *bytes.get(offset).ok_or((1, offset))?;
-    // "2 unknown command"
+    // R4: 2, a byte that B1 does not have.
     let command = Command::of(byte).ok_or((2, offset))?;
-    // "1 operands cut short"
+    // R4: 1, fewer bytes are left than the operands take.
     let operands = bytes[offset + 1..].get(..command.operands());
     Ok((command, operands.ok_or((1, offset))?))
 }
 
 impl Reading {
-    /// A command's faults from 3 to 10, in their order.
+    /// A command's faults from 3 to 10, in the order of R4.
     fn check(&mut self, command: Command, operands: &[u8], offset: usize) -> Result<(), Fault> {
-        // "3 out of place"
         if self.out_of_place(command) {
             return Err((3, offset));
         }
-        // "At 20, 21, 50 and 7F the region started last in this half is closed, and the
-        // fault's offset is that region's"
+        // R6, R13: the closed region's 6 and 7 come before all that follows here.
         if matches!(command, MessageRegion | PlainRegion | MainChart | End) {
             self.close()?;
         }
@@ -72,14 +69,14 @@ impl Reading {
         if self.too_many(command) {
             return Err((5, offset));
         }
-        // "8 hot in the prechart"
+        // R4: 8, the region is of the prechart.
         if command == Hot && !self.in_main {
             return Err((8, offset));
         }
         if command == PlainRegion && self.none_above(&plain(operands)) {
             return Err((9, offset));
         }
-        // "10 end without a main region"
+        // R4: 10, no `50` or no region since.
         let no_main_region = !self.in_main || self.chart.count == self.chart.prechart;
         if command == End && no_main_region {
             return Err((10, offset));
@@ -87,8 +84,7 @@ impl Reading {
         Ok(())
     }
 
-    /// "not a heading first, a second heading, a second 50, or 30, 31, 32, 40 with no region
-    /// started in this half, or a second 32 or 40 for a region"
+    /// Whether the command is out of place (R5).
     fn out_of_place(&self, command: Command) -> bool {
         if !self.headed {
             return command != Heading;
@@ -103,7 +99,7 @@ impl Reading {
         }
     }
 
-    /// "6 a plain region with neither term nor reset; 7 hot without a term"
+    /// Closes the latest region, if one is open (R6): 6 or 7 at its own offset.
     fn close(&mut self) -> Result<(), Fault> {
         if let Some(offset) = self.open.take() {
             let region = self.last_region();
@@ -118,8 +114,7 @@ impl Reading {
         Ok(())
     }
 
-    /// "4 an operand outside its range (equal source and destination, two equal clocks in
-    /// 31, an empty set, and bits or numbers beyond the heading included)"
+    /// Whether every operand is in range (R7).
     fn in_range(&self, command: Command, operands: &[u8]) -> bool {
         let (lines, clocks) = (self.chart.lines, self.chart.clocks);
         match (command, operands) {
@@ -139,7 +134,7 @@ impl Reading {
         }
     }
 
-    /// "5 a 33rd region or a fifth term"
+    /// Whether the chart, or the region, is full already (R4: 5).
     fn too_many(&self, command: Command) -> bool {
         match command {
             MessageRegion | PlainRegion => usize::from(self.chart.count) == MAX_REGIONS,
@@ -148,9 +143,8 @@ impl Reading {
         }
     }
 
-    /// "9 a plain region with none above it in the opening half (the prechart, or the main
-    /// chart if the prechart is empty)". Something above needs something directly above,
-    /// and that is an earlier region of the half on a common line.
+    /// Whether a plain region here has fault 9 (R8). Something above needs something directly
+    /// above, and that is an earlier region of the half on a common line.
     fn none_above(&self, event: &EventValue) -> bool {
         let opening_half = !self.in_main || self.chart.prechart == 0;
         // In the opening half every region read so far lies in the same half.

@@ -1,24 +1,24 @@
 //! Charts, monitors, records and answers as plain values.
 
-/// "2 to 16 lines".
+/// C1.
 pub const MAX_LINES: u8 = 16;
-/// "1 to 32 regions".
+/// C3.
 pub const MAX_REGIONS: usize = 32;
-/// "at most one condition of 1 to 4 terms".
+/// C9.
 pub const MAX_TERMS: usize = 4;
-/// "0 to 8 clocks".
+/// C2.
 pub const MAX_CLOCKS: usize = 8;
-/// "23 it would be record 1,000,001".
+/// The records that can be taken; the next is refused with 23 (M12, J3).
 pub const MAX_RECORDS: u32 = 1_000_000;
 
-/// What a term compares: "clock" or "first minus second".
+/// What a term compares (C10): a clock, or the first less the second.
 #[derive(Clone, Copy, Debug, PartialEq, Eq)]
 pub enum LeftValue {
     Clock(u8),
     Difference(u8, u8),
 }
 
-/// A term. "Relations: 0 <, 1 ≤, 2 =, 3 ≥, 4 >."
+/// A term (C10). The relation is a number of B2.
 #[derive(Clone, Copy, Debug, PartialEq, Eq)]
 pub struct TermValue {
     pub left: LeftValue,
@@ -26,7 +26,7 @@ pub struct TermValue {
     pub n: i32,
 }
 
-/// "message (source line, label, destination line)"
+/// A message (C5). Equal ones are the same (C8).
 #[derive(Clone, Copy, Debug, PartialEq, Eq)]
 pub struct Message {
     pub source: u8,
@@ -38,11 +38,11 @@ pub struct Message {
 #[derive(Clone, Copy, Debug, PartialEq, Eq)]
 pub enum EventValue {
     Message(Message),
-    /// The set of lines; bit i is line i.
+    /// A set of lines (N4).
     Plain(u16),
 }
 
-/// A region: event, condition (cold unless hot), clock resets (bit i is clock i).
+/// A region as M2 has it. Its resets are a set of clocks (N4).
 #[derive(Clone, Copy, Debug, PartialEq, Eq)]
 pub struct RegionValue {
     pub event: EventValue,
@@ -66,22 +66,20 @@ pub struct ChartValue {
 /// Why a round is broken.
 #[derive(Clone, Copy, Debug, PartialEq, Eq)]
 pub enum Reason {
-    /// "A chart message with no ready region".
+    /// T19: no ready region has the chart message.
     NoReadyRegion = 1,
-    /// "A condition that fails", of a hot region.
+    /// T21: a hot condition fails.
     ConditionFails = 2,
 }
 
-/// "the break (record and reason ...)"
+/// What a break stores (T23).
 #[derive(Clone, Copy, Debug, PartialEq, Eq)]
 pub struct Break {
     pub record: u32,
     pub reason: Reason,
 }
 
-/// "A monitor holds the set of fired regions, each clock's reset moment, now, the counts of
-/// records, kept rounds and dropped rounds, and the break (record and reason, zeros if
-/// none)."
+/// What a monitor holds (T1, M9).
 #[derive(Clone, Copy, Debug, PartialEq, Eq)]
 pub struct MonitorValue {
     /// Bit i is region i + 1.
@@ -103,8 +101,7 @@ pub enum RecordValue {
     Time(u32),
 }
 
-/// "The answer for a record is the first that applies: broken (record, reason), kept,
-/// dropped, entered, moved, quiet"; or a refusal.
+/// What feeding says: a refusal (M12), or an answer, in the order of T27.
 #[derive(Clone, Copy, Debug, PartialEq, Eq)]
 pub enum Answer {
     Refused(u8),
@@ -117,7 +114,7 @@ pub enum Answer {
 }
 
 impl Message {
-    /// The message as it stands in charts and logs: "source(1) destination(1) label(2)".
+    /// The message as it stands in charts (B1) and logs (L1).
     pub const fn to_bytes(self) -> [u8; 4] {
         let [high, low] = self.label.to_be_bytes();
         [self.source, self.destination, high, low]
@@ -142,8 +139,7 @@ impl Message {
 }
 
 impl EventValue {
-    /// "A message region touches its two lines. A plain region, without a message, touches
-    /// the lines it names."
+    /// Whether a region with this event touches the line (C7).
     fn touches(&self, line: u8) -> bool {
         match *self {
             EventValue::Message(message) => line == message.source || line == message.destination,
@@ -151,7 +147,7 @@ impl EventValue {
         }
     }
 
-    /// "they share a line"
+    /// Whether both touch a common line (O1).
     pub fn shares_line_with(&self, other: &EventValue) -> bool {
         (0..MAX_LINES).any(|line| self.touches(line) && other.touches(line))
     }
@@ -171,7 +167,7 @@ impl Reason {
 }
 
 impl Break {
-    /// "record and reason, zeros if none"
+    /// The break as T1 has it: both 0 while there is none.
     pub fn numbers(broken: Option<Break>) -> (u32, u8) {
         broken.map_or((0, 0), |known| (known.record, known.reason.number()))
     }
@@ -184,8 +180,7 @@ impl TermValue {
         n: 0,
     };
 
-    /// Whether the term holds for these values of the clocks. "'First minus second' is the
-    /// exact signed difference."
+    /// Whether the term holds for these values of the clocks (C12, T5).
     pub fn holds(&self, value: impl Fn(u8) -> i64) -> bool {
         let left = match self.left {
             LeftValue::Clock(clock) => value(clock),
@@ -227,7 +222,7 @@ impl RegionValue {
 }
 
 impl ChartValue {
-    /// "A refusal gives a chart of zeros."
+    /// The chart of zeros (M3), which comes with every refusal (R3).
     pub const ZERO: ChartValue = ChartValue {
         lines: 0,
         clocks: 0,
@@ -238,7 +233,7 @@ impl ChartValue {
 }
 
 impl MonitorValue {
-    /// "Fresh: nothing fired, all else zero"; also the monitor of zeros after refusal 20.
+    /// A fresh monitor (T2); refusal 20 has the same with it (M8).
     pub const ZERO: MonitorValue = MonitorValue {
         fired: 0,
         resets: [0; MAX_CLOCKS],
@@ -284,7 +279,7 @@ impl RecordValue {
         }
     }
 
-    /// "01 source(1) destination(1) label(2) time(4): a message. 02 time(4): time passes."
+    /// The bytes of L1 and L2.
     pub fn to_bytes(&self) -> Vec<u8> {
         let mut bytes = Vec::new();
         match *self {

@@ -1,5 +1,4 @@
-//! Refusal 20: "the chart value is not one that some accepted bytes give (unused places
-//! hold zeros)".
+//! Refusal 20 (M4): a value that the reader never gives.
 
 use crate::command::Command::*;
 use crate::reader::read_chart;
@@ -53,7 +52,7 @@ fn write_region(region: &RegionValue, bytes: &mut Vec<u8>) -> Option<()> {
     Some(())
 }
 
-/// Whether some accepted bytes give the value: writing it and reading it gives it back.
+/// Whether some bytes are read as this value (M4): writing it and reading it gives it back.
 pub fn is_given(chart: &ChartValue) -> bool {
     match write_chart(chart) {
         None => false,

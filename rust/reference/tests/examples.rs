@@ -1,4 +1,4 @@
-//! Document 01's examples, and the edges its rules name.
+//! The examples of the rules (X), and edges that other rules name.
 
 use lsc_reference::declarative::Rows;
 use lsc_reference::examples::{headings, message, references, undo, CHART_U, OVER_CHART_U, WIDEST};
@@ -111,7 +111,7 @@ fn the_latest_time_is_taken() {
 
 #[test]
 fn a_then_b_then_c() {
-    // Prechart a then b, both 0 to 1; main c, 1 to 0.
+    // X17.
     let chart = [
         0x10, 2, 0, 0x20, 0, 1, 0, 1, 0x20, 0, 1, 0, 2, 0x50, 0x20, 1, 0, 0, 3, 0x7F,
     ];
@@ -170,7 +170,7 @@ const FAULTS: [(&[u8], (u8, usize)); 35] = [
         &[0x10, 2, 2, 0x20, 0, 1, 0, 1, 0x31, 1, 1, 0, 0, 0, 0, 0],
         (4, 8),
     ),
-    // Hot in the prechart is 8 also without a term.
+    // R15: in the prechart `32` is 8, also without a term.
     (&[0x10, 2, 1, 0x20, 0, 1, 0, 1, 0x32], (8, 8)),
     // 9 is at the 21, whatever follows.
     (&[0x10, 3, 1, 0x20, 0, 1, 0, 1, 0x21, 0, 4, 0x00], (9, 8)),
@@ -216,7 +216,7 @@ fn charts_at_the_edges_are_read() {
 
 #[test]
 fn the_exact_signed_difference() {
-    // Clock 0 reset at 10 and clock 1 at 30: clock 0 minus clock 1 is 20, the other way -20.
+    // T5, with its reset moments.
     for (first, second, n, holds) in [
         (0, 1, 20i32, true),
         (1, 0, -20, true),
@@ -240,19 +240,19 @@ fn the_exact_signed_difference() {
 
 #[test]
 fn the_misreadings() {
-    // "Resetting before testing, so that 'clock >= 3' with its own reset never holds."
+    // T12: the region's test sees its clock before the region resets it.
     let own_reset = [
         0x10, 2, 1, 0x50, 0x20, 0, 1, 0, 1, 0x40, 1, 0x30, 0, 3, 0, 0, 0, 3, 0x7F,
     ];
     assert_eq!(numbers(&own_reset, &[undo(3)]), "0 1 0 1 0 0");
     assert_eq!(numbers(&own_reset, &[undo(2)]), "0 0 1 1 0 0");
-    // "Leaving a ready plain region until the next record, at a later moment."
+    // T16: the plain region fires with undo, not with headings.
     let plain = [
         0x10, 2, 1, 0x50, 0x20, 0, 1, 0, 1, 0x40, 1, 0x21, 0, 1, 0x30, 0, 2, 0, 0, 0, 0, 0x20, 1,
         0, 0, 2, 0x7F,
     ];
     assert_eq!(numbers(&plain, &[undo(5), headings(9)]), "0 1 0 2 0 0");
-    // "two regions on no common line may be ordered through a third": 0-1, 1-2, 2-3.
+    // O4: 0-1 and 2-3 are ordered by way of 1-2.
     let through = [
         0x10, 4, 0, 0x50, 0x20, 0, 1, 0, 1, 0x20, 1, 2, 0, 2, 0x20, 2, 3, 0, 3, 0x7F,
     ];
@@ -284,7 +284,7 @@ fn a_break_keeps_what_stood_before() {
         monitor::feed(&chart, after, RecordValue::Time(0)),
         (broken, after)
     );
-    // Broken, it is fit although a plain region is ready.
+    // M10: the break alone makes up for the ready plain region.
     assert!(monitor::is_fit(&chart, &after));
     let unbroken = MonitorValue {
         break_record: 0,

@@ -98,7 +98,7 @@ fn put(chart: &ChartValue, region: &RegionValue, bit: u32, on_line: &mut OnLine)
 }
 
 impl Masks {
-    /// The masks of a chart value; none if no accepted bytes give it (refusal 20).
+    /// The masks of a chart value; none for refusal 20 (M4).
     pub fn of(chart: &ChartValue) -> Option<Masks> {
         let counts_fit = (2..=16).contains(&chart.lines) && chart.clocks <= 8 && chart.count <= 32;
         if !counts_fit || chart.prechart >= chart.count {

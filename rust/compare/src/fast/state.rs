@@ -81,7 +81,7 @@ impl State {
         }
     }
 
-    /// Returns to the opening, at this moment.
+    /// Opens a round (T22).
     pub(super) fn reopen(&mut self, masks: &Masks) {
         self.fired = 0;
         let now = self.moments[NOW];

@@ -6,8 +6,8 @@ use lsc_reference::value::{LeftValue, TermValue};
 /// Beyond every difference of two moments and every n.
 const FAR: i64 = 1 << 33;
 
-/// A term as a difference of two moments in an interval. A clock is now minus its reset
-/// moment; first minus second is second's reset moment minus first's.
+/// A term as a difference of two moments in an interval: from a clock's reset to now (T4), or
+/// from the first clock's reset to the second's (T5).
 #[derive(Clone, Copy, Debug)]
 pub struct PackedTerm {
     low: i64,

@@ -1,8 +1,6 @@
-//! Demand 3 by brute force: every row of the chart's regions is tried.
+//! Rows and stretches (W) by brute force: every row of regions is tried.
 //!
-//! "Of all rows of a chart's regions, none used twice, call one lawful for a stretch of
-//! records if ..." (proposal); the cutting into stretches is document 01's "A list of
-//! feeds". Nothing here uses the monitor's steps.
+//! `rows` has W1 to W9, `stretches` the rest. Nothing here uses the monitor's steps.
 
 mod rows;
 mod stretches;

@@ -1,9 +1,9 @@
-//! Rows of a chart's regions, and which of them is lawful for a stretch of records.
+//! Rows (W1), and which of them is lawful for a stretch (W3).
 
 use crate::value::*;
 use std::collections::BTreeSet;
 
-/// A stretch of records, and the moment of its opening.
+/// A stretch (W2).
 #[derive(Clone, Copy)]
 pub struct Stretch<'a> {
     pub records: &'a [RecordValue],
@@ -27,7 +27,7 @@ pub struct Laid<'a> {
     whole: bool,
 }
 
-/// All rows over `count` regions, none used twice: permutations of subsets.
+/// All rows over `count` regions (W1): permutations of subsets.
 fn all_rows(count: usize) -> Vec<Vec<usize>> {
     let mut rows: Vec<Vec<usize>> = vec![Vec::new()];
     let mut next = 0;
@@ -44,7 +44,7 @@ fn all_rows(count: usize) -> Vec<Vec<usize>> {
     rows
 }
 
-/// Every region's regions above, found by walking up until nothing is added.
+/// Every region's regions above (O3), found by walking up until nothing is added.
 fn regions_above(chart: &ChartValue) -> Vec<BTreeSet<usize>> {
     let prechart = usize::from(chart.prechart);
     let event = |region: usize| &chart.regions[region].event;
@@ -100,8 +100,7 @@ impl<'a> Rows<'a> {
         &self.chart.regions[place]
     }
 
-    /// "A chart message is one that some region of either half has": the places in the
-    /// stretch of its chart messages.
+    /// The places in the stretch of its chart messages (T7).
     fn chart_messages(&self, records: &[RecordValue]) -> Vec<usize> {
         (0..records.len())
             .filter(|&place| match records[place].message() {
@@ -113,10 +112,9 @@ impl<'a> Rows<'a> {
             .collect()
     }
 
-    /// The row over the stretch: "a plain region belongs to the record of the last message
-    /// region before it"; "in a row its region belongs to its record". None unless its
-    /// message regions are, one for one and in order, the first of the stretch's chart
-    /// messages, or if a plain region has no record.
+    /// The row over the stretch, each region with its record (W7). None unless the message
+    /// regions match, as in W4, the first of the stretch's chart messages, or if a plain region
+    /// has no record.
     pub(super) fn lay<'b>(&'b self, row: &'b [usize], stretch: Stretch<'b>) -> Option<Laid<'b>> {
         let mut left = self.chart_messages(stretch.records).into_iter();
         let mut current = None;
@@ -140,7 +138,7 @@ impl<'a> Rows<'a> {
         })
     }
 
-    /// "each region follows all those above it"
+    /// W5: nothing above a region is missing before it.
     fn follows(&self, row: &[usize]) -> bool {
         (0..row.len()).all(|place| {
             self.above[row[place]]
@@ -149,9 +147,7 @@ impl<'a> Rows<'a> {
         })
     }
 
-    /// "each region without a message stands as soon as all above it do, at each place the
-    /// lowest number first"; and "a row that lacks a plain region while all above that
-    /// region stand in it is not lawful".
+    /// W6: no plain region is late or missing.
     fn prompt(&self, row: &[usize]) -> bool {
         (0..=row.len()).all(|place| {
             let stand = &row[..place];
@@ -167,9 +163,8 @@ impl<'a> Rows<'a> {
         })
     }
 
-    /// Whether the row is lawful for the stretch: "its message regions are, one for one and
-    /// in order, the stretch's chart messages", and so on. With `spare_last`, "take the
-    /// conditions at its last record as holding".
+    /// Whether the row is lawful for the stretch (W3). With `spare_last`, the conditions of the
+    /// last record's regions are waived (W18).
     fn is_lawful(&self, row: &[usize], stretch: Stretch, spare_last: bool) -> bool {
         let Some(laid) = self.lay(row, stretch) else {
             return false;
@@ -181,7 +176,7 @@ impl<'a> Rows<'a> {
             && (0..row.len()).all(|place| spared(place) || laid.condition_holds(place))
     }
 
-    /// The stretch's lawful row. "No stretch has two lawful rows": asserted.
+    /// The stretch's lawful row. That there is no other (W9, W18) is asserted.
     pub(super) fn lawful_row(&self, stretch: Stretch, spare_last: bool) -> Option<&[usize]> {
         let mut lawful = self
             .all
@@ -210,8 +205,7 @@ impl Laid<'_> {
             .map_or(self.stretch.opening, |earlier| self.time(earlier))
     }
 
-    /// Whether the condition at a place of the row "holds at its record's time, clocks
-    /// counted from their last reset earlier in the row or from the round's opening".
+    /// Whether the condition at a place of the row holds (W8).
     pub(super) fn condition_holds(&self, place: usize) -> bool {
         let now = i64::from(self.time(place));
         let value = |clock: u8| now - i64::from(self.last_reset(place, clock));

@@ -1,4 +1,4 @@
-//! "A list of feeds": accepted records cut into stretches, each ended by its lawful rows.
+//! A list of feeds (W10) as stretches: where each one ends (W14), and how (W17 to W20).
 
 use super::rows::{Rows, Stretch};
 use crate::value::*;
@@ -15,8 +15,8 @@ pub struct Meaning {
     pub broken: Option<Break>,
     /// The last accepted record's time, or 0.
     pub now: u32,
-    /// The cut: the regions (from 0) of the unended last stretch's row, or those left by the
-    /// broken one.
+    /// The cut: the regions (from 0) in the row of a last stretch that has no end (W28), or
+    /// those left by the broken one (T24, T25).
     pub cut: BTreeSet<usize>,
     /// Each clock's last reset in that cut, or the opening.
     pub resets: Vec<u32>,
@@ -74,7 +74,7 @@ impl Rows<'_> {
 }
 
 impl<'a> Cutting<'a> {
-    /// "The first opening is before them all, at moment 0."
+    /// The first stretch, without a record so far (W13).
     fn of(rows: &'a Rows<'a>) -> Cutting<'a> {
         let cutting = Cutting {
             rows,
@@ -101,8 +101,7 @@ impl<'a> Cutting<'a> {
 
     /// The answer for the next record.
     fn feed(&mut self, record: RecordValue) -> Answer {
-        // "A record not accepted gets its refusal or, after a broken stretch, the broken
-        // answer again."
+        // W25 for a record that W11 and W12 do not accept.
         if let Some(known) = self.broken {
             return Answer::Broken(known);
         }
@@ -115,18 +114,17 @@ impl<'a> Cutting<'a> {
         self.accepted += 1;
         self.now = record.time();
         self.records.push(record);
-        // "A stretch ends with the first record up to which it has no lawful row, or one with
-        // every region."
+        // W14.
         let rows = self.rows;
         match rows.lawful_row(self.stretch(), false) {
             Some(row) if row.len() < rows.count() => self.run_on(row),
-            // "Ending with a row, it is kept."
+            // W17.
             Some(_) => self.keep(),
             None => self.end_without_row(),
         }
     }
 
-    /// "otherwise the round runs on (entered, moved, quiet)"
+    /// W23: the stretch does not end here.
     fn run_on(&mut self, row: &[usize]) -> Answer {
         let before = std::mem::replace(&mut self.row, row.to_vec());
         if self.rows.has_prechart(row) && !self.rows.has_prechart(&before) {
@@ -138,20 +136,18 @@ impl<'a> Cutting<'a> {
         }
     }
 
-    /// "Ending with none, take the conditions at its last record as holding."
+    /// W18: a row is looked for once more.
     fn end_without_row(&mut self) -> Answer {
         let rows = self.rows;
         let Some(row) = rows.lawful_row(self.stretch(), true) else {
-            // "Still no row: broken, reason 1, if the stretch's row up to the record before
-            // has every prechart region, else dropped."
+            // W19: the row without the last record decides.
             return if rows.has_prechart(&self.row) {
                 self.break_off(self.row.clone(), Reason::NoReadyRegion)
             } else {
                 self.drop()
             };
         };
-        // "Otherwise, in the row there then is, the first region whose condition fails
-        // decides: hot, broken, reason 2; cold, dropped."
+        // W20.
         let laid = rows.lay(row, self.stretch()).expect("a lawful row");
         let failing = (0..row.len())
             .find(|&place| !laid.condition_holds(place))
@@ -175,15 +171,14 @@ impl<'a> Cutting<'a> {
         Answer::Dropped
     }
 
-    /// "The next opening is just after, at that record's time."
+    /// Opens another stretch (W15).
     fn open(&mut self) {
         self.opening = self.now;
         self.records.clear();
         self.row.clear();
     }
 
-    /// "the break is ... the number of accepted records and the broken stretch's reason". What
-    /// stays is the row before the failing region, or up to the record before.
+    /// W27. The row is what stays fired: T24 for reason 1, T25 for reason 2.
     fn break_off(&mut self, row: Vec<usize>, reason: Reason) -> Answer {
         let record = self.accepted;
         let known = Break { record, reason };
