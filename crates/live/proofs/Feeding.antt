@@ -39,7 +39,7 @@ use Rattle.monitor_image.proofs.Laws.{monitor-length}
 use Rattle.live.specs.Live.{chartIn, isRefused, isBroken, bytesFed, LiveFedBy, LiveFed}
 use Rattle.live.proofs.Charts.{same-chart, live-exact, zero-refused}
 
--- an answer that is ans as 20
+-- an answer whose number is 20
 answered-20 : (a : Answer) → answerOf a ≡ refused (feedRefusalNumber NotAChart) → answerNumber a ≡ feedRefusalNumber NotAChart
 answered-20 (Refused k) e = cc
 answered-20 (Broken n k) e = let z : _≡_ {A = ℕ} 0 1 = cc in absurd (omega arith)
