@@ -48,7 +48,8 @@ first-some (suc k) t i e = elim (found (first k t)) [
         record {
           below = omega arith;
           passes = rw q p;
-          lowest = λ j h c. elim (ℕ-discrete j k) [ yes d ↦ omega arith | no d ↦ clash c (first-none k t n j (omega arith)) ];
+          lowest = λ j h c. elim
+              (ℕ-discrete j k) [ yes d ↦ omega arith | no d ↦ clash c (first-none k t n j (omega arith)) ];
         }
     | inr p ↦ none-some {o = first (suc k) t} (rw (n, p)) e
   ]
@@ -58,7 +59,8 @@ first-some (suc k) t i e = elim (found (first k t)) [
       record {
         below = omega (arith, L .below);
         passes = L .passes;
-        lowest = λ j h c. elim (ℕ-discrete j k) [ yes d ↦ omega (arith, L .below) | no d ↦ L .lowest j (omega arith) c ];
+        lowest = λ j h c. elim
+            (ℕ-discrete j k) [ yes d ↦ omega (arith, L .below) | no d ↦ L .lowest j (omega arith) c ];
       }
 ]
 
@@ -89,7 +91,8 @@ all-at (suc k) t h j l = elim (ℕ-discrete j k) [
 ]
 
 -- one more number fails: the count falls by one
-count-same : (k : ℕ) (f : ℕ → Bool) (i : ℕ) → k ≤ i → countBelow k (λ j. not (eqb j i || f j)) ≡ countBelow k (λ j. not (f j))
+count-same : (k : ℕ) (f : ℕ → Bool) (i : ℕ) → k ≤ i
+    → countBelow k (λ j. not (eqb j i || f j)) ≡ countBelow k (λ j. not (f j))
 count-same zero f i h = refl
 count-same (suc k) f i h =
     let ne : eqb k i ≡ false = ne-eqb k i (λ q. omega arith) in

@@ -24,7 +24,8 @@ module _ {A : Type 0} where
       same : ¬ (y ≡ k) → ltb y k ≡ ltb y (k + 1)
       same q = elim (decLt y k) [
         | yes l ↦ rw (lt-ltb y k l, lt-ltb y (k + 1) (omega arith))
-        | no l ↦ let m : k ≤ y = omega arith in let n : k + 1 ≤ y = omega (arith, q) in rw (le-ltb y k m, le-ltb y (k + 1) n)
+        | no l ↦ let m : k ≤ y = omega arith in let n : k + 1 ≤ y = omega (arith, q) in
+            rw (le-ltb y k m, le-ltb y (k + 1) n)
       ]
 
   -- an array of one value
@@ -49,7 +50,8 @@ module _ {A : Type 0} where
             (λ y q. getD-set-other out k y v d q);
       }
 
-  pub filled-below : {d : A} {f : ℕ → A} {k : ℕ} {out : List A} → Filled d f k out → (y : ℕ) → y < k → getD out y d ≡ f y
+  pub filled-below : {d : A} {f : ℕ → A} {k : ℕ} {out : List A} → Filled d f k out → (y : ℕ) → y < k
+      → getD out y d ≡ f y
   filled-below {d} {f} {k} F y h = F .is y ∙ ap (λ (b : Bool). cond b (f y) d) (lt-ltb y k h)
 
   pub filled-beyond : {d : A} {f : ℕ → A} {k : ℕ} {out : List A} → Filled d f k out → (y : ℕ) → k ≤ y → getD out y d ≡ d

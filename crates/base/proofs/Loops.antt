@@ -35,7 +35,8 @@ first-passes {t} {k} n S h l = first-is n t k (record {
 pub all-pass : {t : ℕ → Bool} {k : ℕ} (n : ℕ) → SoFar t true k → k ≡ n → allBelow n t ≡ true
 all-pass {t} n S q = all-of n t (λ j l. S .is j (omega arith))
 
-pub rest-pass : {t : ℕ → Bool} {k : ℕ} (n : ℕ) → SoFar t true k → ((j : ℕ) → k ≤ j → j < n → t j ≡ true) → allBelow n t ≡ true
+pub rest-pass : {t : ℕ → Bool} {k : ℕ} (n : ℕ) → SoFar t true k → ((j : ℕ) → k ≤ j → j < n → t j ≡ true)
+    → allBelow n t ≡ true
 rest-pass {t} {k} n S h = all-of n t (λ j l. elim (decLt j k) [ yes b ↦ S .is j b | no b ↦ h j (omega arith) l ])
 
 pub one-fails : (t : ℕ → Bool) (k n : ℕ) → k < n → t k ≡ false → allBelow n t ≡ false

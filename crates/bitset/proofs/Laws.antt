@@ -82,9 +82,12 @@ pub contains-single : (j i : ℕ) → contains (single j) i ≡ eqb i j
 unfolding contains single
 contains-single zero zero = refl
 contains-single zero (suc i) = sym (contains-half 1 i) ∙ contains-empty i ∙ sym (eqb·suc-zero i)
-contains-single (suc j) zero = ap (λ (x : ℕ). eqb (x % 2) 1) (div-one (2 ^ suc j) ∙ sym (one-mul (2 ^ suc j))) ∙ ap (λ (x : ℕ). eqb x 1) (shifted-even 1 j) ∙ sym (eqb·zero-suc j)
+contains-single (suc j) zero =
+    ap (λ (x : ℕ). eqb (x % 2) 1) (div-one (2 ^ suc j) ∙ sym (one-mul (2 ^ suc j)))
+    ∙ ap (λ (x : ℕ). eqb x 1) (shifted-even 1 j) ∙ sym (eqb·zero-suc j)
 contains-single (suc j) (suc i) =
-    sym (contains-half (2 ^ suc j) i) ∙ ap (λ (x : ℕ). contains x i) (pow-half j) ∙ contains-single j i ∙ sym (eqb·suc-suc i j)
+    sym (contains-half (2 ^ suc j) i) ∙ ap (λ (x : ℕ). contains x i) (pow-half j) ∙ contains-single j i
+    ∙ sym (eqb·suc-suc i j)
 
 -- a set after an insertion: the new member, and those it had
 pub contains-inserted : (s j i : ℕ) → contains (inserted s j) i ≡ (contains s i || eqb i j)
@@ -106,10 +109,12 @@ same-members (suc k) a b ha hb h =
 pub subset-members : (a b : ℕ) → isSubset a b ≡ true → (i : ℕ) → contains a i ≡ true → contains b i ≡ true
 unfolding isSubset
 subset-members a b h i m =
-    let e : contains a i ≡ (contains a i && contains b i) = ap (λ (x : ℕ). contains x i) (sym (eqb-true _ _ h)) ∙ contains-and a b i in
+    let e : contains a i ≡ (contains a i && contains b i) = ap (λ (x : ℕ). contains x i) (sym (eqb-true _ _ h))
+    ∙ contains-and a b i in
     sym (rw m at e)
 
-pub members-subset : (k a b : ℕ) → a < 2 ^ k → ((i : ℕ) → i < k → contains a i ≡ true → contains b i ≡ true) → isSubset a b ≡ true
+pub members-subset : (k a b : ℕ) → a < 2 ^ k → ((i : ℕ) → i < k → contains a i ≡ true → contains b i ≡ true)
+    → isSubset a b ≡ true
 unfolding isSubset
 members-subset k a b ha h =
     eq-eqb _ _ (same-members k (bitAnd a b) a (lt-of-le-of-lt (and-le-l a b) ha) ha
@@ -127,7 +132,8 @@ contains-below (suc n) zero =
     contains-zero (2 ^ suc n - 1) ∙ ap (λ (x : ℕ). eqb x 1) o ∙ sym (lt-ltb 0 (suc n) (omega arith))
 contains-below (suc n) (suc i) =
     let p = pow-suc 2 n in let o : (2 ^ suc n - 1) / 2 ≡ 2 ^ n - 1 = omega arith in
-    sym (contains-half (2 ^ suc n - 1) i) ∙ ap (λ (x : ℕ). contains x i) o ∙ contains-below n i ∙ sym (leb·suc-suc (suc i) n)
+    sym (contains-half (2 ^ suc n - 1) i) ∙ ap (λ (x : ℕ). contains x i) o ∙ contains-below n i
+    ∙ sym (leb·suc-suc (suc i) n)
 
 -- a number that is not 0 has a member
 pub some-member : (s : ℕ) → (s ≡ 0 → ⊥) → (i : ℕ) × (contains s i ≡ true)
@@ -135,7 +141,8 @@ some-member =
     bin-ind (λ (s : ℕ). (s ≡ 0 → ⊥) → (i : ℕ) × (contains s i ≡ true)) (λ h. absurd (h refl))
     (λ s ih h. by-digit s ih h (s % 2) (digit-lt s) refl)
   where
-    by-digit : (s : ℕ) → ((s / 2 ≡ 0 → ⊥) → (i : ℕ) × (contains (s / 2) i ≡ true)) → (s ≡ 0 → ⊥) → (d : ℕ) → d < 2 → s % 2 ≡ d
+    by-digit : (s : ℕ) → ((s / 2 ≡ 0 → ⊥) → (i : ℕ) × (contains (s / 2) i ≡ true)) → (s ≡ 0 → ⊥) → (d : ℕ) → d < 2
+        → s % 2 ≡ d
         → (i : ℕ) × (contains s i ≡ true)
     by-digit s ih h zero hd e =
         let r = ih (λ z. h (omega arith)) in (suc (r .0), sym (contains-half s (r .0)) ∙ r .1)
@@ -196,7 +203,8 @@ even s e = ne-eqb (s / 1 % 2) 1 (rw (div-one s) (λ f. omega arith))
 pub trailing-gap : (k s : ℕ) → s < 2 ^ k → contains s (trailingZeros k (s + 1)) ≡ false
 unfolding trailingZeros
 trailing-gap zero s h = let e : s ≡ 0 = omega arith in rw e (contains-empty 0)
-trailing-gap (suc k) s h = by ((s + 1) % 2) refl (trailing-gap k (s / 2) (let m : 2 ^ suc k ≡ 2 ^ k * 2 = pow-suc 2 k in omega arith))
+trailing-gap (suc k) s h =
+    by ((s + 1) % 2) refl (trailing-gap k (s / 2) (let m : 2 ^ suc k ≡ 2 ^ k * 2 = pow-suc 2 k in omega arith))
   where
     by : (r : ℕ) → (s + 1) % 2 ≡ r → contains (s / 2) (trailingZeros k (s / 2 + 1)) ≡ false
         → contains s (under r (trailingZeros k ((s + 1) / 2))) ≡ false

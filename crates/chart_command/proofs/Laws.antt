@@ -7,9 +7,11 @@ use lib.ListN.{length, getD}
 use Rattle.chart_command.specs.declared.Command.{Command}
 use Rattle.chart_command.specs.declared.Decoded.{Decoded}
 use Rattle.chart_command.specs.declared.Decoded.the-variants.{CutShort, Unknown}
-use Rattle.chart_command.specs.Command.{headingByte, messageByte, plainByte, clockTermByte, differenceTermByte, hotByte, resetsByte, mainByte, endByte, operands, decodeByte, decodeAt}
+use Rattle.chart_command.specs.Command.{headingByte, messageByte, plainByte, clockTermByte, differenceTermByte}
+use Rattle.chart_command.specs.Command.{hotByte, resetsByte, mainByte, endByte, operands, decodeByte, decodeAt}
 
-module _ (s : List ℕ) (at : ℕ) (P : Decoded → Type 0) (cut : P CutShort) (unknown : P Unknown) (taken : (n : ℕ) (c : Command) → P (operands s at n c)) where
+module _ (s : List ℕ) (at : ℕ) (P : Decoded → Type 0) (cut : P CutShort) (unknown : P Unknown)
+    (taken : (n : ℕ) (c : Command) → P (operands s at n c)) where
   pick : (t : Bool) (x y : Decoded) → P x → P y → P (cond t x y)
   pick true x y p q = p
   pick false x y p q = q

@@ -9,7 +9,8 @@ use borrow.Author.Tests.{leb-false}
 use lib.ListN.{length}
 use lib.Dec.{leb, ltb}
 use Rattle.chart_command.specs.declared.Command.{Command}
-use Rattle.chart_command.specs.declared.Command.the-variants.{Heading, Message, Plain, ClockTerm, DifferenceTerm, Hot, Resets, Main, End}
+use Rattle.chart_command.specs.declared.Command.the-variants.{Heading, Message, Plain, ClockTerm, DifferenceTerm, Hot}
+use Rattle.chart_command.specs.declared.Command.the-variants.{Resets, Main, End}
 use Rattle.chart_command.specs.declared.Decoded.the-variants as decoded
 use Rattle.chart_command.proofs.Laws.{decode-cases}
 use Rattle.chart_step.specs.declared.Reading.{Reading}
@@ -40,7 +41,8 @@ module _ (at size next : ℕ) (h : at < next) (k : next ≤ size) where
   outcome-past Main = (h, k)
   outcome-past End = tt
 
-  decided-past : (f : Fault) (r x : Reading) (c : Command) → Past at size (decided f r (record { outcome = outcomeOf next c; reading = x }) .outcome)
+  decided-past : (f : Fault) (r x : Reading) (c : Command)
+      → Past at size (decided f r (record { outcome = outcomeOf next c; reading = x }) .outcome)
   unfolding Past
   decided-past Nothing r x c = outcome-past c
   decided-past (Found refusal offset) r x c = tt
@@ -48,7 +50,8 @@ module _ (at size next : ℕ) (h : at < next) (k : next ≤ size) where
 advance-past : (s : List ℕ) (at : ℕ) (r : Reading) → Past at (length s) (advanceOf s at r .outcome)
 unfolding advanceOf Past
 advance-past s at r =
-    decode-cases s at (λ d. Past at (length s) (advanceBy s at r d .outcome)) tt tt (λ n c. by n c (leb (length s - at) n) refl)
+    decode-cases s at (λ d. Past at (length s) (advanceBy s at r d .outcome)) tt tt
+    (λ n c. by n c (leb (length s - at) n) refl)
   where
     by : (n : ℕ) (c : Command) (t : Bool) → leb (length s - at) n ≡ t
         → Past at (length s) (advanceBy s at r (cond t decoded.CutShort (decoded.Known c (at + 1 + n))) .outcome)
@@ -64,11 +67,13 @@ unfolding readFrom Past
 enough zero m s at r h k l = absurd (omega arith)
 enough (suc n) zero s at r h k l = absurd (omega arith)
 enough (suc n) (suc m) s at r h k l =
-    by (advanceOf s at r .outcome) (advance-past s at r) (λ next x p q. enough n m s next x p (omega arith) (omega arith))
+    by (advanceOf s at r .outcome) (advance-past s at r)
+    (λ next x p q. enough n m s next x p (omega arith) (omega arith))
   where
     by : (o : Outcome) → Past at (length s) o
         → ((next : ℕ) (x : Reading) → next ≤ length s → at < next → readFrom n s next x ≡ readFrom m s next x)
-        → continueBy (readFrom n s) o (advanceOf s at r .reading) ≡ continueBy (readFrom m s) o (advanceOf s at r .reading)
+        → continueBy (readFrom n s) o (advanceOf s at r .reading) ≡ continueBy (readFrom m s) o
+        (advanceOf s at r .reading)
     by (Going next) p f = f next _ (p .1) (p .0)
     by Ended p f = refl
     by (Refused refusal offset) p f = refl

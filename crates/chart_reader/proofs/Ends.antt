@@ -21,7 +21,8 @@ unfolding readFrom
 reads-from zero s at r = refuses CutShort (length s)
 reads-from (suc n) s at r = by (advanceOf s at r .outcome) (advanceOf s at r .reading) (λ k q. reads-from n s k q)
   where
-    by : (o : Outcome) (q : Reading) → ((k : ℕ) (q : Reading) → Reads (readFrom n s k q)) → Reads (continueBy (readFrom n s) o q)
+    by : (o : Outcome) (q : Reading) → ((k : ℕ) (q : Reading) → Reads (readFrom n s k q))
+        → Reads (continueBy (readFrom n s) o q)
     by (Going k) q i = i k q
     by Ended q i = accepts (q .chart)
     by (Refused f offset) q i = refuses f offset

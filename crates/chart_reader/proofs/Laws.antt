@@ -10,12 +10,14 @@ use Rattle.chart_step.specs.declared.Step.{Step}
 use Rattle.chart_step.specs.declared.Outcome.{Outcome}
 use Rattle.chart_reader.specs.Read.{readFrom, continueBy, advanceOf, advanceBy}
 
-pub advance-decoded : (s : List ℕ) (at : ℕ) (r : Reading) (d : Decoded) → decodeAt s at ≡ d → advanceBy s at r d ≡ advanceOf s at r
+pub advance-decoded : (s : List ℕ) (at : ℕ) (r : Reading) (d : Decoded) → decodeAt s at ≡ d
+    → advanceBy s at r d ≡ advanceOf s at r
 unfolding advanceOf
 advance-decoded s at r d e = ap (λ (x : Decoded). advanceBy s at r x) (sym e)
 
 module _ (n : ℕ) (s : List ℕ) (at : ℕ) (r : Reading) (st : Step) (o : Outcome) where
-  pub read-step : 0 < n → st ≡ advanceOf s at r → st .outcome ≡ o → readFrom n s at r ≡ continueBy (readFrom (n - 1) s) o (st .reading)
+  pub read-step : 0 < n → st ≡ advanceOf s at r → st .outcome ≡ o
+      → readFrom n s at r ≡ continueBy (readFrom (n - 1) s) o (st .reading)
   unfolding readFrom
   read-step h e f =
       let m : n ≡ suc (n - 1) = omega arith in

@@ -5,7 +5,8 @@ use Prim.Native.Nat.{ℕ}
 use native.Mathlib.Omega.{arith}
 use lib.Dec.{eqb}
 use Rattle.chart_step.specs.declared.Refusal.{Refusal}
-use Rattle.chart_step.specs.declared.Refusal.the-variants.{CutShort, Unknown, Misplaced, Outside, Excess, Bare, HotAlone, Early, Unanchored, Mainless, Trailing}
+use Rattle.chart_step.specs.declared.Refusal.the-variants.{CutShort, Unknown, Misplaced, Outside, Excess, Bare}
+use Rattle.chart_step.specs.declared.Refusal.the-variants.{HotAlone, Early, Unanchored, Mainless, Trailing}
 use Rattle.chart_step.specs.Refusal.{refusalNumber}
 
 pub refusal-nonzero : (f : Refusal) → refusalNumber f ≡ 0 → ⊥
@@ -24,7 +25,8 @@ refusal-nonzero Trailing e = omega arith
 -- the refusal with a number
 refusalWith : ℕ → Refusal
 refusalWith n =
-    cond (eqb n 1) CutShort (cond (eqb n 2) Unknown (cond (eqb n 3) Misplaced (cond (eqb n 4) Outside (cond (eqb n 5) Excess
+    cond (eqb n 1) CutShort
+    (cond (eqb n 2) Unknown (cond (eqb n 3) Misplaced (cond (eqb n 4) Outside (cond (eqb n 5) Excess
     (cond (eqb n 6) Bare (cond (eqb n 7) HotAlone (cond (eqb n 8) Early (cond (eqb n 9) Unanchored
     (cond (eqb n 10) Mainless Trailing)))))))))
 

@@ -12,10 +12,12 @@ use lib.ListN.{length, getD, drop, length-drop}
 use lib.Seq.{getD-drop, drop-drop}
 use Rattle.wire.specs.Bytes.{word16, word32}
 use Rattle.chart_command.specs.declared.Command.{Command}
-use Rattle.chart_command.specs.declared.Command.the-variants.{Heading, Message, Plain, ClockTerm, DifferenceTerm, Hot, Resets, Main, End}
+use Rattle.chart_command.specs.declared.Command.the-variants.{Heading, Message, Plain, ClockTerm, DifferenceTerm, Hot}
+use Rattle.chart_command.specs.declared.Command.the-variants.{Resets, Main, End}
 use Rattle.chart_command.specs.declared.Decoded.{Decoded}
 use Rattle.chart_command.specs.declared.Decoded.the-variants as decoded
-use Rattle.chart_command.specs.Command.{headingByte, messageByte, plainByte, clockTermByte, differenceTermByte, hotByte, resetsByte, mainByte, endByte, decodeAt, decodeByte, operands}
+use Rattle.chart_command.specs.Command.{headingByte, messageByte, plainByte, clockTermByte, differenceTermByte, hotByte}
+use Rattle.chart_command.specs.Command.{resetsByte, mainByte, endByte, decodeAt, decodeByte, operands}
 use Rattle.chart_step.specs.declared.Reading.{Reading}
 use Rattle.chart_step.specs.declared.Step.{Step}
 use Rattle.chart_step.specs.declared.Fault.{Fault}
@@ -30,7 +32,8 @@ use Rattle.chart_value.specs.Writer.{two, four}
 pub in-two : (n : ℕ) → n / 256 * 256 + n % 256 ≡ n
 in-two n = omega arith
 
-pub in-four : (n : ℕ) → (n / 65536 / 256 * 256 + n / 65536 % 256) * 65536 + (n % 65536 / 256 * 256 + n % 65536 % 256) ≡ n
+pub in-four : (n : ℕ) → (n / 65536 / 256 * 256 + n / 65536 % 256) * 65536 +
+    (n % 65536 / 256 * 256 + n % 65536 % 256) ≡ n
 in-four n = omega arith
 
 module _ (s : List ℕ) (x : Said) where
@@ -39,13 +42,15 @@ module _ (s : List ℕ) (x : Said) where
   Gives at r = (n : ℕ) → length s < at + n → readFrom n s at r ≡ x
 
   module _ (at : ℕ) (r : Reading) where
-    pub go : (r′ : Reading) (next : ℕ) → at < length s → at < next → advanceOf s at r ≡ record { outcome = Going next; reading = r′ } → Gives next r′ → Gives at r
+    pub go : (r′ : Reading) (next : ℕ) → at < length s → at < next
+        → advanceOf s at r ≡ record { outcome = Going next; reading = r′ } → Gives next r′ → Gives at r
     unfolding Gives readFrom
     go r′ next h k e f zero l = absurd (omega arith)
     go r′ next h k e f (suc n) l =
         ap (λ (st : Step). continueBy (readFrom n s) (st .outcome) (st .reading)) e ∙ f n (omega arith)
 
-    pub stop : (r′ : Reading) → at < length s → advanceOf s at r ≡ record { outcome = Ended; reading = r′ } → acceptedAs (r′ .chart) ≡ x → Gives at r
+    pub stop : (r′ : Reading) → at < length s → advanceOf s at r ≡ record { outcome = Ended; reading = r′ }
+        → acceptedAs (r′ .chart) ≡ x → Gives at r
     unfolding Gives readFrom
     stop r′ h e f zero l = absurd (omega arith)
     stop r′ h e f (suc n) l =
@@ -62,13 +67,15 @@ module _ (s : List ℕ) (x : Said) where
     after k = sym (drop-drop k at s) ∙ ap (λ (l : List ℕ). drop k l) here
 
     -- the command of a byte whose operands are there
-    pub decoded-here : (n : ℕ) (c : Command) → decodeByte s at b ≡ operands s at n c → n ≤ length xs → decodeAt s at ≡ decoded.Known c (at + 1 + n)
+    pub decoded-here : (n : ℕ) (c : Command) → decodeByte s at b ≡ operands s at n c → n ≤ length xs
+        → decodeAt s at ≡ decoded.Known c (at + 1 + n)
     decoded-here n c e h =
         let l = left in
         let g : getD s at 0 ≡ b = rw add-zero at (operand 0) in
         ap (λ (t : Bool). cond t decoded.CutShort (decodeByte s at (getD s at 0))) (lt-leb (length s) at (omega arith))
         ∙ ap (decodeByte s at) g ∙ e
-        ∙ ap (λ (t : Bool). cond t decoded.CutShort (decoded.Known c (at + 1 + n))) (lt-leb (length s - at) n (omega arith))
+        ∙ ap (λ (t : Bool). cond t decoded.CutShort (decoded.Known c (at + 1 + n)))
+        (lt-leb (length s - at) n (omega arith))
 
     -- the command at a place, where nothing refuses it
     pub taken : (r : Reading) (n : ℕ) (c : Command) → decodeByte s at b ≡ operands s at n c → n ≤ length xs
@@ -83,57 +90,71 @@ module _ (s : List ℕ) (x : Said) where
     word k = λ i. operand k i * 256 + (ap (λ (j : ℕ). getD s j 0) (add-assoc at k 1) ∙ operand (k + 1)) i
 
     pub long : (k : ℕ) → word32 s (at + k)
-        ≡ (getD (b ∷ xs) k 0 * 256 + getD (b ∷ xs) (k + 1) 0) * 65536 + (getD (b ∷ xs) (k + 2) 0 * 256 + getD (b ∷ xs) (k + 2 + 1) 0)
+        ≡ (getD (b ∷ xs) k 0 * 256 + getD (b ∷ xs) (k + 1) 0) * 65536 +
+        (getD (b ∷ xs) (k + 2) 0 * 256 + getD (b ∷ xs) (k + 2 + 1) 0)
     long k = λ i. word k i * 65536 + (ap (λ (j : ℕ). word16 s j) (add-assoc at k 2) ∙ word (k + 2)) i
 
     -- a command that goes on, after which the rest stands
-    pub on : (r r′ : Reading) (rest : List ℕ) (n : ℕ) (c c′ : Command) → decodeByte s at b ≡ operands s at n c′ → c′ ≡ c → n ≤ length xs → drop n xs ≡ rest
-        → outcomeOf (at + 1 + n) c ≡ Going (at + 1 + n) → faultOf r at (at + 1 + n) (ltb (at + 1 + n) (length s)) c ≡ Nothing
+    pub on : (r r′ : Reading) (rest : List ℕ) (n : ℕ) (c c′ : Command) → decodeByte s at b ≡ operands s at n c′ → c′ ≡ c
+        → n ≤ length xs → drop n xs ≡ rest
+        → outcomeOf (at + 1 + n) c ≡ Going (at + 1 + n)
+        → faultOf r at (at + 1 + n) (ltb (at + 1 + n) (length s)) c ≡ Nothing
         → applied r at c ≡ r′ → ((at′ : ℕ) → drop at′ s ≡ rest → Gives at′ r′) → Gives at r
     on r r′ rest n c c′ e k h d o f g next =
         let l = left in
         go at r r′ (at + 1 + n) (omega arith) (omega arith)
-        (taken r n c (e ∙ ap (λ (c : Command). operands s at n c) k) h f ∙ (λ i. record { outcome = o i; reading = g i }))
-        (next (at + 1 + n) (ap (λ (j : ℕ). drop j s) (add-assoc at 1 n) ∙ after (1 + n) ∙ ap (λ (j : ℕ). drop j (b ∷ xs)) (one-add n) ∙ d))
+        (taken r n c (e ∙ ap (λ (c : Command). operands s at n c) k) h f
+        ∙ (λ i. record { outcome = o i; reading = g i }))
+        (next (at + 1 + n)
+        (ap (λ (j : ℕ). drop j s) (add-assoc at 1 n) ∙ after (1 + n) ∙ ap (λ (j : ℕ). drop j (b ∷ xs)) (one-add n)
+        ∙ d))
 
   -- each command, where its bytes stand and nothing refuses it
   module _ (at : ℕ) (r : Reading) (rest : List ℕ) where
     abbrev pub Onward : Command → Type 0
-    Onward c = faultOf r at at false c ≡ Nothing → ((at′ : ℕ) → drop at′ s ≡ rest → Gives at′ (applied r at c)) → Gives at r
+    Onward c =
+        faultOf r at at false c ≡ Nothing → ((at′ : ℕ) → drop at′ s ≡ rest → Gives at′ (applied r at c)) → Gives at r
 
     pub on-heading : (l k : ℕ) → drop at s ≡ headingByte ∷ l ∷ k ∷ rest → Onward (Heading l k)
     on-heading l k h f =
         let xs = l ∷ k ∷ rest in
-        on at headingByte xs h r _ rest 2 (Heading l k) _ refl (λ i. Heading (operand at headingByte xs h 1 i) (operand at headingByte xs h 2 i))
+        on at headingByte xs h r _ rest 2 (Heading l k) _ refl
+        (λ i. Heading (operand at headingByte xs h 1 i) (operand at headingByte xs h 2 i))
         (omega arith) refl refl f refl
 
     pub on-message : (a b l : ℕ) → drop at s ≡ messageByte ∷ a ∷ b ∷ two l rest → Onward (Message a b l)
     on-message a b l h f =
         let xs = a ∷ b ∷ two l rest in
         on at messageByte xs h r _ rest 4 (Message a b l) _ refl
-        (λ i. Message (operand at messageByte xs h 1 i) (operand at messageByte xs h 2 i) ((word at messageByte xs h 3 ∙ in-two l) i))
+        (λ i. Message (operand at messageByte xs h 1 i) (operand at messageByte xs h 2 i)
+        ((word at messageByte xs h 3 ∙ in-two l) i))
         (omega arith) refl refl f refl
 
     pub on-plain : (l : ℕ) → drop at s ≡ plainByte ∷ two l rest → Onward (Plain l)
     on-plain l h f =
         let xs = two l rest in
-        on at plainByte xs h r _ rest 2 (Plain l) _ refl (ap Plain (word at plainByte xs h 1 ∙ in-two l)) (omega arith) refl refl f refl
+        on at plainByte xs h r _ rest 2 (Plain l) _ refl (ap Plain (word at plainByte xs h 1 ∙ in-two l))
+        (omega arith) refl refl f refl
 
-    pub on-clock-term : (k e n : ℕ) → drop at s ≡ clockTermByte ∷ k ∷ e ∷ four n rest → faultOf r at at false (ClockTerm k e n) ≡ Nothing
+    pub on-clock-term : (k e n : ℕ) → drop at s ≡ clockTermByte ∷ k ∷ e ∷ four n rest
+        → faultOf r at at false (ClockTerm k e n) ≡ Nothing
         → (r′ : Reading) → withTerm r (Clock k) e n ≡ r′ → ((at′ : ℕ) → drop at′ s ≡ rest → Gives at′ r′) → Gives at r
     on-clock-term k e n h f r′ g =
         let xs = k ∷ e ∷ four n rest in
         on at clockTermByte xs h r r′ rest 6 (ClockTerm k e n) _ refl
-        (λ i. ClockTerm (operand at clockTermByte xs h 1 i) (operand at clockTermByte xs h 2 i) ((long at clockTermByte xs h 3 ∙ in-four n) i))
+        (λ i. ClockTerm (operand at clockTermByte xs h 1 i) (operand at clockTermByte xs h 2 i)
+        ((long at clockTermByte xs h 3 ∙ in-four n) i))
         (omega arith) refl refl f g
 
     pub on-difference-term : (a b e n : ℕ) → drop at s ≡ differenceTermByte ∷ a ∷ b ∷ e ∷ four n rest
         → faultOf r at at false (DifferenceTerm a b e n) ≡ Nothing
-        → (r′ : Reading) → withTerm r (Difference a b) e n ≡ r′ → ((at′ : ℕ) → drop at′ s ≡ rest → Gives at′ r′) → Gives at r
+        → (r′ : Reading) → withTerm r (Difference a b) e n ≡ r′ → ((at′ : ℕ) → drop at′ s ≡ rest → Gives at′ r′)
+        → Gives at r
     on-difference-term a b e n h f r′ g =
         let xs = a ∷ b ∷ e ∷ four n rest in
         on at differenceTermByte xs h r r′ rest 7 (DifferenceTerm a b e n) _ refl
-        (λ i. DifferenceTerm (operand at differenceTermByte xs h 1 i) (operand at differenceTermByte xs h 2 i) (operand at differenceTermByte xs h 3 i)
+        (λ i. DifferenceTerm (operand at differenceTermByte xs h 1 i) (operand at differenceTermByte xs h 2 i)
+        (operand at differenceTermByte xs h 3 i)
         ((long at differenceTermByte xs h 4 ∙ in-four n) i))
         (omega arith) refl refl f g
 
@@ -142,7 +163,8 @@ module _ (s : List ℕ) (x : Said) where
 
     pub on-resets : (k : ℕ) → drop at s ≡ resetsByte ∷ k ∷ rest → Onward (Resets k)
     on-resets k h f =
-        on at resetsByte (k ∷ rest) h r _ rest 1 (Resets k) _ refl (ap Resets (operand at resetsByte (k ∷ rest) h 1)) (omega arith) refl refl f refl
+        on at resetsByte (k ∷ rest) h r _ rest 1 (Resets k) _ refl (ap Resets (operand at resetsByte (k ∷ rest) h 1))
+        (omega arith) refl refl f refl
 
     pub on-main : drop at s ≡ mainByte ∷ rest → Onward Main
     on-main h f = on at mainByte rest h r _ rest 0 Main Main refl refl (omega arith) refl refl f refl

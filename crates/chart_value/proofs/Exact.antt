@@ -1,16 +1,19 @@
 -- Refusal 20's test is exact: a chart is well formed exactly if some accepted bytes give it, and exactly if the
 -- writer's do. Assumes nothing.
-use mathlib.Core.Path.{_≡_}
+use mathlib.Core.Path.{_≡_, refl}
 use mathlib.Core.Bool.{Bool, true}
 use mathlib.Core.List.{List}
 use mathlib.Core.Logic.{_↔_}
+use Prim.Native.Nat.{ℕ}
 use mir.Val.{Val}
 use denote.Laws.{Is}
 use denote.Struct.Declared.{row}
 use Rattle.model.proofs.Chart as chart
 use Rattle.model.specs.declared.Chart.{Chart}
 use Rattle.chart_reader.specs.Read.{readChart}
-use Rattle.chart_reader.specs.Said.{acceptedAs}
+use Rattle.chart_step.proofs.Numbers.{refusal-nonzero}
+use Rattle.chart_reader.specs.Said.{Said, acceptedAs}
+use Rattle.chart_reader.proofs.Ends.{Reads, accepts, refuses, reads}
 use Rattle.chart_value.specs.WellFormed.{wellFormed}
 use Rattle.chart_value.specs.Writer.{chartBytes}
 use Rattle.chart_value.specs.Given.{Given}
@@ -43,3 +46,11 @@ exact-test c vs p r e = (e, rw e (exact c vs p))
 pub promised : (c : Chart) (vs : List Val) → Is (row chart.the-type) c vs → (r : Bool) → r ≡ wellFormed c
     → (r ≡ wellFormed c) × ((r ≡ true) ↔ Given c) × ((r ≡ true) ↔ (readChart (chartBytes c) ≡ acceptedAs c))
 promised c vs p r e = (e, exact-test c vs p r e .1, rw e (written c vs p))
+
+accepted-as : {x : Said} → Reads x → x .number ≡ 0 → x ≡ acceptedAs (x .chart)
+accepted-as (accepts c) h = refl
+accepted-as (refuses f offset) h = absurd (refusal-nonzero f h)
+
+-- a chart that is read passes the test
+pub accepted-whole : (s : List ℕ) → readChart s .number ≡ 0 → wellFormed (readChart s .chart) ≡ true
+accepted-whole s h = sound s (readChart s .chart) (accepted-as (reads s) h) .fine

@@ -21,7 +21,9 @@ use Rattle.base.proofs.Bools.{both, and-both}
 use Rattle.base.proofs.Facts.{all-at, all-of}
 use Rattle.bitset.proofs.Laws.{within-true, lt-within}
 use Rattle.model.specs.Chart.{zeroTerm, zeroRegion, regionAt, termAt, isBare}
-use Rattle.chart_value.specs.WellFormed.{wellFormed, regionPlaced, placedAt, placeFits, regionFits, eventFits, termsFit, termPlaced, leftFits, isZeroTerm, isZeroRegion, isZeroLeft, isLess, isZeroEvent}
+use Rattle.chart_value.specs.WellFormed.{wellFormed, regionPlaced, placedAt, placeFits, regionFits, eventFits}
+use Rattle.chart_value.specs.WellFormed.{termsFit, termPlaced, leftFits, isZeroTerm, isZeroRegion, isZeroLeft}
+use Rattle.chart_value.specs.WellFormed.{isLess, isZeroEvent}
 
 pub record Shape (c : Chart) : Type 0 where
   pub regions : length (c .regions) ≡ 32
@@ -58,7 +60,8 @@ pub same-region : (g h : Region) → g .event ≡ h .event → g .terms ≡ h .t
     → g .resets ≡ h .resets → g ≡ h
 same-region g h a b k d e = λ i. record { event = a i; terms = b i; count = k i; hot = d i; resets = e i }
 
-pub same-chart : (c d : Chart) → c .lines ≡ d .lines → c .clocks ≡ d .clocks → c .prechart ≡ d .prechart → c .count ≡ d .count
+pub same-chart : (c d : Chart) → c .lines ≡ d .lines → c .clocks ≡ d .clocks → c .prechart ≡ d .prechart
+    → c .count ≡ d .count
     → c .regions ≡ d .regions → c ≡ d
 same-chart c d a b p n g = λ i. record { lines = a i; clocks = b i; prechart = p i; count = n i; regions = g i }
 
@@ -88,7 +91,8 @@ terms-of : (clocks : ℕ) (g : Region) → termsFit clocks g ≡ true → Terms 
 unfolding termsFit termPlaced
 terms-of clocks g e =
     let a = both _ _ e in
-    let p : (j : ℕ) → j < 4 → cond (ltb j (g .count)) (leftFits clocks (termAt g j .left)) (isZeroTerm (termAt g j)) ≡ true =
+    let p : (j : ℕ) → j < 4 → cond (ltb j (g .count)) (leftFits clocks (termAt g j .left))
+    (isZeroTerm (termAt g j)) ≡ true =
     all-at 4 (λ j. termPlaced clocks (g .count) j (termAt g j)) (a .1) in
     let n : g .count ≤ 4 = leb-true _ _ (a .0) in
     record {
@@ -99,9 +103,12 @@ terms-of clocks g e =
 
 pub of-terms : (clocks : ℕ) (g : Region) → Terms clocks g → termsFit clocks g ≡ true
 unfolding termsFit termPlaced isZeroTerm
-of-terms clocks g t = and-both (le-leb _ _ (t .count)) (all-of 4 (λ j. termPlaced clocks (g .count) j (termAt g j)) (λ j h. by j h (ltb j (g .count)) refl))
+of-terms clocks g t =
+    and-both (le-leb _ _ (t .count))
+    (all-of 4 (λ j. termPlaced clocks (g .count) j (termAt g j)) (λ j h. by j h (ltb j (g .count)) refl))
   where
-    by : (j : ℕ) → j < 4 → (b : Bool) → ltb j (g .count) ≡ b → cond b (leftFits clocks (termAt g j .left)) (isZeroTerm (termAt g j)) ≡ true
+    by : (j : ℕ) → j < 4 → (b : Bool) → ltb j (g .count) ≡ b
+        → cond b (leftFits clocks (termAt g j .left)) (isZeroTerm (termAt g j)) ≡ true
     by j h true e = t .used j (ltb-true _ _ e)
     by j h false e = rw (t .unused j (ltb-false _ _ e) h) refl
 
@@ -113,13 +120,20 @@ module _ (lines clocks : ℕ) (main opening : Bool) (before : ℕ) (g : Region) 
       let b = both _ _ (a .1) in
       let d = both _ _ (b .1) in
       let f = both _ _ (d .1) in
-      record { event = a .0; terms = terms-of clocks g (b .0); resets = within-true _ _ (d .0); bare = not-true _ (f .0); hot = f .1 }
+      record {
+        event = a .0;
+        terms = terms-of clocks g (b .0);
+        resets = within-true _ _ (d .0);
+        bare = not-true _ (f .0);
+        hot = f .1;
+      }
 
   pub of-fits : Fits lines clocks main opening before g → regionFits lines clocks main opening before g ≡ true
   unfolding regionFits
   of-fits f =
       and-both (f .event)
-      (and-both (of-terms clocks g (f .terms)) (and-both (lt-within _ _ (f .resets)) (and-both (ap not (f .bare)) (f .hot))))
+      (and-both (of-terms clocks g (f .terms))
+      (and-both (lt-within _ _ (f .resets)) (and-both (ap not (f .bare)) (f .hot))))
 
 -- an unused region is the region of zeros
 pub zero-region : (g : Region) → length (g .terms) ≡ 4 → isZeroRegion g ≡ true → g ≡ zeroRegion
@@ -134,7 +148,8 @@ zero-region g l e =
     let ts : g .terms ≡ replicate 4 zeroTerm =
     ext-getD zeroTerm (g .terms) (replicate 4 zeroTerm) l
     (λ j h. t .unused j (omega arith) (omega arith) ∙ sym (getD-replicate 4 j zeroTerm zeroTerm (omega arith))) in
-    same-region g zeroRegion (zero-event (g .event) (a .0)) ts n (not-true (g .hot) (d .0)) (eqb-true (g .resets) 0 (f .0))
+    same-region g zeroRegion (zero-event (g .event) (a .0)) ts n (not-true (g .hot) (d .0))
+    (eqb-true (g .resets) 0 (f .0))
 
 pub zero-is-zero : isZeroRegion zeroRegion ≡ true
 unfolding isZeroRegion isZeroTerm termsFit termPlaced
@@ -148,7 +163,8 @@ wf-of c e =
     let h = both _ _ (a .0) in
     let k = both _ _ (h .1) in
     let n = both _ _ (b .0) in
-    let p : (i : ℕ) → i < 32 → cond (ltb i (c .count)) (placeFits c (leb (c .prechart) i) i) (isZeroRegion (regionAt c i)) ≡ true =
+    let p : (i : ℕ) → i < 32 → cond (ltb i (c .count)) (placeFits c (leb (c .prechart) i) i)
+    (isZeroRegion (regionAt c i)) ≡ true =
     all-at 32 (placedAt c) (b .1) in
     let room : c .count ≤ 32 = leb-true _ _ (n .1) in
     record {

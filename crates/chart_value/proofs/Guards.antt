@@ -49,7 +49,8 @@ high r (inr v) h = by (v .state)
     by (idle s c t) = c .high
     by (busy s c w t) = c .high
 
-lines : (r : Reading) → Ready r → (at n a b l : ℕ) (more : Bool) → faultOf r at n more (Message a b l) ≡ Nothing → (a < mostLines) × (b < mostLines)
+lines : (r : Reading) → Ready r → (at n a b l : ℕ) (more : Bool) → faultOf r at n more (Message a b l) ≡ Nothing
+    → (a < mostLines) × (b < mostLines)
 lines r v at n a b l more e =
     let p = clear (not (r .headed)) Misplaced at _ e in
     let q = first-clear (closingFault r) _ (p .1) in

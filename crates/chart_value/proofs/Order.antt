@@ -36,19 +36,27 @@ module _ (lines : ℕ → ℕ) (p : ℕ) where
 
 module _ (c : Chart) (w : WellFormed c) where
   pub fits-at : (i : ℕ) → i < c .count
-      → Fits (c .lines) (c .clocks) (leb (c .prechart) i) (not (leb (c .prechart) i) || eqb (c .prechart) 0) (touchedBefore (c .regions) i) (regionAt c i)
+      → Fits (c .lines) (c .clocks) (leb (c .prechart) i) (not (leb (c .prechart) i) || eqb (c .prechart) 0)
+      (touchedBefore (c .regions) i) (regionAt c i)
   fits-at i h = fits-of _ _ _ _ _ _ (w .used i h)
 
   -- a message's lines are those of the chart
-  pub lines-in : (i : ℕ) (m : Message) → i < c .count → regionAt c i .event ≡ event.Message m → (m .source < c .lines) × (m .destination < c .lines)
+  pub lines-in : (i : ℕ) (m : Message) → i < c .count → regionAt c i .event ≡ event.Message m → (m .source < c .lines)
+      × (m .destination < c .lines)
   lines-in i m h e =
       let o = not (leb (c .prechart) i) || eqb (c .prechart) 0 in
-      let f : eventFits (c .lines) o (touchedBefore (c .regions) i) (event.Message m) ≡ true = rw e at (fits-at i h .event) in
-      let p = both (ltb (m .source) (c .lines)) (ltb (m .destination) (c .lines) && not (eqb (m .source) (m .destination))) f in
-      (ltb-true _ _ (p .0), ltb-true _ _ (both (ltb (m .destination) (c .lines)) (not (eqb (m .source) (m .destination))) (p .1) .0))
+      let f : eventFits (c .lines) o (touchedBefore (c .regions) i) (event.Message m) ≡ true = rw e at
+      (fits-at i h .event) in
+      let p = both (ltb (m .source) (c .lines))
+      (ltb (m .destination) (c .lines) && not (eqb (m .source) (m .destination))) f in (
+        ltb-true _ _ (p .0),
+        ltb-true _ _
+            (both (ltb (m .destination) (c .lines)) (not (eqb (m .source) (m .destination))) (p .1) .0),
+      )
 
   -- a message region touches its destination line
-  destination-at : (i : ℕ) (m : Message) → i < c .count → regionAt c i .event ≡ event.Message m → contains (touchedAt c i) (m .destination) ≡ true
+  destination-at : (i : ℕ) (m : Message) → i < c .count → regionAt c i .event ≡ event.Message m
+      → contains (touchedAt c i) (m .destination) ≡ true
   destination-at i m h e =
       let l : m .destination < c .lines = lines-in i m h e .1 in
       let z : c .lines ≤ 16 = w .high in
@@ -72,7 +80,8 @@ module _ (c : Chart) (w : WellFormed c) where
           let k : c .prechart ≤ b = omega arith in
           first (direct h (inMain l k) shared)
 
-  pub same-message : (a b : ℕ) (m : Message) → a < c .count → b < c .count → regionAt c a .event ≡ event.Message m → regionAt c b .event ≡ event.Message m
+  pub same-message : (a b : ℕ) (m : Message) → a < c .count → b < c .count → regionAt c a .event ≡ event.Message m
+      → regionAt c b .event ≡ event.Message m
       → a ≢ b → AboveIn c a b ⊎ AboveIn c b a
   same-message a b m x y e f n = by (decLt a b)
     where
@@ -81,10 +90,12 @@ module _ (c : Chart) (w : WellFormed c) where
       by (no l) = inr (lower b a (m .destination) (omega arith) (destination-at b m y f) (destination-at a m x e))
 
   -- a line that is touched before region i is a line of one before it
-  touched-by : (i k : ℕ) → contains (touchedBefore (c .regions) i) k ≡ true → (a : ℕ) × (a < i) × (contains (touchedAt c a) k ≡ true)
+  touched-by : (i k : ℕ) → contains (touchedBefore (c .regions) i) k ≡ true → (a : ℕ) × (a < i)
+      × (contains (touchedAt c a) k ≡ true)
   unfolding touchedBefore
   touched-by zero k e = absurd (false≢true (sym (contains-empty k) ∙ e))
-  touched-by (suc i) k e = by (either _ _ (sym (contains-union (touchedBefore (c .regions) i) (touchedAt c i) k) ∙ e)) (touched-by i k)
+  touched-by (suc i) k e =
+      by (either _ _ (sym (contains-union (touchedBefore (c .regions) i) (touchedAt c i) k) ∙ e)) (touched-by i k)
     where
       by : (contains (touchedBefore (c .regions) i) k ≡ true) ⊎ (contains (touchedAt c i) k ≡ true)
           → (contains (touchedBefore (c .regions) i) k ≡ true → (a : ℕ) × (a < i) × (contains (touchedAt c a) k ≡ true))
@@ -101,7 +112,8 @@ module _ (c : Chart) (w : WellFormed c) where
       f : eventFits (c .lines) (not (leb (c .prechart) i) || eqb (c .prechart) 0) before (event.Plain l) ≡ true
       f = rw e at (fits-at i h .event)
 
-      q : (within (c .lines) l ≡ true) × ((not (not (leb (c .prechart) i) || eqb (c .prechart) 0) || not (eqb (bitAnd l before) 0)) ≡ true)
+      q : (within (c .lines) l ≡ true) ×
+          ((not (not (leb (c .prechart) i) || eqb (c .prechart) 0) || not (eqb (bitAnd l before) 0)) ≡ true)
       q = both _ _ (both (not (eqb l 0)) _ f .1)
 
       shared : not (eqb (bitAnd l before) 0) ≡ true → (a : ℕ) × AboveIn c a i

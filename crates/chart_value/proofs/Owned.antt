@@ -42,7 +42,9 @@ owned-region g vs p =
     record {
       size = size;
       label = owned-event (g .event) (p .0 .0) (p .1 .1 .0);
-      numbers = λ j h. each-at _ Term (term.the-type .to) _ (g .terms) (ts .0) j zeroTerm (ts .1 .1) (omega arith) .1 .1 .1 .1 .1 .0 .1;
+      numbers =
+          λ j h. each-at _ Term (term.the-type .to) _ (g .terms) (ts .0) j zeroTerm (ts .1 .1)
+          (omega arith) .1 .1 .1 .1 .1 .0 .1;
     }
 
 pub owned-size : (c : Chart) (vs : List Val) → Is (row chart.the-type) c vs → length (c .regions) ≡ 32
@@ -52,7 +54,8 @@ pub owned-at : (c : Chart) (vs : List Val) → Is (row chart.the-type) c vs → 
 owned-at c vs p i h =
     let q = p .1 .1 .1 .1 .1 .1 .0 in
     let size = owned-size c vs p in
-    let e = each-at _ Region (region.the-type .to) _ (c .regions) (q .0) i absentRegion (q .1 .1) (omega (arith, size)) in
+    let e = each-at _ Region (region.the-type .to) _ (c .regions) (q .0) i absentRegion (q .1 .1)
+    (omega (arith, size)) in
     owned-region (regionAt c i) (e .0 ∷ []) (e .1)
 
 pub owned-shape : (c : Chart) (vs : List Val) → Is (row chart.the-type) c vs → Shape c

@@ -29,16 +29,20 @@ use Rattle.chart_command.specs.declared.Command.the-variants.{Message, Plain}
 use Rattle.chart_step.specs.declared.Reading.{Reading}
 use Rattle.chart_step.specs.declared.Fault.the-variants.{Nothing}
 use Rattle.chart_step.specs.declared.Refusal.the-variants.{Bare, HotAlone}
-use Rattle.chart_step.specs.Reading.{firstFault, closingFault, closed, orElse, when, withTerm, relationOf, relationCount, begunWith, withMain, withHeading}
+use Rattle.chart_step.specs.Reading.{firstFault, closingFault, closed, orElse, when, withTerm, relationOf}
+use Rattle.chart_step.specs.Reading.{relationCount, begunWith, withMain, withHeading}
 use Rattle.chart_reader.specs.Read.{readChart, startReading}
 use Rattle.chart_reader.specs.Said.{Said, acceptedAs}
 use Rattle.chart_value.specs.WellFormed.{wellFormed, eventFits, leftFits, touchedBefore}
-use Rattle.chart_value.specs.Writer.{chartBytes, regionsBytes, regionBytes, eventBytes, termsBytes, leftBytes, hotBytes, relationByte, four}
+use Rattle.chart_value.specs.Writer.{chartBytes, regionsBytes, regionBytes, eventBytes, termsBytes, leftBytes}
+use Rattle.chart_value.specs.Writer.{hotBytes, relationByte, four}
 use Rattle.bitset.specs.Set.{union, within}
 use Rattle.base.proofs.Bools.{both, and-both, or-neither}
 use Rattle.bitset.proofs.Laws.{lt-within}
-use Rattle.chart_value.proofs.Facts.{Shape, Terms, Fits, WellFormed, wf-of, fits-of, zero-region, same-region, same-chart, withRegions}
-use Rattle.chart_value.proofs.Bytes.{Gives, gives-chart, on-heading, on-message, on-plain, on-clock-term, on-difference-term, on-hot, on-resets, on-main, on-end}
+use Rattle.chart_value.proofs.Facts.{Shape, Terms, Fits, WellFormed, wf-of, fits-of, zero-region, same-region}
+use Rattle.chart_value.proofs.Facts.{same-chart, withRegions}
+use Rattle.chart_value.proofs.Bytes.{Gives, gives-chart, on-heading, on-message, on-plain, on-clock-term}
+use Rattle.chart_value.proofs.Bytes.{on-difference-term, on-hot, on-resets, on-main, on-end}
 
 -- the first k elements of a list, put one by one into n copies of z
 module _ {A : Type 0} (z d : A) (n : ℕ) (xs : List A) where
@@ -100,17 +104,27 @@ partly g j hot resets =
 -- the state after r in which the region g is the last started
 abbrev busy : Reading → ℕ → ℕ → Region → Reading
 busy r at l g =
-    record { headed = r .headed; main = r .main; started = true; start = at; touched = union (r .touched) l; region = g; chart = closed r }
+    record {
+      headed = r .headed;
+      main = r .main;
+      started = true;
+      start = at;
+      touched = union (r .touched) l;
+      region = g;
+      chart = closed r;
+    }
 
 -- the parts of one region
-module _ (s : List ℕ) (x : Said) (clocks : ℕ) (r : Reading) (start l : ℕ) (same : closed r .clocks ≡ clocks) (g : Region) where
+module _ (s : List ℕ) (x : Said) (clocks : ℕ) (r : Reading) (start l : ℕ) (same : closed r .clocks ≡ clocks)
+    (g : Region) where
   -- adding term j in its place
   added : (j : ℕ) → j < 4 → (left : Left) → termAt g j .left ≡ left
       → withTerm (busy r start l (partly g j false 0)) left (relationByte (termAt g j .relation)) (termAt g j .n)
       ≡ busy r start l (partly g (suc j) false 0)
   unfolding firstOf
   added j h left e =
-      ap (λ (b : Bool). cond b (busy r start l (grown left (relationOf (relationByte (t .relation))) (j + 1))) (busy r start l (partly g j false 0))) (lt-ltb j 4 h)
+      ap (λ (b : Bool). cond b (busy r start l (grown left (relationOf (relationByte (t .relation))) (j + 1)))
+      (busy r start l (partly g j false 0))) (lt-ltb j 4 h)
       ∙ (λ i. busy r start l (grown (sym e i) (relation-back (t .relation) i) (add-one j i)))
     where
       t : Term
@@ -120,7 +134,8 @@ module _ (s : List ℕ) (x : Said) (clocks : ℕ) (r : Reading) (start l : ℕ) 
       grown left relation k =
           record {
             event = g .event;
-            terms = set (firstOf zeroTerm zeroTerm 4 (g .terms) j) j (record { left = left; relation = relation; n = t .n });
+            terms = set (firstOf zeroTerm zeroTerm 4 (g .terms) j) j
+                (record { left = left; relation = relation; n = t .n });
             count = k;
             hot = false;
             resets = 0;
@@ -136,18 +151,24 @@ module _ (s : List ℕ) (x : Said) (clocks : ℕ) (r : Reading) (start l : ℕ) 
       → Gives s x at (busy r start l (partly g j false 0))
   term-read rest j h (Clock k) e f at d =
       let range = or-neither (in-range k f) (relation-small (termAt g j .relation)) in
-      on-clock-term s x at (busy r start l (partly g j false 0)) rest k (relationByte (termAt g j .relation)) (termAt g j .n) d
+      on-clock-term s x at (busy r start l (partly g j false 0)) rest k (relationByte (termAt g j .relation))
+      (termAt g j .n) d
       (λ i. firstFault false Nothing (range i) (lt-leb 4 j h i) false false false false at at) _ (added j h (Clock k) e)
   term-read rest j h (Difference a b) e f at d =
       let p = both _ _ f in
       let q = both _ _ (p .1) in
       let range =
-      or-neither (in-range a (p .0)) (or-neither (in-range b (q .0)) (or-neither (not-true (eqb a b) (q .1)) (relation-small (termAt g j .relation)))) in
-      on-difference-term s x at (busy r start l (partly g j false 0)) rest a b (relationByte (termAt g j .relation)) (termAt g j .n) d
-      (λ i. firstFault false Nothing (range i) (lt-leb 4 j h i) false false false false at at) _ (added j h (Difference a b) e)
+      or-neither (in-range a (p .0))
+      (or-neither (in-range b (q .0))
+      (or-neither (not-true (eqb a b) (q .1)) (relation-small (termAt g j .relation)))) in
+      on-difference-term s x at (busy r start l (partly g j false 0)) rest a b (relationByte (termAt g j .relation))
+      (termAt g j .n) d
+      (λ i. firstFault false Nothing (range i) (lt-leb 4 j h i) false false false false at at) _
+      (added j h (Difference a b) e)
 
   -- n terms from term j on
-  terms-read : Terms clocks g → (rest : List ℕ) (n j : ℕ) → j + n ≡ g .count → (at : ℕ) → drop at s ≡ termsBytes g n j rest
+  terms-read : Terms clocks g → (rest : List ℕ) (n j : ℕ) → j + n ≡ g .count → (at : ℕ)
+      → drop at s ≡ termsBytes g n j rest
       → ((at′ : ℕ) → drop at′ s ≡ rest → Gives s x at′ (busy r start l (partly g (g .count) false 0)))
       → Gives s x at (busy r start l (partly g j false 0))
   unfolding termsBytes
@@ -160,26 +181,32 @@ module _ (s : List ℕ) (x : Said) (clocks : ℕ) (r : Reading) (start l : ℕ) 
       (λ at′ h. terms-read t rest n (suc j) (omega arith) at′ h next)
 
   -- hot, if it is
-  hot-read : (main : Bool) → r .main ≡ main → (rest : List ℕ) (n : ℕ) (hot : Bool) → (not hot || (main && not (eqb n 0))) ≡ true
-      → (at : ℕ) → drop at s ≡ hotBytes hot rest → ((at′ : ℕ) → drop at′ s ≡ rest → Gives s x at′ (busy r start l (partly g n hot 0)))
+  hot-read : (main : Bool) → r .main ≡ main → (rest : List ℕ) (n : ℕ) (hot : Bool)
+      → (not hot || (main && not (eqb n 0))) ≡ true
+      → (at : ℕ) → drop at s ≡ hotBytes hot rest
+      → ((at′ : ℕ) → drop at′ s ≡ rest → Gives s x at′ (busy r start l (partly g n hot 0)))
       → Gives s x at (busy r start l (partly g n false 0))
   hot-read main m rest n true e at d =
       on-hot s x at (busy r start l (partly g n false 0)) rest d
-      (λ i. firstFault false Nothing false false (ap not (m ∙ both main (not (eqb n 0)) e .0) i) false false false at at)
+      (λ i. firstFault false Nothing false false
+      (ap not (m ∙ both main (not (eqb n 0)) e .0) i) false false false at at)
   hot-read main m rest n false e at d = λ next. next at d
 
   -- resets, if there are any
   resets-read : (rest : List ℕ) (n : ℕ) (hot : Bool) (k : ℕ) → k < 2 ^ clocks → (z : Bool) → eqb k 0 ≡ z
-      → (at : ℕ) → drop at s ≡ cond z rest (resetsByte ∷ k ∷ rest) → ((at′ : ℕ) → drop at′ s ≡ rest → Gives s x at′ (busy r start l (partly g n hot k)))
+      → (at : ℕ) → drop at s ≡ cond z rest (resetsByte ∷ k ∷ rest)
+      → ((at′ : ℕ) → drop at′ s ≡ rest → Gives s x at′ (busy r start l (partly g n hot k)))
       → Gives s x at (busy r start l (partly g n hot 0))
   resets-read rest n hot k h true e at d =
       λ next. subst (λ (k : ℕ). Gives s x at (busy r start l (partly g n hot k))) (eqb-true k 0 e) (next at d)
   resets-read rest n hot k h false e at d =
       let range = or-neither e (ap (λ (m : ℕ). not (within m k)) same ∙ ap not (lt-within clocks k h)) in
-      on-resets s x at (busy r start l (partly g n hot 0)) rest k d (λ i. firstFault false Nothing (range i) false false false false false at at)
+      on-resets s x at (busy r start l (partly g n hot 0)) rest k d
+      (λ i. firstFault false Nothing (range i) false false false false false at at)
 
 -- a region that fits, with all its terms read, is the region itself
-whole : (lines clocks : ℕ) (main opening : Bool) (before : ℕ) (g : Region) → Fits lines clocks main opening before g → length (g .terms) ≡ 4
+whole : (lines clocks : ℕ) (main opening : Bool) (before : ℕ) (g : Region) → Fits lines clocks main opening before g
+    → length (g .terms) ≡ 4
     → partly g (g .count) (g .hot) (g .resets) ≡ g
 whole lines clocks main opening before g f l =
     let t = f .terms in
@@ -187,7 +214,8 @@ whole lines clocks main opening before g f l =
     (first-all zeroTerm zeroTerm 4 (g .terms) (g .count) (t .count) l (λ j h k. t .unused j h k)) refl refl refl
 
 -- from the tests of the value to the reader's: not 9, not 7
-not-alone : (main : Bool) (p : ℕ) (z : Bool) → (not (not main || eqb p 0) || not z) ≡ true → ((not main || eqb (cond main p 0) 0) && z) ≡ false
+not-alone : (main : Bool) (p : ℕ) (z : Bool) → (not (not main || eqb p 0) || not z) ≡ true
+    → ((not main || eqb (cond main p 0) 0) && z) ≡ false
 not-alone false p z e = not-true z e
 not-alone true p z e = by (eqb p 0) e
   where
@@ -223,7 +251,8 @@ module _ (c : Chart) where
     chart : closed r ≡ soFar main i
 
   module _ (s : List ℕ) (x : Said) (main : Bool) (i : ℕ) (r : Reading) (b : Before r main i) (small : i < 32)
-      (f : Fits (c .lines) (c .clocks) main (not main || eqb (c .prechart) 0) (touchedBefore (c .regions) i) (regionAt c i)) where
+      (f : Fits (c .lines) (c .clocks) main (not main || eqb (c .prechart) 0) (touchedBefore (c .regions) i)
+      (regionAt c i)) where
     room : leb 32 (closed r .count) ≡ false
     room = ap (λ (c : Chart). leb 32 (c .count)) (b .chart) ∙ lt-leb 32 i small
 
@@ -231,13 +260,15 @@ module _ (c : Chart) where
     line-fits k e = ap (λ (n : ℕ). leb n k) (b .lines) ∙ lt-leb (c .lines) k (ltb-true _ _ e)
 
     -- its 20 or 21
-    start-read : (e : Event) → eventFits (c .lines) (not main || eqb (c .prechart) 0) (touchedBefore (c .regions) i) e ≡ true
+    start-read : (e : Event) → eventFits (c .lines) (not main || eqb (c .prechart) 0)
+        (touchedBefore (c .regions) i) e ≡ true
         → (rest : List ℕ) (at : ℕ) → drop at s ≡ eventBytes e rest
         → ((at′ : ℕ) → drop at′ s ≡ rest → Gives s x at′ (begunWith r at e)) → Gives s x at r
     start-read (event.Message m) f rest at d =
         let p = both _ _ f in
         let q = both _ _ (p .1) in
-        let range = or-neither (line-fits (m .source) (p .0)) (or-neither (line-fits (m .destination) (q .0)) (not-true (eqb (m .source) (m .destination)) (q .1))) in
+        let range = or-neither (line-fits (m .source) (p .0))
+        (or-neither (line-fits (m .destination) (q .0)) (not-true (eqb (m .source) (m .destination)) (q .1))) in
         on-message s x at r rest (m .source) (m .destination) (m .label) d
         (λ i. firstFault (ap not (b .headed) i) (b .fine i) (range i) (room i) false false false false at at)
     start-read (event.Plain l) f rest at d =
@@ -261,25 +292,31 @@ module _ (c : Chart) where
           lines = ap (λ (c : Chart). c .lines) (b .chart);
           prechart = ap (λ (c : Chart). c .prechart) (b .chart);
           touched = ap (λ (t : ℕ). union t (touched (regionAt c i .event))) (b .touched);
-          fine = λ j. orElse (when (f .bare j) Bare at) (when (cold (regionAt c i .hot) main (eqb (regionAt c i .count) 0) (f .hot) j) HotAlone at);
+          fine = λ j. orElse (when (f .bare j) Bare at)
+              (when (cold (regionAt c i .hot) main (eqb (regionAt c i .count) 0) (f .hot) j) HotAlone at);
           chart =
               (λ j. put (b .chart j) (ltb (b .chart j .count) 32))
               ∙ ap (λ (t : Bool). put (soFar main i) t) (lt-ltb i 32 small)
-              ∙ (λ j. withRegions (soFar main i) (add-one i j) (set (firstOf zeroRegion absentRegion 32 (c .regions) i) i (regionAt c i)));
+              ∙ (λ j. withRegions (soFar main i) (add-one i j)
+              (set (firstOf zeroRegion absentRegion 32 (c .regions) i) i (regionAt c i)));
         }
       where
         put : Chart → Bool → Chart
         put d t = cond t (withRegions d (d .count + 1) (set (d .regions) (d .count) (regionAt c i))) d
 
     -- all of it
-    region-read : length (regionAt c i .terms) ≡ 4 → (rest : List ℕ) (at : ℕ) → drop at s ≡ regionBytes (regionAt c i) rest
+    region-read : length (regionAt c i .terms) ≡ 4 → (rest : List ℕ) (at : ℕ)
+        → drop at s ≡ regionBytes (regionAt c i) rest
         → ((at′ : ℕ) (r′ : Reading) → Before r′ main (suc i) → drop at′ s ≡ rest → Gives s x at′ r′) → Gives s x at r
     unfolding regionBytes firstOf
     region-read l rest at d next =
         start-read (g .event) (f .event) _ at d
-        (λ at₁ d₁. terms-read s x (c .clocks) r at (touched (g .event)) same g (f .terms) _ (g .count) 0 (omega arith) at₁ d₁
-        (λ at₂ d₂. hot-read s x (c .clocks) r at (touched (g .event)) same g main (b .half) _ (g .count) (g .hot) (f .hot) at₂ d₂
-        (λ at₃ d₃. resets-read s x (c .clocks) r at (touched (g .event)) same g rest (g .count) (g .hot) (g .resets) (f .resets) (eqb (g .resets) 0) refl at₃ d₃
+        (λ at₁ d₁. terms-read s x (c .clocks) r at (touched (g .event)) same g (f .terms) _ (g .count) 0
+        (omega arith) at₁ d₁
+        (λ at₂ d₂. hot-read s x (c .clocks) r at (touched (g .event)) same g main (b .half) _ (g .count) (g .hot)
+        (f .hot) at₂ d₂
+        (λ at₃ d₃. resets-read s x (c .clocks) r at (touched (g .event)) same g rest (g .count) (g .hot) (g .resets)
+        (f .resets) (eqb (g .resets) 0) refl at₃ d₃
         (λ at₄ d₄. next at₄ (busy r at (touched (g .event)) (partly g (g .count) (g .hot) (g .resets))) after d₄))))
       where
         g : Region
@@ -290,13 +327,16 @@ module _ (c : Chart) where
 
         after : Before (busy r at (touched (g .event)) (partly g (g .count) (g .hot) (g .resets))) main (suc i)
         after =
-            subst (λ (h : Region). Before (busy r at (touched (g .event)) h) main (suc i)) (sym (whole (c .lines) (c .clocks) main _ _ g f l)) (before-next at)
+            subst (λ (h : Region). Before (busy r at (touched (g .event)) h) main (suc i))
+            (sym (whole (c .lines) (c .clocks) main _ _ g f l)) (before-next at)
 
   -- 50 before the first main region
-  main-read : (s : List ℕ) (x : Said) (i : ℕ) (r : Reading) → Before r false i → i ≡ c .prechart → (rest : List ℕ) (at : ℕ) → drop at s ≡ mainByte ∷ rest
+  main-read : (s : List ℕ) (x : Said) (i : ℕ) (r : Reading) → Before r false i → i ≡ c .prechart
+      → (rest : List ℕ) (at : ℕ) → drop at s ≡ mainByte ∷ rest
       → ((at′ : ℕ) (r′ : Reading) → Before r′ true i → drop at′ s ≡ rest → Gives s x at′ r′) → Gives s x at r
   main-read s x i r b e rest at d next =
-      on-main s x at r rest d (λ i. firstFault (not (b .headed i) || b .half i) (b .fine i) false false false false false false at at)
+      on-main s x at r rest d
+      (λ i. firstFault (not (b .headed i) || b .half i) (b .fine i) false false false false false false at at)
       (λ at′ d′. next at′ (withMain r) after d′)
     where
       after : Before (withMain r) true i
@@ -309,8 +349,10 @@ module _ (c : Chart) where
             touched = b .touched;
             fine = refl;
             chart =
-                same-chart (withMain r .chart) (soFar true i) (ap (λ (c : Chart). c .lines) (b .chart)) (ap (λ (c : Chart). c .clocks) (b .chart))
-                (ap (λ (c : Chart). c .count) (b .chart) ∙ e) (ap (λ (c : Chart). c .count) (b .chart)) (ap (λ (c : Chart). c .regions) (b .chart));
+                same-chart (withMain r .chart) (soFar true i) (ap (λ (c : Chart). c .lines) (b .chart))
+                (ap (λ (c : Chart). c .clocks) (b .chart))
+                (ap (λ (c : Chart). c .count) (b .chart) ∙ e) (ap (λ (c : Chart). c .count) (b .chart))
+                (ap (λ (c : Chart). c .regions) (b .chart));
           }
 
 -- all regions of a well-formed chart
@@ -326,11 +368,13 @@ module _ (c : Chart) (w : WellFormed c) (shape : Shape c) (s : List ℕ) where
   end-read : (r : Reading) → Before c r true (c .count) → (at : ℕ) → drop at s ≡ endByte ∷ [] → Gives s given at r
   end-read r b at d =
       on-end s given at r d
-      (λ i. firstFault (not (b .headed i)) (b .fine i) false false false false (or-neither (ap not (b .half)) some i) false at (at + 1 + 0))
+      (λ i. firstFault (not (b .headed i)) (b .fine i) false false false false
+      (or-neither (ap not (b .half)) some i) false at (at + 1 + 0))
       (λ i. acceptedAs ((b .chart ∙ whole-chart) i))
     where
       some : eqb (closed r .count) (closed r .prechart) ≡ false
-      some = ap (λ (d : Chart). eqb (d .count) (d .prechart)) (b .chart) ∙ ne-eqb (c .count) (c .prechart) (let m = w .main in omega arith)
+      some = ap (λ (d : Chart). eqb (d .count) (d .prechart)) (b .chart)
+          ∙ ne-eqb (c .count) (c .prechart) (let m = w .main in omega arith)
 
       whole-chart : soFar c true (c .count) ≡ c
       whole-chart =
@@ -339,22 +383,28 @@ module _ (c : Chart) (w : WellFormed c) (shape : Shape c) (s : List ℕ) where
           (λ i h k. zero-region (regionAt c i) (shape .terms i k) (w .unused i h k)))
 
   -- region i, before which a 50 stands if it is the first of the main chart
-  region-at : (i : ℕ) → i < c .count → (main : Bool) → leb (c .prechart) i ≡ main → (r : Reading) → Before c r main i → (rest : List ℕ) (at : ℕ)
+  region-at : (i : ℕ) → i < c .count → (main : Bool) → leb (c .prechart) i ≡ main → (r : Reading) → Before c r main i
+      → (rest : List ℕ) (at : ℕ)
       → drop at s ≡ regionBytes (regionAt c i) rest
-      → ((at′ : ℕ) (r′ : Reading) → Before c r′ (ltb (c .prechart) (suc i)) (suc i) → drop at′ s ≡ rest → Gives s given at′ r′) → Gives s given at r
+      → ((at′ : ℕ) (r′ : Reading) → Before c r′ (ltb (c .prechart) (suc i)) (suc i) → drop at′ s ≡ rest
+      → Gives s given at′ r′) → Gives s given at r
   region-at i h main e r b rest at d next =
       let room = w .room in
       region-read c s given main i r b (omega arith) (fits-at i h main e) (shape .terms i (omega arith)) rest at d
-      (λ at′ r′ b′. next at′ r′ (subst (λ (m : Bool). Before c r′ m (suc i)) (sym (leb·suc-suc (c .prechart) i ∙ e)) b′))
+      (λ at′ r′ b′. next at′ r′
+      (subst (λ (m : Bool). Before c r′ m (suc i)) (sym (leb·suc-suc (c .prechart) i ∙ e)) b′))
 
-  place-read : (i : ℕ) → i < c .count → (t : Bool) → eqb i (c .prechart) ≡ t → (r : Reading) → Before c r (ltb (c .prechart) i) i → (rest : List ℕ) (at : ℕ)
+  place-read : (i : ℕ) → i < c .count → (t : Bool) → eqb i (c .prechart) ≡ t → (r : Reading)
+      → Before c r (ltb (c .prechart) i) i → (rest : List ℕ) (at : ℕ)
       → drop at s ≡ cond t (mainByte ∷ regionBytes (regionAt c i) rest) (regionBytes (regionAt c i) rest)
-      → ((at′ : ℕ) (r′ : Reading) → Before c r′ (ltb (c .prechart) (suc i)) (suc i) → drop at′ s ≡ rest → Gives s given at′ r′) → Gives s given at r
+      → ((at′ : ℕ) (r′ : Reading) → Before c r′ (ltb (c .prechart) (suc i)) (suc i) → drop at′ s ≡ rest
+      → Gives s given at′ r′) → Gives s given at r
   place-read i h true e r b rest at d next =
       let z : i ≡ c .prechart = eqb-true i (c .prechart) e in
       main-read c s given i r (subst (λ (m : Bool). Before c r m i) (le-ltb (c .prechart) i (omega arith)) b) z _ at d
       (λ at′ r′ b′ d′. region-at i h true (le-leb (c .prechart) i (omega arith)) r′ b′ rest at′ d′ next)
-  place-read i h false e r b rest at d next = region-at i h (ltb (c .prechart) i) (by (ltb (c .prechart) i) refl) r b rest at d next
+  place-read i h false e r b rest at d next =
+      region-at i h (ltb (c .prechart) i) (by (ltb (c .prechart) i) refl) r b rest at d next
     where
       by : (m : Bool) → ltb (c .prechart) i ≡ m → leb (c .prechart) i ≡ m
       by true q = let l : c .prechart < i = ltb-true _ _ q in le-leb (c .prechart) i (omega arith)
@@ -379,7 +429,8 @@ round-trip c shape e =
     gives-chart (chartBytes c) (acceptedAs c)
     (on-heading (chartBytes c) _ 0 startReading (regionsBytes c (c .count) 0 (endByte ∷ [])) (c .lines) (c .clocks) refl
     (λ i. firstFault false Nothing (not (range i)) false false false false false 0 0)
-    (λ at d. regions-read c w shape (chartBytes c) (c .count) 0 (omega arith) (withHeading startReading (c .lines) (c .clocks)) first at d))
+    (λ at d. regions-read c w shape (chartBytes c) (c .count) 0 (omega arith)
+    (withHeading startReading (c .lines) (c .clocks)) first at d))
   where
     w : WellFormed c
     w = wf-of c e
@@ -389,5 +440,14 @@ round-trip c shape e =
 
     first : Before c (withHeading startReading (c .lines) (c .clocks)) (ltb (c .prechart) 0) 0
     first =
-        subst (λ (m : Bool). Before c (withHeading startReading (c .lines) (c .clocks)) m 0) (sym (le-ltb (c .prechart) 0 (omega arith)))
-        (record { headed = refl; half = refl; lines = refl; prechart = refl; touched = refl; fine = refl; chart = refl })
+        subst (λ (m : Bool). Before c (withHeading startReading (c .lines) (c .clocks)) m 0)
+        (sym (le-ltb (c .prechart) 0 (omega arith)))
+        (record {
+          headed = refl;
+          half = refl;
+          lines = refl;
+          prechart = refl;
+          touched = refl;
+          fine = refl;
+          chart = refl;
+        })

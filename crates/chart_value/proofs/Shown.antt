@@ -77,7 +77,8 @@ module _ (c : Chart) (w : WellFormed c) where
   cold-prechart i h =
       let k : i < c .count = omega (arith, w .main) in
       ap (λ (g : Region). g .hot) (inside i k)
-      ∙ cold (regionAt c i .hot) (leb (c .prechart) i) (not (eqb (regionAt c i .count) 0)) (lt-leb (c .prechart) i h) (fits-at c w i k .hot)
+      ∙ cold (regionAt c i .hot) (leb (c .prechart) i) (not (eqb (regionAt c i .count) 0)) (lt-leb (c .prechart) i h)
+      (fits-at c w i k .hot)
 
   own-clocks : (i k : ℕ) → So (contains (regionOf c i .resets) k) → k < c .clocks
   own-clocks i k e = by (decLt i (c .count))
@@ -88,7 +89,8 @@ module _ (c : Chart) (w : WellFormed c) where
           (ap (λ (g : Region). contains (g .resets) k) (sym (inside i h)) ∙ e)
       by (no h) =
           let l : c .count ≤ i = omega arith in
-          let o : regionOf c i ≡ zeroRegion = ap (λ (b : Bool). cond b (regionAt c i) zeroRegion) (le-ltb i (c .count) l) in
+          let o : regionOf c i ≡ zeroRegion = ap (λ (b : Bool). cond b (regionAt c i) zeroRegion)
+          (le-ltb i (c .count) l) in
           let z : false ≡ true = sym (contains-empty k) ∙ ap (λ (g : Region). contains (g .resets) k) (sym o) ∙ e in
           absurd (let z : _≡_ {A = ℕ} 0 1 = cc in omega arith)
 
@@ -96,14 +98,17 @@ module _ (c : Chart) (w : WellFormed c) where
   accepted =
       record {
         downward = λ a b e. above-lt (touchedAt c) (c .prechart) (order a b .0 e .1);
-        transitive = λ x y z e f. order x z .1 (order y z .0 f .0, above-trans (touchedAt c) (c .prechart) (order x y .0 e .1) (order y z .0 f .1));
+        transitive =
+            λ x y z e f. order x z .1
+            (order y z .0 f .0, above-trans (touchedAt c) (c .prechart) (order x y .0 e .1) (order y z .0 f .1));
         same-message = λ a b h k n q d.
             pick a b h k
             (same-key a b h k (regionAt c a .event) (regionAt c b .event) refl refl
             (rw (inside a h) at n) (rw (inside a h, inside b k) at q) d);
         halves = λ a b h k l. order a b .1 (l, first (halves h k));
         plain-below = λ i h q.
-            let r = plain-key i h (regionAt c i .event) refl (rw (inside i h) at q) in (r .0, order (r .0) i .1 (h, r .1));
+            let r = plain-key i h (regionAt c i .event) refl (rw (inside i h) at q) in
+            (r .0, order (r .0) i .1 (h, r .1));
         has-main = w .main;
         cold-prechart = cold-prechart;
         own-clocks = own-clocks;
@@ -116,7 +121,8 @@ module _ (c : Chart) (w : WellFormed c) where
 
 -- said of bytes
 pub shown-of : (s : List ℕ) (c : Chart) → readChart s ≡ acceptedAs c → Shown c
-shown-of s c e = let w = wf-of c (sound s c e .fine) in record { accepted = accepted c w; region = inside c w; order = order c w }
+shown-of s c e = let w = wf-of c (sound s c e .fine) in
+    record { accepted = accepted c w; region = inside c w; order = order c w }
 
 pub shown : (c : Chart) → Given c → Shown c
 shown c g = shown-of (g .bytes) c (g .accepted)

@@ -18,9 +18,11 @@ use Rattle.model.specs.declared.Left.the-variants.{Clock, Difference}
 use Rattle.model.specs.declared.Relation.{Relation}
 use Rattle.model.specs.declared.Relation.the-variants.{Less, AtMost, Equal, AtLeast, More}
 use Rattle.model.specs.Chart.{regionAt, termAt}
-use Rattle.chart_command.specs.Command.{headingByte, messageByte, plainByte, clockTermByte, differenceTermByte, hotByte, resetsByte, mainByte, endByte}
+use Rattle.chart_command.specs.Command.{headingByte, messageByte, plainByte, clockTermByte, differenceTermByte, hotByte}
+use Rattle.chart_command.specs.Command.{resetsByte, mainByte, endByte}
 use Rattle.chart_value.specs.WellFormed.{leftFits, eventFits}
-use Rattle.chart_value.specs.Writer.{chartBytes, regionsBytes, regionBytes, eventBytes, termsBytes, leftBytes, hotBytes, relationByte, two, four}
+use Rattle.chart_value.specs.Writer.{chartBytes, regionsBytes, regionBytes, eventBytes, termsBytes, leftBytes}
+use Rattle.chart_value.specs.Writer.{hotBytes, relationByte, two, four}
 use Rattle.base.proofs.Bools.{both}
 use Rattle.chart_value.proofs.Facts.{Terms, WellFormed, fits-of}
 use Rattle.chart_value.proofs.Owned.{Ranges, labelFits}
@@ -54,7 +56,8 @@ relation-small Equal = omega arith
 relation-small AtLeast = omega arith
 relation-small More = omega arith
 
-left-small : (clocks : ℕ) (l : Left) (s : List ℕ) → clocks ≤ 8 → leftFits clocks l ≡ true → Small s → Small (leftBytes l s)
+left-small : (clocks : ℕ) (l : Left) (s : List ℕ) → clocks ≤ 8 → leftFits clocks l ≡ true → Small s
+    → Small (leftBytes l s)
 left-small clocks (Clock k) s h e f =
     let a : k < clocks = ltb-true k clocks e in
     next clockTermByte (k ∷ s) (omega arith) (next k s (omega arith) f)
@@ -65,17 +68,20 @@ left-small clocks (Difference a b) s h e f =
     let y : b < clocks = ltb-true b clocks (q .0) in
     next differenceTermByte (a ∷ b ∷ s) (omega arith) (next a (b ∷ s) (omega arith) (next b s (omega arith) f))
 
-event-small : (lines : ℕ) (opening : Bool) (before : ℕ) (e : Event) (s : List ℕ) → lines ≤ 16 → eventFits lines opening before e ≡ true → labelFits e
+event-small : (lines : ℕ) (opening : Bool) (before : ℕ) (e : Event) (s : List ℕ) → lines ≤ 16
+    → eventFits lines opening before e ≡ true → labelFits e
     → Small s → Small (eventBytes e s)
 event-small lines opening before (Message m) s h e k f =
     let p = both (ltb (m .source) lines) _ e in
     let q = both (ltb (m .destination) lines) _ (p .1) in
     let x : m .source < lines = ltb-true (m .source) lines (p .0) in
     let y : m .destination < lines = ltb-true (m .destination) lines (q .0) in
-    next messageByte _ (omega arith) (next (m .source) _ (omega arith) (next (m .destination) _ (omega arith) (two-small (m .label) s k f)))
+    next messageByte _ (omega arith)
+    (next (m .source) _ (omega arith) (next (m .destination) _ (omega arith) (two-small (m .label) s k f)))
 event-small lines opening before (Plain l) s h e k f = next plainByte _ (omega arith) (two-small l s k f)
 
-terms-small : (clocks : ℕ) (g : Region) → clocks ≤ 8 → Terms clocks g → Ranges g → (n j : ℕ) → j + n ≡ g .count → (s : List ℕ) → Small s
+terms-small : (clocks : ℕ) (g : Region) → clocks ≤ 8 → Terms clocks g → Ranges g → (n j : ℕ) → j + n ≡ g .count
+    → (s : List ℕ) → Small s
     → Small (termsBytes g n j s)
 unfolding termsBytes
 terms-small clocks g h t r zero j e s f = f
@@ -83,7 +89,8 @@ terms-small clocks g h t r (suc n) j e s f =
     let m : g .count ≤ 4 = t .count in
     left-small clocks (termAt g j .left) _ h (t .used j (omega arith))
     (next (relationByte (termAt g j .relation)) _ (relation-small (termAt g j .relation))
-    (four-small (termAt g j .n) _ (r .numbers j (omega arith)) (terms-small clocks g h t r n (suc j) (omega arith) s f)))
+    (four-small (termAt g j .n) _ (r .numbers j (omega arith))
+    (terms-small clocks g h t r n (suc j) (omega arith) s f)))
 
 hot-small : (hot : Bool) (s : List ℕ) → Small s → Small (hotBytes hot s)
 hot-small true s f = next hotByte s (omega arith) f
@@ -102,7 +109,9 @@ module _ (c : Chart) (w : WellFormed c) (r : (i : ℕ) → i < 32 → Ranges (re
       let y = r i (omega arith) in
       event-small (c .lines) _ _ (regionAt c i .event) _ (w .high) (x .event) (y .label)
       (terms-small (c .clocks) (regionAt c i) (w .clocks) (x .terms) y (regionAt c i .count) 0 (omega arith) _
-      (hot-small (regionAt c i .hot) _ (resets-small (regionAt c i .resets) (eqb (regionAt c i .resets) 0) s (lt-of-lt-of-le (x .resets) (pow-mono (w .clocks))) f)))
+      (hot-small (regionAt c i .hot) _
+      (resets-small (regionAt c i .resets) (eqb (regionAt c i .resets) 0) s
+      (lt-of-lt-of-le (x .resets) (pow-mono (w .clocks))) f)))
 
   main-small : (b : Bool) (s : List ℕ) → Small s → Small (cond b (mainByte ∷ s) s)
   main-small true s f = next mainByte s (omega arith) f

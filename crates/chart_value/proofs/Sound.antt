@@ -25,7 +25,8 @@ use Rattle.model.specs.declared.Left.{Left}
 use Rattle.model.specs.declared.Left.the-variants.{Clock, Difference}
 use Rattle.model.specs.Chart.{zeroTerm, zeroRegion, absentRegion, regionAt, termAt, isBare, touched}
 use Rattle.chart_command.specs.declared.Command.{Command}
-use Rattle.chart_command.specs.declared.Command.the-variants.{Heading, Message, Plain, ClockTerm, DifferenceTerm, Hot, Resets, Main, End}
+use Rattle.chart_command.specs.declared.Command.the-variants.{Heading, Message, Plain, ClockTerm, DifferenceTerm, Hot}
+use Rattle.chart_command.specs.declared.Command.the-variants.{Resets, Main, End}
 use Rattle.chart_command.specs.declared.Decoded.{Decoded}
 use Rattle.chart_command.specs.declared.Decoded.the-variants as decoded
 use Rattle.chart_command.specs.Command.{decodeAt}
@@ -36,12 +37,16 @@ use Rattle.chart_step.specs.declared.Fault.the-variants.{Nothing, Found}
 use Rattle.chart_step.specs.declared.Outcome.{Outcome}
 use Rattle.chart_step.specs.declared.Outcome.the-variants.{Going, Ended, Refused}
 use Rattle.chart_step.specs.declared.Refusal.{Refusal}
-use Rattle.chart_step.specs.declared.Refusal.the-variants.{CutShort, Misplaced, Outside, Excess, Bare, HotAlone, Early, Unanchored, Mainless}
+use Rattle.chart_step.specs.declared.Refusal.the-variants.{CutShort, Misplaced, Outside, Excess, Bare, HotAlone, Early}
+use Rattle.chart_step.specs.declared.Refusal.the-variants.{Unanchored, Mainless}
 use Rattle.chart_step.proofs.Numbers.{refusal-nonzero}
-use Rattle.chart_step.specs.Reading.{stepOf, faultOf, decided, applied, outcomeOf, closingFault, closed, orElse, when, withTerm, relationOf, begunWith, withRegion, withMain, withHeading, isOutside, isUnanchored, isMainless}
+use Rattle.chart_step.specs.Reading.{stepOf, faultOf, decided, applied, outcomeOf, closingFault, closed, orElse, when}
+use Rattle.chart_step.specs.Reading.{withTerm, relationOf, begunWith, withRegion, withMain, withHeading, isOutside}
+use Rattle.chart_step.specs.Reading.{isUnanchored, isMainless}
 use Rattle.chart_reader.specs.Read.{readChart, readFrom, continueBy, advanceOf, advanceBy, startReading}
 use Rattle.chart_reader.specs.Said.{Said, acceptedAs, refusedFor}
-use Rattle.chart_value.specs.WellFormed.{wellFormed, placeFits, regionFits, eventFits, leftFits, touchedBefore, isZeroRegion}
+use Rattle.chart_value.specs.WellFormed.{wellFormed, placeFits, regionFits, eventFits, leftFits, touchedBefore}
+use Rattle.chart_value.specs.WellFormed.{isZeroRegion}
 use Rattle.bitset.specs.Set.{union, within}
 use Rattle.base.proofs.Bools.{both, and-both, neither}
 use Rattle.bitset.proofs.Laws.{within-true}
@@ -63,7 +68,8 @@ pub record SoFar (c : Chart) (main : Bool) : Type 0 where
 -- the region last started: all but what its closing asks
 pub record Grows (c : Chart) (main : Bool) (g : Region) : Type 0 where
   pub room : c .count < 32
-  pub event : eventFits (c .lines) (not main || eqb (c .prechart) 0) (touchedBefore (c .regions) (c .count)) (g .event) ≡ true
+  pub event : eventFits (c .lines) (not main || eqb (c .prechart) 0) (touchedBefore (c .regions) (c .count))
+      (g .event) ≡ true
   pub size : length (g .terms) ≡ 4
   pub terms : Terms (c .clocks) g
   pub resets : g .resets < 2 ^ c .clocks
@@ -71,7 +77,8 @@ pub record Grows (c : Chart) (main : Bool) (g : Region) : Type 0 where
 
 -- both, between two commands; and the lines touched so far
 pub data State (r : Reading) : Type 0 where
-  idle : r .started ≡ false → SoFar (r .chart) (r .main) → r .touched ≡ touchedBefore (r .chart .regions) (r .chart .count) → State r
+  idle : r .started ≡ false → SoFar (r .chart) (r .main)
+      → r .touched ≡ touchedBefore (r .chart .regions) (r .chart .count) → State r
   busy : r .started ≡ true → SoFar (r .chart) (r .main) → Grows (r .chart) (r .main) (r .region)
       → r .touched ≡ union (touchedBefore (r .chart .regions) (r .chart .count)) (touched (r .region .event)) → State r
 
@@ -89,11 +96,13 @@ clear true k o g e = absurd (let z : _≡_ {A = ℕ} 0 1 = cc in omega arith)
 clear false k o g e = (refl, e)
 
 -- a later region changes nothing of what stands before
-touched-set : (gs : List Region) (k : ℕ) (g : Region) (i : ℕ) → i ≤ k → touchedBefore (set gs k g) i ≡ touchedBefore gs i
+touched-set : (gs : List Region) (k : ℕ) (g : Region) (i : ℕ) → i ≤ k
+    → touchedBefore (set gs k g) i ≡ touchedBefore gs i
 unfolding touchedBefore
 touched-set gs k g zero h = refl
 touched-set gs k g (suc i) h =
-    λ j. union (touched-set gs k g i (omega arith) j) (touched (getD-set-other gs k i g absentRegion (omega arith) j .event))
+    λ j. union (touched-set gs k g i (omega arith) j)
+    (touched (getD-set-other gs k i g absentRegion (omega arith) j .event))
 
 -- small facts for the closing of a region
 and-true : (b : Bool) → (b && true) ≡ b
@@ -104,13 +113,15 @@ hot-closed : (hot main z : Bool) → (not hot || main) ≡ true → (hot && z) �
 hot-closed false main z e f = refl
 hot-closed true main z e f = and-both e (ap not f)
 
-closed-same : (r : Reading) → (closed r .lines ≡ r .chart .lines) × (closed r .clocks ≡ r .chart .clocks) × (closed r .prechart ≡ r .chart .prechart)
+closed-same : (r : Reading) → (closed r .lines ≡ r .chart .lines) × (closed r .clocks ≡ r .chart .clocks)
+    × (closed r .prechart ≡ r .chart .prechart)
 closed-same r = by (r .started && ltb (r .chart .count) 32)
   where
     next : Chart
     next = withRegions (r .chart) (r .chart .count + 1) (set (r .chart .regions) (r .chart .count) (r .region))
 
-    by : (b : Bool) → (cond b next (r .chart) .lines ≡ r .chart .lines) × (cond b next (r .chart) .clocks ≡ r .chart .clocks)
+    by : (b : Bool) → (cond b next (r .chart) .lines ≡ r .chart .lines)
+        × (cond b next (r .chart) .clocks ≡ r .chart .clocks)
         × (cond b next (r .chart) .prechart ≡ r .chart .prechart)
     by true = (refl, refl, refl)
     by false = (refl, refl, refl)
@@ -123,9 +134,16 @@ module _ (c : Chart) (main : Bool) (s : SoFar c main) (g : Region) (w : Grows c 
 
   here : Fits (c .lines) (c .clocks) main (not main || eqb (c .prechart) 0) (touchedBefore (c .regions) (c .count)) g
   here =
-      record { event = w .event; terms = w .terms; resets = w .resets; bare = bare; hot = hot-closed (g .hot) main (eqb (g .count) 0) (w .hot) hot }
+      record {
+        event = w .event;
+        terms = w .terms;
+        resets = w .resets;
+        bare = bare;
+        hot = hot-closed (g .hot) main (eqb (g .count) 0) (w .hot) hot;
+      }
 
-  put-touched : touchedBefore (one-more .regions) (suc (c .count)) ≡ union (touchedBefore (c .regions) (c .count)) (touched (g .event))
+  put-touched : touchedBefore (one-more .regions) (suc (c .count)) ≡ union (touchedBefore (c .regions) (c .count))
+      (touched (g .event))
   unfolding touchedBefore
   put-touched =
       let z = s .size in
@@ -138,9 +156,11 @@ module _ (c : Chart) (main : Bool) (s : SoFar c main) (g : Region) (w : Grows c 
       let z : length (c .regions) ≡ 32 = s .size in
       let l : c .count < 32 = w .room in
       subst (λ (k : ℕ). placeFits one-more (main && leb (c .prechart) k) k ≡ true) (sym e)
-      (ap (λ (b : Bool). placeFits one-more b (c .count)) (ap (λ (b : Bool). main && b) (le-leb (c .prechart) (c .count) (s .split)) ∙ and-true main)
+      (ap (λ (b : Bool). placeFits one-more b (c .count))
+      (ap (λ (b : Bool). main && b) (le-leb (c .prechart) (c .count) (s .split)) ∙ and-true main)
       ∙ (λ j. regionFits (c .lines) (c .clocks) main (not main || eqb (c .prechart) 0)
-      (touched-set (c .regions) (c .count) g (c .count) (omega arith) j) (getD-set-same (c .regions) (c .count) g absentRegion (omega arith) j))
+      (touched-set (c .regions) (c .count) g (c .count) (omega arith) j)
+      (getD-set-same (c .regions) (c .count) g absentRegion (omega arith) j))
       ∙ of-fits _ _ _ _ _ _ here)
   put-used i h (no e) =
       let m = main && leb (c .prechart) i in
@@ -152,9 +172,11 @@ module _ (c : Chart) (main : Bool) (s : SoFar c main) (g : Region) (w : Grows c 
   put-terms i h (yes e) =
       let z : length (c .regions) ≡ 32 = s .size in
       let l : c .count < 32 = w .room in
-      rw e (ap (λ (x : Region). length (x .terms)) (getD-set-same (c .regions) (c .count) g absentRegion (omega arith)) ∙ w .size)
+      rw e (ap (λ (x : Region). length (x .terms)) (getD-set-same (c .regions) (c .count) g absentRegion (omega arith))
+      ∙ w .size)
   put-terms i h (no e) =
-      ap (λ (x : Region). length (x .terms)) (getD-set-other (c .regions) (c .count) i g absentRegion e) ∙ s .terms i (lt-of-le-ne h e)
+      ap (λ (x : Region). length (x .terms)) (getD-set-other (c .regions) (c .count) i g absentRegion e)
+      ∙ s .terms i (lt-of-le-ne h e)
 
   put-soFar : SoFar one-more main
   put-soFar =
@@ -171,7 +193,8 @@ module _ (c : Chart) (main : Bool) (s : SoFar c main) (g : Region) (w : Grows c 
         split = omega arith;
         used = λ i h. put-used i (omega arith) (ℕ-discrete i (c .count));
         terms = λ i h. put-terms i (omega arith) (ℕ-discrete i (c .count));
-        unused = λ i h k. getD-set-other (c .regions) (c .count) i g absentRegion (omega arith) ∙ s .unused i (omega arith) k;
+        unused = λ i h k. getD-set-other (c .regions) (c .count) i g absentRegion (omega arith)
+            ∙ s .unused i (omega arith) k;
       }
 
 -- what stands when the region last started is closed
@@ -184,24 +207,29 @@ close : (r : Reading) → State r → closingFault r ≡ Nothing → Closed r
 close r (idle e s t) f =
     let q : closed r ≡ r .chart =
     ap (λ (b : Bool). cond (b && ltb (r .chart .count) 32)
-    (withRegions (r .chart) (r .chart .count + 1) (set (r .chart .regions) (r .chart .count) (r .region))) (r .chart)) e in
+    (withRegions (r .chart) (r .chart .count + 1) (set (r .chart .regions) (r .chart .count) (r .region)))
+    (r .chart)) e in
     record {
       soFar = subst (λ (c : Chart). SoFar c (r .main)) (sym q) s;
       touched = t ∙ sym (ap (λ (c : Chart). touchedBefore (c .regions) (c .count)) q);
     }
 close r (busy e s w t) f =
-    let a = first-clear (when (r .started && isBare (r .region)) Bare (r .start)) (when (r .started && (r .region .hot && eqb (r .region .count) 0)) HotAlone (r .start)) f in
+    let a = first-clear (when (r .started && isBare (r .region)) Bare (r .start))
+    (when (r .started && (r .region .hot && eqb (r .region .count) 0)) HotAlone (r .start)) f in
     let bare : isBare (r .region) ≡ false =
     ap (λ (b : Bool). b && isBare (r .region)) (sym e) ∙ quiet _ _ _ (a .0) in
     let hot : (r .region .hot && eqb (r .region .count) 0) ≡ false =
     ap (λ (b : Bool). b && (r .region .hot && eqb (r .region .count) 0)) (sym e) ∙ quiet _ _ _ (a .1) in
     let q : closed r ≡ one-more (r .chart) (r .main) s (r .region) w bare hot =
     (λ j. cond (e j && lt-ltb (r .chart .count) 32 (w .room) j)
-    (withRegions (r .chart) (add-one (r .chart .count) j) (set (r .chart .regions) (r .chart .count) (r .region))) (r .chart)) in
+    (withRegions (r .chart) (add-one (r .chart .count) j) (set (r .chart .regions) (r .chart .count) (r .region)))
+    (r .chart)) in
     record {
-      soFar = subst (λ (c : Chart). SoFar c (r .main)) (sym q) (put-soFar (r .chart) (r .main) s (r .region) w bare hot);
+      soFar = subst (λ (c : Chart). SoFar c (r .main)) (sym q)
+          (put-soFar (r .chart) (r .main) s (r .region) w bare hot);
       touched =
-          t ∙ sym (put-touched (r .chart) (r .main) s (r .region) w bare hot) ∙ sym (ap (λ (c : Chart). touchedBefore (c .regions) (c .count)) q);
+          t ∙ sym (put-touched (r .chart) (r .main) s (r .region) w bare hot)
+          ∙ sym (ap (λ (c : Chart). touchedBefore (c .regions) (c .count)) q);
     }
 
 -- a chart that is read whole
@@ -229,7 +257,8 @@ decided-after (Found code offset) r st k = tt
 
 -- a region begins
 begin : (r : Reading) → r .headed ≡ true → Closed r → (at : ℕ) (e : Event) → leb 32 (closed r .count) ≡ false
-    → eventFits (r .chart .lines) (not (r .main) || eqb (r .chart .prechart) 0) (r .touched) e ≡ true → Inv (begunWith r at e)
+    → eventFits (r .chart .lines) (not (r .main) || eqb (r .chart .prechart) 0) (r .touched) e ≡ true
+    → Inv (begunWith r at e)
 begin r h c at e room fits =
     record {
       headed = h;
@@ -238,9 +267,14 @@ begin r h c at e room fits =
           (record {
             room = leb-false _ _ room;
             event =
-                (λ j. eventFits (closed-same r .0 j) (not (r .main) || eqb (closed-same r .2 j) 0) (sym (c .touched) j) e) ∙ fits;
+                (λ j. eventFits (closed-same r .0 j) (not (r .main) || eqb (closed-same r .2 j) 0)
+                (sym (c .touched) j) e) ∙ fits;
             size = refl;
-            terms = record { count = omega arith; used = λ j l. absurd (omega arith); unused = λ j l k. getD-replicate 4 j zeroTerm zeroTerm k };
+            terms = record {
+              count = omega arith;
+              used = λ j l. absurd (omega arith);
+              unused = λ j l k. getD-replicate 4 j zeroTerm zeroTerm k;
+            };
             resets = pow-pos (closed r .clocks);
             hot = refl;
           })
@@ -252,13 +286,21 @@ module _ (clocks : ℕ) (g : Region) (size : length (g .terms) ≡ 4) (w : Terms
     (fits : leftFits clocks (t .left) ≡ true) where
   abbrev with-term : Region
   with-term =
-      record { event = g .event; terms = set (g .terms) (g .count) t; count = g .count + 1; hot = g .hot; resets = g .resets }
+      record {
+        event = g .event;
+        terms = set (g .terms) (g .count) t;
+        count = g .count + 1;
+        hot = g .hot;
+        resets = g .resets;
+      }
 
   term-used : (j : ℕ) → j ≤ g .count → Dec (j ≡ g .count) → leftFits clocks (termAt with-term j .left) ≡ true
   term-used j h (yes e) =
-      rw e (ap (λ (x : Term). leftFits clocks (x .left)) (getD-set-same (g .terms) (g .count) t zeroTerm (omega arith)) ∙ fits)
+      rw e (ap (λ (x : Term). leftFits clocks (x .left)) (getD-set-same (g .terms) (g .count) t zeroTerm (omega arith))
+      ∙ fits)
   term-used j h (no e) =
-      ap (λ (x : Term). leftFits clocks (x .left)) (getD-set-other (g .terms) (g .count) j t zeroTerm e) ∙ w .used j (lt-of-le-ne h e)
+      ap (λ (x : Term). leftFits clocks (x .left)) (getD-set-other (g .terms) (g .count) j t zeroTerm e)
+      ∙ w .used j (lt-of-le-ne h e)
 
   more-terms : Terms clocks with-term
   more-terms =
@@ -268,14 +310,16 @@ module _ (clocks : ℕ) (g : Region) (size : length (g .terms) ≡ 4) (w : Terms
         unused = λ j h k. getD-set-other (g .terms) (g .count) j t zeroTerm (omega arith) ∙ w .unused j (omega arith) k;
       }
 
-grow : (r : Reading) → r .headed ≡ true → State r → not (r .started) ≡ false → (left : Left) (e n : ℕ) → leb 4 (r .region .count) ≡ false
+grow : (r : Reading) → r .headed ≡ true → State r → not (r .started) ≡ false → (left : Left) (e n : ℕ)
+    → leb 4 (r .region .count) ≡ false
     → leftFits (r .chart .clocks) left ≡ true → Inv (withTerm r left e n)
 grow r h (idle s c t) f left e n room fits = absurd (true≢false (sym (not-false _ f) ∙ s))
 grow r h (busy s c w t) f left e n room fits =
     let g = r .region in
     let l : g .count < 4 = leb-false _ _ room in
     let x : Term = record { left = left; relation = relationOf e; n = n } in
-    subst (λ (b : Bool). Inv (cond b (withRegion r (with-term (r .chart .clocks) g (w .size) (w .terms) l x fits)) r)) (sym (lt-ltb (g .count) 4 l))
+    subst (λ (b : Bool). Inv (cond b (withRegion r (with-term (r .chart .clocks) g (w .size) (w .terms) l x fits)) r))
+    (sym (lt-ltb (g .count) 4 l))
     (record {
       headed = h;
       state =
@@ -294,7 +338,14 @@ grow r h (busy s c w t) f left e n room fits =
 -- 32, 40: the region becomes hot, or has resets
 change : (r : Reading) (hot : Bool) (k : ℕ) → r .headed ≡ true → State r → not (r .started) ≡ false
     → (Grows (r .chart) (r .main) (r .region) → ((not hot || r .main) ≡ true) × (k < 2 ^ r .chart .clocks))
-    → Inv (withRegion r (record { event = r .region .event; terms = r .region .terms; count = r .region .count; hot = hot; resets = k }))
+    → Inv (withRegion r
+    (record {
+      event = r .region .event;
+      terms = r .region .terms;
+      count = r .region .count;
+      hot = hot;
+      resets = k;
+    }))
 change r hot k h (idle s c t) f u = absurd (true≢false (sym (not-false _ f) ∙ s))
 change r hot k h (busy s c w t) f u =
     record {
@@ -330,7 +381,8 @@ cross r h c m =
             split = omega arith;
             used = λ i l.
                 ap (λ (b : Bool). placeFits (withMain r .chart) b i) (lt-leb (closed r .count) i l)
-                ∙ ap (λ (b : Bool). placeFits (closed r) b i) (sym (ap (λ (b : Bool). b && leb (closed r .prechart) i) m)) ∙ s .used i l;
+                ∙ ap (λ (b : Bool). placeFits (closed r) b i)
+                (sym (ap (λ (b : Bool). b && leb (closed r .prechart) i) m)) ∙ s .used i l;
             terms = s .terms;
             unused = s .unused;
           })
@@ -338,7 +390,8 @@ cross r h c m =
     }
 
 -- 7F: the chart is whole
-finish : (r : Reading) → Closed r → r .main ≡ true → eqb (closed r .count) (closed r .prechart) ≡ false → Whole (closed r)
+finish : (r : Reading) → Closed r → r .main ≡ true → eqb (closed r .count) (closed r .prechart) ≡ false
+    → Whole (closed r)
 finish r c m e =
     let s = c .soFar in
     record {
@@ -350,7 +403,8 @@ finish r c m e =
             clocks = s .clocks;
             main = lt-of-le-ne (s .split) (λ z. eqb-false _ _ e (sym z));
             room = s .room;
-            used = λ i l. ap (λ (b : Bool). placeFits (closed r) (b && leb (closed r .prechart) i) i) (sym m) ∙ s .used i l;
+            used = λ i l. ap (λ (b : Bool). placeFits (closed r) (b && leb (closed r .prechart) i) i) (sym m)
+                ∙ s .used i l;
             unused = λ i l k. ap isZeroRegion (s .unused i l k) ∙ zero-is-zero;
           });
       shape = record { regions = s .size; terms = λ i l. by i l (ltb i (closed r .count)) refl };
@@ -390,7 +444,9 @@ module _ (r : Reading) (h : r .headed ≡ true) (s : State r) (at next : ℕ) (m
       let w = clear (isUnanchored r (Plain l)) Unanchored at _ (v .1) in
       let x = neither (eqb l 0) _ (u .0) in
       begin r h (close r s (q .0)) at (event.Plain l) (v .0)
-      (and-both (ap not (x .0)) (and-both (not-false (within (r .chart .lines) l) (x .1)) (nand (not (r .main) || eqb (r .chart .prechart) 0) (eqb (bitAnd l (r .touched)) 0) (w .0))))
+      (and-both (ap not (x .0))
+      (and-both (not-false (within (r .chart .lines) l) (x .1))
+      (nand (not (r .main) || eqb (r .chart .prechart) 0) (eqb (bitAnd l (r .touched)) 0) (w .0))))
   kept (ClockTerm k e n) f =
       let p = clear (not (r .started)) Misplaced at _ f in
       let u = clear (isOutside (r .chart) (ClockTerm k e n)) Outside at _ (p .1) in
@@ -409,7 +465,8 @@ module _ (r : Reading) (h : r .headed ≡ true) (s : State r) (at next : ℕ) (m
   kept Hot e =
       let p = clear (not (r .started) || r .region .hot) Misplaced at _ e in
       let u = clear (not (r .main)) Early at _ (p .1) in
-      change r true (r .region .resets) h s (neither (not (r .started)) _ (p .0) .0) (λ w. (not-false _ (u .0), w .resets))
+      change r true (r .region .resets) h s (neither (not (r .started)) _ (p .0) .0)
+      (λ w. (not-false _ (u .0), w .resets))
   kept (Resets k) e =
       let p = clear (not (r .started) || not (eqb (r .region .resets) 0)) Misplaced at _ e in
       let u = clear (isOutside (r .chart) (Resets k)) Outside at _ (p .1) in
@@ -430,7 +487,8 @@ module _ (r : Reading) (h : r .headed ≡ true) (s : State r) (at next : ℕ) (m
 started : (at next : ℕ) (more : Bool) (c : Command) → After (stepOf startReading at next more c)
 unfolding AfterBy touchedBefore
 started at next more (Heading l k) =
-    decided-after (faultOf startReading at next more (Heading l k)) startReading (record { outcome = Going next; reading = withHeading startReading l k })
+    decided-after (faultOf startReading at next more (Heading l k)) startReading
+    (record { outcome = Going next; reading = withHeading startReading l k })
     (λ e. by (clear (not (leb 2 l && (leb l 16 && leb k 8))) Outside at Nothing e .0))
   where
     by : not (leb 2 l && (leb l 16 && leb k 8)) ≡ false → Inv (withHeading startReading l k)
@@ -470,7 +528,8 @@ Ready r = (r ≡ startReading) ⊎ Inv r
 
 command-keeps : (r : Reading) → Ready r → (at next : ℕ) (more : Bool) (c : Command) → After (stepOf r at next more c)
 unfolding Ready
-command-keeps r (inl e) at next more c = subst (λ (r : Reading). After (stepOf r at next more c)) (sym e) (started at next more c)
+command-keeps r (inl e) at next more c =
+    subst (λ (r : Reading). After (stepOf r at next more c)) (sym e) (started at next more c)
 command-keeps r (inr v) at next more c =
     decided-after (faultOf r at next more c) r (record { outcome = outcomeOf next c; reading = applied r at c })
     (λ e. kept r (v .headed) (v .state) at next more c e)
@@ -488,11 +547,13 @@ advance-keeps s at r v = by (decodeAt s at)
 pub never : {A : Type 0} (f : Refusal) (o : ℕ) (c : Chart) → refusedFor f o ≡ acceptedAs c → A
 never f o c e = absurd (refusal-nonzero f (ap (λ (x : Said). x .number) e))
 
-from-here : (n : ℕ) (s : List ℕ) (at : ℕ) (r : Reading) (c : Chart) → Ready r → readFrom n s at r ≡ acceptedAs c → Whole c
+from-here : (n : ℕ) (s : List ℕ) (at : ℕ) (r : Reading) (c : Chart) → Ready r → readFrom n s at r ≡ acceptedAs c
+    → Whole c
 unfolding readFrom AfterBy Ready
 from-here zero s at r c v e = never CutShort (length s) c e
 from-here (suc n) s at r c v e =
-    by (advanceOf s at r .outcome) (advanceOf s at r .reading) (advance-keeps s at r v) e (λ at r v. from-here n s at r c v)
+    by (advanceOf s at r .outcome) (advanceOf s at r .reading) (advance-keeps s at r v) e
+    (λ at r v. from-here n s at r c v)
   where
     by : (o : Outcome) (x : Reading) → AfterBy o x → continueBy (readFrom n s) o x ≡ acceptedAs c
         → ((at : ℕ) (r : Reading) → Ready r → readFrom n s at r ≡ acceptedAs c → Whole c) → Whole c

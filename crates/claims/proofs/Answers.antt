@@ -33,7 +33,8 @@ same-answer (chart.Refused f k) (chart.Refused g m) e o = λ i. chart.Refused (r
 
 charts-tell : (x y : ChartRead) → read.said x ≡ read.said y → x ≡ y
 charts-tell x y e =
-    let a = same-answer (x .answer) (y .answer) (ap (λ (s : read.Said). s .number) e) (ap (λ (s : read.Said). s .offset) e) in
+    let a = same-answer (x .answer) (y .answer) (ap (λ (s : read.Said). s .number) e)
+    (ap (λ (s : read.Said). s .offset) e) in
     λ i. record { answer = a i; chart = e i .chart }
 
 -- the refusal with a number
@@ -68,7 +69,8 @@ judge-answer (judged.Refused log.TooManyRecords o) = refl
 judgements-tell : (x y : Judgement) → judge.said x ≡ judge.said y → x ≡ y
 judgements-tell x y e =
     let a : x .answer ≡ y .answer
-    = sym (judge-answer (x .answer)) ∙ ap (λ (s : judge.Said). judgeAnswer (s .number) (s .offset)) e ∙ judge-answer (y .answer) in
+    = sym (judge-answer (x .answer)) ∙ ap (λ (s : judge.Said). judgeAnswer (s .number) (s .offset)) e
+    ∙ judge-answer (y .answer) in
     λ i. record { answer = a i; verdict = e i .verdict }
 
 ans : AbstractAnswer → Answer

@@ -4,9 +4,11 @@ use Rattle.bitset.specs.Set.{contains, single, inserted, union, isSubset, withi
 use Rattle.order.specs.Order.{isOver, gathered, aboveSets}
 use Rattle.condition.specs.Condition.{termsHold}
 use Rattle.chart_reader.specs.Read.{readChart, readFrom, advanceOf}
-use Rattle.chart_value.specs.WellFormed.{isZeroTerm, termPlaced, termsFit, regionFits, isZeroRegion, touchedBefore, regionPlaced, wellFormed}
+use Rattle.chart_value.specs.WellFormed.{isZeroTerm, termPlaced, termsFit, regionFits, isZeroRegion, touchedBefore}
+use Rattle.chart_value.specs.WellFormed.{regionPlaced, wellFormed}
 use Rattle.rounds.specs.Rows.{chartMessage, plain, values, opened}
-use Rattle.rounds.specs.Machine.{ready, readyFor, readyPlain, fire, unfired, settle, offer, opening, full, prechartDone, goOn, keepRound, dropRound, breakRound, conclude, accept, feed, after}
+use Rattle.rounds.specs.Machine.{ready, readyFor, readyPlain, fire, unfired, settle, offer, opening, full, prechartDone}
+use Rattle.rounds.specs.Machine.{goOn, keepRound, dropRound, breakRound, conclude, accept, feed, after}
 use Rattle.log_reader.specs.Records.{recordsFrom, recordsIn}
 use Rattle.judge.specs.Check.{stepAt, checkFrom, checkLog}
 use Rattle.judge.specs.Judge.{judgeOf}

@@ -43,7 +43,11 @@ use Rattle.log_reader.proofs.Records.{one-record}
 pub demands-read : (bytes : List ℕ) (c : Chart) → readChart bytes ≡ acceptedAs c → Demands c
 demands-read bytes c e =
     let A = shown-of bytes c e .accepted in
-    record { second = demand-2 (chartOf c) A; third = demand-3 (chartOf c) A; feeding = feeding c (sound bytes c e .fine) A }
+    record {
+      second = demand-2 (chartOf c) A;
+      third = demand-3 (chartOf c) A;
+      feeding = feeding c (sound bytes c e .fine) A;
+    }
 
 -- the records fed before an offset, and what is left gives the whole
 pub record SoFar (c : Chart) (s : List ℕ) (m : Monitor) (at left : ℕ) : Type 0 where
@@ -54,7 +58,8 @@ pub record SoFar (c : Chart) (s : List ℕ) (m : Monitor) (at left : ℕ) : Type
 
 pub at-start : {c : Chart} {s : List ℕ} (m : Monitor) → m ≡ zeroMonitor → SoFar c s m 0 (length s)
 unfolding recordsIn
-at-start {c} m e = record { before = ε; ans = ε; run = subst (λ (x : Monitor). History c ε ε x) (sym e) none-yet; rest = refl }
+at-start {c} m e =
+    record { before = ε; ans = ε; run = subst (λ (x : Monitor). History c ε ε x) (sym e) none-yet; rest = refl }
 
 module _ {c : Chart} {s : List ℕ} {m : Monitor} {at left : ℕ} (S : SoFar c s m at left) where
   pub fed-one : 0 < left → (e : Record) (past : ℕ) → nextAt s at ≡ Handed e past → (r : Step) → stepOf r ≡ feedOf c m e
@@ -91,15 +96,18 @@ watched chart log x r e a z f = record {
   fed = fed;
   agrees = λ c q M.
       let D = demands-read chart c q in
-      subst (Agrees (chartOf c) (M .accepted) (M .stretches) (M .last)) (sym (D .feeding .leads (fed c q .run))) (D .third .monitor-agrees M .1);
+      subst (Agrees (chartOf c) (M .accepted) (M .stretches) (M .last)) (sym (D .feeding .leads (fed c q .run)))
+      (D .third .monitor-agrees M .1);
 }
   where
     fed : (c : Chart) → readChart chart ≡ acceptedAs c → FedAll c (recordsIn log) (r .monitor)
     fed c q =
-        subst (λ (d : Chart). FedAll d (recordsIn log) (r .monitor)) (ap (λ (s : Said). s .chart) (e ∙ q)) (f (ap (λ (s : Said). s .number) (e ∙ q)))
+        subst (λ (d : Chart). FedAll d (recordsIn log) (r .monitor)) (ap (λ (s : Said). s .chart) (e ∙ q))
+        (f (ap (λ (s : Said). s .number) (e ∙ q)))
 
 -- the verdict, by the stretches
-pub judged-walk : (c : Chart) → Given c → (log : List ℕ) {es : Snoc Record} {at last : ℕ} → Walk log es at last → FindsAs log at (found.end at)
+pub judged-walk : (c : Chart) → Given c → (log : List ℕ) {es : Snoc Record} {at last : ℕ} → Walk log es at last
+    → FindsAs log at (found.end at)
     → (M : Meaning (chartOf c) (logged es)) → JudgedBy c log es M
 judged-walk c g log {es} W F M = record {
   monitor = after (chartOf c) (logged es);

@@ -46,11 +46,16 @@ order : (a b m k : ℕ) → leZ (subℕ a b) (subℕ m k) ≡ leb (a + k) (m + b
 order a b m k = by (ltb a b) (ltb m k) refl refl
   where
     by : (t u : Bool) → ltb a b ≡ t → ltb m k ≡ u
-        → leZ (cond t (negsuc (b - suc a)) (pos (a - b))) (cond u (negsuc (k - suc m)) (pos (m - k))) ≡ leb (a + k) (m + b)
-    by true true e f = leb-same (k - suc m) (b - suc a) (a + k) (m + b) (λ h. omega (arith, ltb-true, ltb-false)) (λ h. omega (arith, ltb-true, ltb-false))
+        → leZ (cond t (negsuc (b - suc a)) (pos (a - b))) (cond u (negsuc (k - suc m)) (pos (m - k))) ≡ leb (a + k)
+        (m + b)
+    by true true e f =
+        leb-same (k - suc m) (b - suc a) (a + k) (m + b) (λ h. omega (arith, ltb-true, ltb-false))
+        (λ h. omega (arith, ltb-true, ltb-false))
     by true false e f = sym (le-leb (a + k) (m + b) (omega (arith, ltb-true, ltb-false)))
     by false true e f = sym (lt-leb (a + k) (m + b) (omega (arith, ltb-true, ltb-false)))
-    by false false e f = leb-same (a - b) (m - k) (a + k) (m + b) (λ h. omega (arith, ltb-true, ltb-false)) (λ h. omega (arith, ltb-true, ltb-false))
+    by false false e f =
+        leb-same (a - b) (m - k) (a + k) (m + b) (λ h. omega (arith, ltb-true, ltb-false))
+        (λ h. omega (arith, ltb-true, ltb-false))
 
 minus : (a b : ℕ) → pos a -ℤ pos b ≡ subℕ a b
 minus a zero = rw (le-ltb a 0 (omega arith)) (let e : a + 0 ≡ a - 0 = omega arith in ap pos e)
@@ -76,15 +81,19 @@ module _ (a b n : ℕ) (h : n < 0x1_0000_0000) where
   ge : leZ (signed n) (pos a -ℤ pos b) ≡ leb (b + positivePart n) (a + negativePart n)
   ge =
       let c : positivePart n + b ≡ b + positivePart n = omega arith in
-      rw (minus a b, signed-is n h, order (positivePart n) (negativePart n) a b) (ap (λ (z : ℕ). leb z (a + negativePart n)) c)
+      rw (minus a b, signed-is n h, order (positivePart n) (negativePart n) a b)
+      (ap (λ (z : ℕ). leb z (a + negativePart n)) c)
 
   -- the code's test on unsigned sums is the relation of the exact signed difference to n
-  pub compares-exactly : (rel : Relation) → inRelation rel (a + negativePart n) (b + positivePart n) ≡ related rel (pos a -ℤ pos b) (signed n)
-  compares-exactly Less = ltb-not (a + negativePart n) (b + positivePart n) ∙ ap not (sym ge) ∙ sym (ltZ-not (pos a -ℤ pos b) (signed n))
+  pub compares-exactly : (rel : Relation) → inRelation rel (a + negativePart n) (b + positivePart n) ≡ related rel
+      (pos a -ℤ pos b) (signed n)
+  compares-exactly Less =
+      ltb-not (a + negativePart n) (b + positivePart n) ∙ ap not (sym ge) ∙ sym (ltZ-not (pos a -ℤ pos b) (signed n))
   compares-exactly AtMost = sym le
   compares-exactly Equal = eqb-both (a + negativePart n) (b + positivePart n) ∙ ap₂ _&&_ (sym le) (sym ge)
   compares-exactly AtLeast = sym ge
-  compares-exactly More = ltb-not (b + positivePart n) (a + negativePart n) ∙ ap not (sym le) ∙ sym (ltZ-not (signed n) (pos a -ℤ pos b))
+  compares-exactly More =
+      ltb-not (b + positivePart n) (a + negativePart n) ∙ ap not (sym le) ∙ sym (ltZ-not (signed n) (pos a -ℤ pos b))
 
 -- a clock alone is its difference from 0
 pub one-clock : (a : ℕ) → pos a -ℤ pos 0 ≡ pos a

@@ -34,7 +34,8 @@ module _ (s t : ℕ) (old : List Moment) where
   pub reset-start : ResetSoFar 0 old
   reset-start = record { done = λ c l. absurd (not-suc-le-zero l); left = λ c l. refl }
 
-  pub reset-next : {k : ℕ} {out : List Moment} (v : Moment) → ResetSoFar k out → k < length out → v .0 ≡ cond (contains s k) t (momentsOf old k)
+  pub reset-next : {k : ℕ} {out : List Moment} (v : Moment) → ResetSoFar k out → k < length out
+      → v .0 ≡ cond (contains s k) t (momentsOf old k)
       → ResetSoFar (k + 1) (set out k v)
   unfolding ticks
   reset-next {k} {out} v R l e = record {
@@ -56,12 +57,14 @@ pub fires : (resets : List ℕ) (p : Place) (i t f : ℕ) (r : List Moment) → 
     → ((c : ℕ) → momentsOf r c ≡ cond (contains (getD resets i 0) c) t (momentsOf (p .resets) c))
     → placeAt (record { fired = f; resets = r }) ≡ fireBy resets t p i
 fires resets p i t f r e h =
-    let k : contains f ≡ (λ j. eqb j i || contains (p .fired) j) = fun-ext (λ j. rw e (contains-inserted (p .fired) i j ∙ or-comm (contains (p .fired) j) (eqb j i))) in
+    let k : contains f ≡ (λ j. eqb j i || contains (p .fired) j) = fun-ext
+    (λ j. rw e (contains-inserted (p .fired) i j ∙ or-comm (contains (p .fired) j) (eqb j i))) in
     let m : momentsOf r ≡ (λ c. cond (contains (getD resets i 0) c) t (momentsOf (p .resets) c)) = fun-ext h in
     λ j. record { fired = k j; clocks = m j }
 
 -- a place whose moments have come has none to come once a region fires
-pub fired-early : (resets : List ℕ) (t : ℕ) (p r : Place) (i : ℕ) → placeAt r ≡ fireBy resets t p i → ((c : ℕ) → momentsOf (p .resets) c ≤ t)
+pub fired-early : (resets : List ℕ) (t : ℕ) (p r : Place) (i : ℕ) → placeAt r ≡ fireBy resets t p i
+    → ((c : ℕ) → momentsOf (p .resets) c ≤ t)
     → (c : ℕ) → momentsOf (r .resets) c ≤ t
 fired-early resets t p r i e h c = rw (ap (λ (q : AbstractPlace). q .clocks c) e) (early (contains (getD resets i 0) c))
   where
@@ -73,15 +76,18 @@ pub zeros : (c : ℕ) → momentsOf (replicate mostClocks (record { 0 = 0 })) c 
 unfolding ticks
 zeros c = elim (decLt c mostClocks) [
   | yes l ↦ ap ticks (getD-replicate mostClocks c (record { 0 = 0 }) (record { 0 = 0 }) l)
-  | no l ↦ let h : mostClocks ≤ c = omega arith in ap ticks (List·getD-eq-default (replicate mostClocks (record { 0 = 0 })) (record { 0 = 0 }) h)
+  | no l ↦ let h : mostClocks ≤ c = omega arith in
+      ap ticks (List·getD-eq-default (replicate mostClocks (record { 0 = 0 })) (record { 0 = 0 }) h)
 ]
 
 -- nothing fired, and the chart's clocks reset
 pub opens : (C : Chart) (t : ℕ) (r : List Moment) {n : ℕ} → C .clocks ≡ n
-    → ((c : ℕ) → momentsOf r c ≡ cond (contains (2 ^ n - 1) c) t (momentsOf (replicate mostClocks (record { 0 = 0 })) c))
+    → ((c : ℕ) → momentsOf r c ≡ cond (contains (2 ^ n - 1) c) t
+    (momentsOf (replicate mostClocks (record { 0 = 0 })) c))
     → placeAt (record { fired = 0; resets = r }) ≡ opening C t
 unfolding opening opened
 opens C t r {n} q h =
     let k : contains 0 ≡ (λ i. false) = fun-ext contains-empty in
-    let m : momentsOf r ≡ (λ c. cond (ltb c (C .clocks)) t 0) = fun-ext (λ c. h c ∙ rw (contains-below n c, q) (ap (λ (z : ℕ). cond (ltb c n) t z) (zeros c))) in
+    let m : momentsOf r ≡ (λ c. cond (ltb c (C .clocks)) t 0) = fun-ext
+    (λ c. h c ∙ rw (contains-below n c, q) (ap (λ (z : ℕ). cond (ltb c n) t z) (zeros c))) in
     λ j. record { fired = k j; clocks = m j }

@@ -31,7 +31,8 @@ lt-two-pow zero = omega arith
 lt-two-pow (suc n) = let p = pow-suc 2 n in omega (arith, lt-two-pow n)
 
 -- a subset by masks, where each member of m is below n
-pub subset-all : (n m f : ℕ) → ((a : ℕ) → So (contains m a) → a < n) → isSubset m f ≡ allBelow n (λ a. not (contains m a) || contains f a)
+pub subset-all : (n m f : ℕ) → ((a : ℕ) → So (contains m a) → a < n)
+    → isSubset m f ≡ allBelow n (λ a. not (contains m a) || contains f a)
 subset-all n m f small =
     so-same (isSubset m f) (allBelow n _)
     (λ s. all-of n _ (λ a l. elim (split (contains m a)) [ inl p ↦ rw p (subset-members m f s a p) | inr p ↦ rw p ]))
@@ -51,12 +52,15 @@ first-same (suc n) s t h = rw (first-same n s t (λ i l. h i (omega arith)), h n
 
 module _ {h : Head} {keys above resets terms : List ℕ} (K : Compiled h keys above resets terms) (fired : ℕ) where
   -- a region is ready by its mask exactly if it is in the chart
-  pub ready-same : (i : ℕ) → i < h .count → readyBy above fired i ≡ ready (planChart h keys above resets terms) (contains fired) i
+  pub ready-same : (i : ℕ) → i < h .count → readyBy above fired i ≡ ready (planChart h keys above resets terms)
+      (contains fired) i
   unfolding ready
   ready-same i l = rw (subset-all (h .count) (getD above i 0) fired (λ a p. omega (arith, K .accepted .downward a i p)))
 
   -- what the search for a plain region found
-  pub found-plain : {o : Found} (x : Found) → o ≡ x → foundOf o ≡ first (h .count) (λ i. contains (h .plain) i && readyBy above fired i)
+  pub found-plain : {o : Found} (x : Found) → o ≡ x
+      → foundOf o ≡ first (h .count) (λ i. contains (h .plain) i && readyBy above fired i)
       → readyPlain (planChart h keys above resets terms) (contains fired) ≡ foundOf x
   unfolding readyPlain plain
-  found-plain {o} x e f = sym (ap foundOf (sym e) ∙ f ∙ first-same (h .count) _ _ (λ i l. ap₂ _&&_ (K .plain i l) (ready-same i l)))
+  found-plain {o} x e f =
+      sym (ap foundOf (sym e) ∙ f ∙ first-same (h .count) _ _ (λ i l. ap₂ _&&_ (K .plain i l) (ready-same i l)))

@@ -39,13 +39,15 @@ gap-grows {s} {i} {u} {r} A e R = elim (decLt i r) [
 pub run-less : {s i u r : ℕ} → FirstGap s i → u ≡ inserted s i → FirstGap u r → i < 32 → 32 - r < 32 - i
 run-less A e R l = omega (arith, gap-grows A e R)
 
--- of the numbers below n those that are skipped fail; those of the first set are skipped; the place is the first that is not
+-- of the numbers below n those that are skipped fail; those of the first set are skipped; the place is the first that
+-- is not
 pub record Skips (n : ℕ) (t : ℕ → Bool) (first s i : ℕ) : Type 0 where
   pub fails : (j : ℕ) → j < n → So (contains s j) → t j ≡ false
   pub all : (j : ℕ) → So (contains first j) → So (contains s j)
   pub at : FirstGap s i
 
-pub skips-start : {n : ℕ} {t : ℕ → Bool} {s r : ℕ} → ((j : ℕ) → j < n → So (contains s j) → t j ≡ false) → FirstGap s r → Skips n t s s r
+pub skips-start : {n : ℕ} {t : ℕ → Bool} {s r : ℕ} → ((j : ℕ) → j < n → So (contains s j) → t j ≡ false) → FirstGap s r
+    → Skips n t s s r
 skips-start h R = record { fails = h; all = λ j m. m; at = R }
 
 module _ {n : ℕ} {t : ℕ → Bool} {first s i : ℕ} (S : Skips n t first s i) where
@@ -77,7 +79,8 @@ pub record Apart (fired p s : ℕ) : Type 0 where
   pub inside : (j : ℕ) → j < 32 → So (contains s j) → So (contains fired j) ⊎ (contains p j ≡ false)
   pub outside : (j : ℕ) → j < 32 → contains s j ≡ false → (contains fired j ≡ false) × (contains p j ≡ true)
 
-pub apart : (fired p o s : ℕ) → ((i : ℕ) → i < 32 → contains o i ≡ not (contains p i)) → s ≡ union fired o → Apart fired p s
+pub apart : (fired p o s : ℕ) → ((i : ℕ) → i < 32 → contains o i ≡ not (contains p i)) → s ≡ union fired o
+    → Apart fired p s
 apart fired p o s h e = record {
   inside = λ j l m. elim (either (contains fired j) (contains o j) (sym (contains-union fired o j) ∙ rw (← e) m)) [
     | inl f ↦ inl f
@@ -88,7 +91,8 @@ apart fired p o s h e = record {
       (q .0, not-false (contains p j) (sym (h j l) ∙ q .1));
 }
 
-pub ready-is : (above : List ℕ) (fired i : ℕ) → contains fired i ≡ false → readyBy above fired i ≡ isSubset (getD above i 0) fired
+pub ready-is : (above : List ℕ) (fired i : ℕ) → contains fired i ≡ false
+    → readyBy above fired i ≡ isSubset (getD above i 0) fired
 ready-is above fired i f = rw f
 
 pub unready : (above : List ℕ) (fired i : ℕ) → isSubset (getD above i 0) fired ≡ false → readyBy above fired i ≡ false
@@ -104,7 +108,8 @@ plain-start above {plain} {fired} k A j l m = elim (A .inside j (omega arith) m)
 
 module _ {count : ℕ} {keys : List ℕ} {code among : ℕ} (W : Covers count keys code among) where
   not-covered : (j : ℕ) → j < count → contains among j ≡ false → eqb (getD keys j 0) code ≡ false
-  not-covered j l q = elim (ℕ-discrete (getD keys j 0) code) [ yes z ↦ clash (W .has j l z) q | no z ↦ ne-eqb (getD keys j 0) code z ]
+  not-covered j l q =
+      elim (ℕ-discrete (getD keys j 0) code) [ yes z ↦ clash (W .has j l z) q | no z ↦ ne-eqb (getD keys j 0) code z ]
 
   -- what the search for the ready region of a message starts with
   pub message-start : (above : List ℕ) {fired s : ℕ} → Apart fired among s
@@ -120,5 +125,6 @@ module _ {count : ℕ} {keys : List ℕ} {code among : ℕ} (W : Covers count ke
   known-start o h j l m = not-covered j l (not-true (contains among j) (sym (h j (omega (arith, W .within .few))) ∙ m))
 
   -- what is not skipped by it is among the regions
-  pub known-left : (o : ℕ) → ((i : ℕ) → i < 32 → contains o i ≡ not (contains among i)) → (j : ℕ) → j < 32 → contains o j ≡ false → j < count
+  pub known-left : (o : ℕ) → ((i : ℕ) → i < 32 → contains o i ≡ not (contains among i)) → (j : ℕ) → j < 32
+      → contains o j ≡ false → j < count
   known-left o h j l m = W .within .own j (not-false (contains among j) (sym (h j l) ∙ m))

@@ -22,7 +22,8 @@ unfoldable pub heldAt : ℕ → ℕ → List Moment → Bool
 heldAt w t resets = bounded w (bias + (t - momentsOf resets (firstOf w % mostClocks)))
     (boundOf w + cond (ltb (secondOf w) mostClocks) (t - momentsOf resets (secondOf w % mostClocks)) 0)
 
-pub testable : {h : Head} {keys above resets terms : List ℕ} → Compiled h keys above resets terms → Testable (h .clocks) terms
+pub testable : {h : Head} {keys above resets terms : List ℕ} → Compiled h keys above resets terms
+    → Testable (h .clocks) terms
 testable K = record { few = K .clocks; words = K .words }
 
 module _ {clocks : ℕ} {terms : List ℕ} (T : Testable clocks terms) (t : ℕ) (resets : List Moment) where
@@ -34,22 +35,28 @@ module _ {clocks : ℕ} {terms : List ℕ} (T : Testable clocks terms) (t : ℕ)
       rw (lt-ltb c clocks l, e)
 
   second-here : (s : ℕ) → (s < clocks) ⊎ (mostClocks ≤ s)
-      → cond (ltb s mostClocks) (valueAt clocks t resets s) 0 ≡ cond (ltb s mostClocks) (t - momentsOf resets (s % mostClocks)) 0
+      → cond (ltb s mostClocks) (valueAt clocks t resets s) 0 ≡ cond (ltb s mostClocks)
+      (t - momentsOf resets (s % mostClocks)) 0
   second-here s (inl l) = let h : s < mostClocks = omega (arith, T .few) in rw (lt-ltb s mostClocks h) (value-here s l)
   second-here s (inr l) = rw (le-ltb s mostClocks l)
 
   word-tested : (w : ℕ) → InChart clocks w → holdsBy w (valueAt clocks t resets) ≡ heldAt w t resets
   unfolding holdsBy heldAt
   word-tested w I =
-      ap₂ (λ (x y : ℕ). bounded w (bias + x) (boundOf w + y)) (value-here (firstOf w) (I .first)) (second-here (secondOf w) (I .second))
+      ap₂ (λ (x y : ℕ). bounded w (bias + x) (boundOf w + y)) (value-here (firstOf w) (I .first))
+      (second-here (secondOf w) (I .second))
 
-  same-test : (k : ℕ) → Dec (getD terms k 0 ≡ 0) → holdsBy (getD terms k 0) (valueAt clocks t resets) ≡ heldAt (getD terms k 0) t resets
+  same-test : (k : ℕ) → Dec (getD terms k 0 ≡ 0)
+      → holdsBy (getD terms k 0) (valueAt clocks t resets) ≡ heldAt (getD terms k 0) t resets
   unfolding holdsBy heldAt
   same-test k (yes e) = rw e
   same-test k (no e) = word-tested (getD terms k 0) (T .words .named k e)
 
-  pub condition-tested : (i : ℕ) → allBelow mostTerms (λ j. heldAt (getD terms (i * mostTerms + j) 0) t resets) ≡ conditionBy terms i (valueAt clocks t resets)
-  condition-tested i = ap (allBelow mostTerms) (fun-ext (λ j. sym (same-test (i * mostTerms + j) (ℕ-discrete (getD terms (i * mostTerms + j) 0) 0))))
+  pub condition-tested : (i : ℕ) → allBelow mostTerms
+      (λ j. heldAt (getD terms (i * mostTerms + j) 0) t resets) ≡ conditionBy terms i (valueAt clocks t resets)
+  condition-tested i =
+      ap (allBelow mostTerms)
+      (fun-ext (λ j. sym (same-test (i * mostTerms + j) (ℕ-discrete (getD terms (i * mostTerms + j) 0) 0))))
 
   -- from the first word without a term on
   pub terms-end : (i j : ℕ) → getD terms (i * mostTerms + j) 0 ≡ 0 → (k : ℕ) → j ≤ k → k < mostTerms
@@ -57,7 +64,8 @@ module _ {clocks : ℕ} {terms : List ℕ} (T : Testable clocks terms) (t : ℕ)
   unfolding heldAt
   terms-end i j e k l m = rw (T .words .ends i j k l m e)
 
-pub term-held : (w t : ℕ) (resets : List Moment) (x y : ℕ) (r : Bool) → x ≡ t - momentsOf resets (firstOf w % mostClocks)
+pub term-held : (w t : ℕ) (resets : List Moment) (x y : ℕ) (r : Bool)
+    → x ≡ t - momentsOf resets (firstOf w % mostClocks)
     → y ≡ cond (ltb (secondOf w) mostClocks) (t - momentsOf resets (secondOf w % mostClocks)) 0
     → r ≡ bounded w (bias + x) (boundOf w + y) → heldAt w t resets ≡ r
 unfolding heldAt

@@ -19,7 +19,8 @@ pub record OnTheWay (C : Chart) (t : ℕ) (p : Place) (i : ℕ) (q : Place) (k :
 pub way-starts : {C : Chart} {t : ℕ} {p : Place} {i : ℕ} → Ready C (p .fired) i → OnTheWay C t p i p i
 way-starts R = record { same = refl; ready = R }
 
-module _ {C : Chart} {t i k : ℕ} {p q : Place} (W : OnTheWay C t p i q k) {b : Bool} (test : b ≡ C .condition k (values C t (q .clocks))) where
+module _ {C : Chart} {t i k : ℕ} {p q : Place} (W : OnTheWay C t p i q k) {b : Bool}
+    (test : b ≡ C .condition k (values C t (q .clocks))) where
   pub way-fails : not b ≡ true → fails k q ≡ takenAt C t p i
   way-fails h = sym (W .same ∙ rw (sym test ∙ not-true b h))
 

@@ -47,7 +47,9 @@ same-record (Time u) code t p q = λ i. record { time = q i; code = p i }
 
 -- the code in the bytes is that of the record
 pub code-of : (s : List ℕ) (at : ℕ) (e : Record) (offer : ℕ) → nextAt s at ≡ Handed e offer → codeAt s at ≡ recordCode e
-code-of s at e offer q = by (leb (length s) at) (eqb (getD s at 0) messageTag) (ltb (length s - at) messageSize) (eqb (getD s at 0) timeTag) (ltb (length s - at) timeSize) q
+code-of s at e offer q =
+    by (leb (length s) at) (eqb (getD s at 0) messageTag) (ltb (length s - at) messageSize) (eqb (getD s at 0) timeTag)
+    (ltb (length s - at) timeSize) q
   where
     same : word16 s (at + 3) * 65536 + word16 s (at + 1) + 1 ≡ recordCode (messageAt s at)
     same = let z : at + 1 + 1 ≡ at + 2 = omega arith in rw z (omega arith)
@@ -56,7 +58,10 @@ code-of s at e offer q = by (leb (length s) at) (eqb (getD s at 0) messageTag) (
     code {r} x = ap recordCode (taken-record x)
 
     by : (a b c d f : Bool)
-        → cond a End (cond b (cond c (Refused CutShort) (Handed (messageAt s at) (at + messageSize))) (cond d (cond f (Refused CutShort) (Handed (timeAt s at) (at + timeSize))) (Refused UnknownByte))) ≡ Handed e offer
+        → cond a End
+        (cond b (cond c (Refused CutShort) (Handed (messageAt s at) (at + messageSize)))
+        (cond d (cond f (Refused CutShort) (Handed (timeAt s at) (at + timeSize)))
+        (Refused UnknownByte))) ≡ Handed e offer
         → cond b (word16 s (at + 3) * 65536 + word16 s (at + 1) + 1) 0 ≡ recordCode e
     by true b c d f x = let z : _≡_ {A = ℕ} 0 1 = cc in absurd (omega arith)
     by false true true d f x = let z : _≡_ {A = ℕ} 0 1 = cc in absurd (omega arith)
@@ -76,7 +81,9 @@ unfolding recordsFrom after
 still C zero s at es b = refl
 still C (suc n) s at es b = by (nextAt s at) (λ p e c. still C n s p (es ▸ e) c)
   where
-    by : (x : Next) → ((p : ℕ) (e : Record) → after C (logged (es ▸ e)) .tally .broken .at ≢ 0 → after C (logged (recordsFrom n s p (es ▸ e))) ≡ after C (logged (es ▸ e)))
+    by : (x : Next) →
+        ((p : ℕ) (e : Record) → after C (logged (es ▸ e)) .tally .broken .at ≢ 0
+        → after C (logged (recordsFrom n s p (es ▸ e))) ≡ after C (logged (es ▸ e)))
         → after C (logged (onRecord (λ e offer. recordsFrom n s offer (es ▸ e)) x es)) ≡ after C (logged es)
     by End i = refl
     by (Refused f) i = refl
@@ -98,7 +105,8 @@ module _ {C : Abstract} {s : List ℕ} {m : Monitor} {at left : ℕ} (S : SoFar 
   pub fit-here : Accepted C → Fit C (monitorAt m)
   fit-here A = subst (λ (x : AbstractMonitor). Fit C x) (sym (S .monitor)) (after-fit C A (logged (S .before)))
 
-  pub fed-one : 0 < left → (e : Record) (offer : ℕ) → nextAt s at ≡ Handed e offer → (r : Step) (code t : ℕ) → code ≡ recordCode e → t ≡ timeOf e .0
+  pub fed-one : 0 < left → (e : Record) (offer : ℕ) → nextAt s at ≡ Handed e offer → (r : Step) (code t : ℕ)
+      → code ≡ recordCode e → t ≡ timeOf e .0
       → stepOf r ≡ feed C (monitorAt m) (recordOf code t) → SoFar C s (r .next) offer (left - 1)
   unfolding after
   fed-one h e offer q r code t p u f = record {
@@ -117,14 +125,16 @@ module _ {C : Abstract} {s : List ℕ} {m : Monitor} {at left : ℕ} (S : SoFar 
     pub fed-none : 0 < left → nextAt s at ≡ End → monitorAt m ≡ after D (logged (recordsIn s))
     fed-none h q = done (sym (one-record s at left h (S .before) End q) ∙ S .rest)
 
-    pub fed-bad : 0 < left → (f : RecordRefusal) → nextAt s at ≡ Refused f → monitorAt m ≡ after D (logged (recordsIn s))
+    pub fed-bad : 0 < left → (f : RecordRefusal) → nextAt s at ≡ Refused f
+        → monitorAt m ≡ after D (logged (recordsIn s))
     fed-bad h f q = done (sym (one-record s at left h (S .before) (Refused f) q) ∙ S .rest)
 
     -- after a break the rest changes nothing
     pub fed-broken : m .tally .broken .at ≢ 0 → monitorAt m ≡ after D (logged (recordsIn s))
     fed-broken b =
         S .monitor
-        ∙ sym (still C left s at (S .before) (λ e. b (ap (λ (x : AbstractMonitor). x .tally .broken .at) (S .monitor) ∙ e)))
+        ∙ sym (still C left s at (S .before)
+        (λ e. b (ap (λ (x : AbstractMonitor). x .tally .broken .at) (S .monitor) ∙ e)))
         ∙ ap₂ (λ (C : Abstract) (es : Snoc Record). after C (logged es)) shows (S .rest)
 
     pub fed-end : left ≡ 0 → monitorAt m ≡ after D (logged (recordsIn s))
@@ -132,7 +142,8 @@ module _ {C : Abstract} {s : List ℕ} {m : Monitor} {at left : ℕ} (S : SoFar 
     fed-end z = done (sym (ap (λ (j : ℕ). recordsFrom j s at (S .before)) z) ∙ S .rest)
 
 -- nothing is fired exactly if the set is empty
-none-fired : (n fired : ℕ) → ((i : ℕ) → So (contains fired i) → i < n) → eqb fired 0 ≡ allBelow n (λ i. not (contains fired i))
+none-fired : (n fired : ℕ) → ((i : ℕ) → So (contains fired i) → i < n)
+    → eqb fired 0 ≡ allBelow n (λ i. not (contains fired i))
 none-fired n fired w = elim (split (eqb fired 0)) [
   | inl e ↦ e ∙ sym (all-of n _ (λ i l. ap not (ap (λ (x : ℕ). contains x i) (eqb-true _ _ e) ∙ contains-empty i)))
   | inr e ↦ elim (split (allBelow n (λ i. not (contains fired i)))) [
@@ -144,9 +155,11 @@ none-fired n fired w = elim (split (eqb fired 0)) [
 ]
 
 -- the verdict of a stored monitor is that of what it shows
-pub verdict-same : (C : Abstract) (p : ℕ) (m : Monitor) → p ≡ C .prechart → Fit C (monitorAt m) → verdictBy p m ≡ verdictOf C (monitorAt m)
+pub verdict-same : (C : Abstract) (p : ℕ) (m : Monitor) → p ≡ C .prechart → Fit C (monitorAt m)
+    → verdictBy p m ≡ verdictOf C (monitorAt m)
 unfolding standingBy standingOf prechartDone
 verdict-same C p m e F = λ i. verdictWith
     (cond (not (eqb (m .tally .broken .at) 0)) 3
-    (cond (none-fired (C .regions) (m .place .fired) (F .within) i) 0 (cond (not (allBelow (e i) (contains (m .place .fired)))) 1 2)))
+    (cond (none-fired (C .regions) (m .place .fired) (F .within) i) 0
+    (cond (not (allBelow (e i) (contains (m .place .fired)))) 1 2)))
     (tallyAt (m .tally))

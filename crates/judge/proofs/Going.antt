@@ -1,4 +1,5 @@
--- The records of a log that was checked are taken as they are fed: none is refused, and the check goes on as the monitor does. Assumes nothing.
+-- The records of a log that was checked are taken as they are fed: none is refused, and the check goes on as the
+-- monitor does. Assumes nothing.
 use mathlib.Core.Path.{_≡_, refl, sym, ap, subst, _∙_}
 use mathlib.Core.Bool.{Bool, true, false, cond, not, So, _&&_}
 use mathlib.Core.List.{List}
@@ -18,7 +19,9 @@ use Rattle.model.specs.Answers.{mostRecords}
 use Rattle.rounds.specs.Chart.{Chart as Abstract}
 use Rattle.rounds.specs.Rows.{LogRecord, chartMessage}
 use Rattle.rounds.specs.Feeds.{noReadyRegion, conditionFails, entered, moved, quiet}
-use Rattle.rounds.specs.Machine.{Monitor as AbstractMonitor, Step as AbstractStep, Move, stuck, fails, rests, offer, full, prechartDone, goOn, keepRound, dropRound, breakRound, conclude, accept, feed, after}
+use Rattle.rounds.specs.Machine.{Monitor as AbstractMonitor, Step as AbstractStep, Move, stuck, fails, rests, offer}
+use Rattle.rounds.specs.Machine.{full, prechartDone, goOn, keepRound, dropRound, breakRound, conclude, accept, feed}
+use Rattle.rounds.specs.Machine.{after}
 use Rattle.base.proofs.Bools.{clash}
 use Rattle.log_reader.specs.declared.Next.the-variants.{Handed}
 use Rattle.log_reader.specs.Next.{nextAt}
@@ -40,7 +43,8 @@ use Rattle.judge.proofs.Laws.{Left, left-first, left-step, left-going}
 use Rattle.judge.proofs.Fed.{SoFar, at-start, fed-one, fed-none, fed-end}
 
 -- every region that has a message is in its code's slot
-pub slot-covers : {count : ℕ} {keys slots : List ℕ} → Slotted count keys slots → count ≤ mostRegions → (code : ℕ) → Covers count keys code (getD slots (slotOf code) 0)
+pub slot-covers : {count : ℕ} {keys slots : List ℕ} → Slotted count keys slots → count ≤ mostRegions → (code : ℕ)
+    → Covers count keys code (getD slots (slotOf code) 0)
 slot-covers {slots = slots} S n code = record {
   within = record { few = n; own = λ i m. S .own i (slotOf code) m };
   has = λ i l e. subst (λ (k : ℕ). So (contains (getD slots (slotOf k) 0) i)) e (S .has i l);
@@ -52,7 +56,8 @@ record Passed (s : List ℕ) (last : Moment) (n : ℕ) (e : Record) (offer : ℕ
   few : leb mostRecords n ≡ false
   rest : Left s offer (timeOf e) (n + 1)
 
-passed : (s : List ℕ) (at : ℕ) (last : Moment) (n : ℕ) → Left s at last n → So (isFine (checkLog s)) → (e : Record) (offer : ℕ) → nextAt s at ≡ Handed e offer
+passed : (s : List ℕ) (at : ℕ) (last : Moment) (n : ℕ) → Left s at last n → So (isFine (checkLog s))
+    → (e : Record) (offer : ℕ) → nextAt s at ≡ Handed e offer
     → Passed s last n e offer
 unfolding stepAt
 passed s at last n l f e offer q = by (ltb (timeOf e .0) (last .0)) (leb mostRecords n) refl refl
@@ -62,8 +67,10 @@ passed s at last n l f e offer q = by (ltb (timeOf e .0) (last .0)) (leb mostRec
 
     by : (a b : Bool) → ltb (timeOf e .0) (last .0) ≡ a → leb mostRecords n ≡ b → Passed s last n e offer
     by true b x y = clash f (sym (ap isFine (left-step s at last n l (Over (Refused TimeFalls at)) (step ∙ rw x))))
-    by false true x y = clash f (sym (ap isFine (left-step s at last n l (Over (Refused TooManyRecords at)) (step ∙ rw (x, y)))))
-    by false false x y = record { later = x; few = y; rest = left-going s at last n l offer (timeOf e) (n + 1) (step ∙ rw (x, y)) }
+    by false true x y =
+        clash f (sym (ap isFine (left-step s at last n l (Over (Refused TooManyRecords at)) (step ∙ rw (x, y)))))
+    by false false x y =
+        record { later = x; few = y; rest = left-going s at last n l offer (timeOf e) (n + 1) (step ∙ rw (x, y)) }
 
 module _ (C : Abstract) (m : AbstractMonitor) (e : LogRecord) where
   -- the record is counted, and now is its time
@@ -77,17 +84,25 @@ module _ (C : Abstract) (m : AbstractMonitor) (e : LogRecord) where
 
   conclude-counted : (v : Move) → Counted (conclude C m e v)
   unfolding conclude goOn keepRound dropRound breakRound
-  conclude-counted stuck = either-counted (prechartDone C (m .place .fired)) (breakRound C m e noReadyRegion (m .place)) (dropRound C m e) (record { now = refl; records = refl }) (record { now = refl; records = refl })
-  conclude-counted (fails i p) = either-counted (C .hot i) (breakRound C m e conditionFails p) (dropRound C m e) (record { now = refl; records = refl }) (record { now = refl; records = refl })
+  conclude-counted stuck =
+      either-counted (prechartDone C (m .place .fired)) (breakRound C m e noReadyRegion (m .place)) (dropRound C m e)
+      (record { now = refl; records = refl }) (record { now = refl; records = refl })
+  conclude-counted (fails i p) =
+      either-counted (C .hot i) (breakRound C m e conditionFails p) (dropRound C m e)
+      (record { now = refl; records = refl }) (record { now = refl; records = refl })
   conclude-counted (rests p) =
-      either-counted (full C (p .fired)) (keepRound C m e) (goOn C m e (cond (not (prechartDone C (m .place .fired)) && prechartDone C (p .fired)) entered moved) p)
+      either-counted (full C (p .fired)) (keepRound C m e)
+      (goOn C m e (cond (not (prechartDone C (m .place .fired)) && prechartDone C (p .fired)) entered moved) p)
       (record { now = refl; records = refl }) (record { now = refl; records = refl })
 
   accept-counted : Counted (accept C m e)
   unfolding accept goOn
-  accept-counted = either-counted (chartMessage C e) (conclude C m e (offer C (m .place) e)) (goOn C m e quiet (m .place)) (conclude-counted (offer C (m .place) e)) (record { now = refl; records = refl })
+  accept-counted =
+      either-counted (chartMessage C e) (conclude C m e (offer C (m .place) e)) (goOn C m e quiet (m .place))
+      (conclude-counted (offer C (m .place) e)) (record { now = refl; records = refl })
 
-  accept-fed : m .tally .broken .at ≡ 0 → ltb (e .time) (m .tally .now) ≡ false → leb mostRecords (m .tally .records) ≡ false → accept C m e ≡ feed C m e
+  accept-fed : m .tally .broken .at ≡ 0 → ltb (e .time) (m .tally .now) ≡ false
+      → leb mostRecords (m .tally .records) ≡ false → accept C m e ≡ feed C m e
   unfolding feed
   accept-fed b t n = rw (eq-eqb (m .tally .broken .at) 0 b, t, n)
 
@@ -128,7 +143,8 @@ module _ {C : Abstract} {s : List ℕ} {m : Monitor} {at : ℕ} (G : Going C s m
     pub taken-few : m .tally .records < mostRecords
     taken-few = leb-false _ _ (here .few)
 
-    module _ (r : Step) (code t : ℕ) (p : code ≡ recordCode e) (u : t ≡ timeOf e .0) (a : stepOf r ≡ accept C (monitorAt m) (recordOf code t)) where
+    module _ (r : Step) (code t : ℕ) (p : code ≡ recordCode e) (u : t ≡ timeOf e .0)
+        (a : stepOf r ≡ accept C (monitorAt m) (recordOf code t)) where
       pub taken-one : SoFar C s (r .next) to (G .left - 1)
       taken-one =
           let l : at < length s = omega (arith, taken-past s at e to q) in
@@ -138,13 +154,17 @@ module _ {C : Abstract} {s : List ℕ} {m : Monitor} {at : ℕ} (G : Going C s m
       pub going-on : r .next .tally .broken .at ≡ 0 → Going C s (r .next) to
       going-on z =
           let A = accept-counted C (monitorAt m) (recordOf code t) in
-          let x : r .next .tally .now .0 ≡ timeOf e .0 = ap (λ (w : AbstractStep). w .next .tally .now) a ∙ A .now ∙ u in
-          let y : r .next .tally .records ≡ m .tally .records + 1 = ap (λ (w : AbstractStep). w .next .tally .records) a ∙ A .records ∙ omega arith in
+          let x : r .next .tally .now .0 ≡ timeOf e .0 = ap (λ (w : AbstractStep). w .next .tally .now) a ∙ A .now
+          ∙ u in
+          let y : r .next .tally .records ≡ m .tally .records + 1 = ap (λ (w : AbstractStep). w .next .tally .records) a
+          ∙ A .records ∙ omega arith in
           let v : r .next .tally .now ≡ timeOf e = λ i. record { 0 = x i } in
           record {
             left = G .left - 1;
             room = omega (arith, G .room, taken-past s at e to q);
             taken = taken-one;
-            checked = subst (λ (w : Moment). Left s to w (r .next .tally .records)) (sym v) (subst (λ (k : ℕ). Left s to (timeOf e) k) (sym y) (here .rest));
+            checked =
+                subst (λ (w : Moment). Left s to w (r .next .tally .records)) (sym v)
+                (subst (λ (k : ℕ). Left s to (timeOf e) k) (sym y) (here .rest));
             whole = z;
           }

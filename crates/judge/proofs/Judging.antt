@@ -37,7 +37,8 @@ half-fits c e =
     omega arith
 
 module _ (c : Chart) (s : List ℕ) where
-  pub judged-no-chart : (r : Judgement) → wellFormed c ≡ false → r ≡ record { answer = NoChart; verdict = zeroVerdict } → said r ≡ judgeOf c s
+  pub judged-no-chart : (r : Judgement) → wellFormed c ≡ false → r ≡ record { answer = NoChart; verdict = zeroVerdict }
+      → said r ≡ judgeOf c s
   unfolding judgeOf
   judged-no-chart r w e = rw w (ap said e)
 
@@ -52,7 +53,8 @@ module _ (c : Chart) (s : List ℕ) where
   unfolding judgeOf
   judged-fine v m n w g q a e =
       let fit : Fit (chartOf c) (monitorAt m) =
-      subst (λ (x : AbstractMonitor). Fit (chartOf c) x) (sym a) (after-fit (chartOf c) (shown c g .accepted) (logged (recordsIn s))) in
+      subst (λ (x : AbstractMonitor). Fit (chartOf c) x) (sym a)
+      (after-fit (chartOf c) (shown c g .accepted) (logged (recordsIn s))) in
       let same : v ≡ verdictOf (chartOf c) (after (chartOf c) (logged (recordsIn s))) =
       e ∙ verdict-same (chartOf c) (c .prechart) m (λ i. c .prechart) fit ∙ ap (verdictOf (chartOf c)) a in
       rw (w, q) (λ i. record { number = 0; offset = 0; verdict = same i })

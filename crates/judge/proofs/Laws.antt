@@ -27,7 +27,9 @@ module _ (s : List ℕ) (at : ℕ) (last : Moment) (n : ℕ) where
   going-past p t k g = by (nextAt s at) refl g
     where
       tests : (r : Record) (q : ℕ) (a b : Bool) → nextAt s at ≡ next.Handed r q
-          → cond a (Over (Refused TimeFalls at)) (cond b (Over (Refused TooManyRecords at)) (Going q (timeOf r) (n + 1))) ≡ Going p t k → (at < p) × (p ≤ length s)
+          → cond a (Over (Refused TimeFalls at))
+          (cond b (Over (Refused TooManyRecords at)) (Going q (timeOf r) (n + 1))) ≡ Going p t k → (at < p)
+          × (p ≤ length s)
       tests r q true b e g = let z : _≡_ {A = ℕ} 0 1 = cc in absurd (omega arith)
       tests r q false true e g = let z : _≡_ {A = ℕ} 0 1 = cc in absurd (omega arith)
       tests r q false false e g = let z : q ≡ p = cc in omega (arith, taken-past s at r q e)
@@ -42,17 +44,21 @@ module _ (s : List ℕ) (at : ℕ) (last : Moment) (n : ℕ) where
   ended-fine zero h = refl
   ended-fine (suc f) h = ap (λ (x : Next). continueBy (checkFrom f s) (stepBy at last n x)) (at-end s at h)
 
-pub more-fuel : (f g : ℕ) (s : List ℕ) (at : ℕ) (last : Moment) (n : ℕ) → length s < at + f → length s < at + g → checkFrom f s at last n ≡ checkFrom g s at last n
+pub more-fuel : (f g : ℕ) (s : List ℕ) (at : ℕ) (last : Moment) (n : ℕ) → length s < at + f → length s < at + g
+    → checkFrom f s at last n ≡ checkFrom g s at last n
 unfolding checkFrom
 more-fuel zero g s at last n h k = sym (ended-fine s at last n g (omega arith))
 more-fuel (suc f) zero s at last n h k = ended-fine s at last n (suc f) (omega arith)
 more-fuel (suc f) (suc g) s at last n h k =
     by (stepAt s at last n) refl (λ p t j a b. more-fuel f g s p t j a b)
   where
-    by : (x : CheckStep) → stepAt s at last n ≡ x → ((p : ℕ) (t : Moment) (j : ℕ) → length s < p + f → length s < p + g → checkFrom f s p t j ≡ checkFrom g s p t j)
+    by : (x : CheckStep) → stepAt s at last n ≡ x
+        → ((p : ℕ) (t : Moment) (j : ℕ) → length s < p + f → length s < p + g
+        → checkFrom f s p t j ≡ checkFrom g s p t j)
         → continueBy (checkFrom f s) x ≡ continueBy (checkFrom g s) x
     by (Over c) e i = refl
-    by (Going p t j) e i = i p t j (omega (arith, going-past s at last n p t j e)) (omega (arith, going-past s at last n p t j e))
+    by (Going p t j) e i =
+        i p t j (omega (arith, going-past s at last n p t j e)) (omega (arith, going-past s at last n p t j e))
 
 -- what is left of the check at a offer, whatever count is large enough
 pub Left : List ℕ → ℕ → Moment → ℕ → Type 0

@@ -18,7 +18,8 @@ module _ (w x y : ℕ) where
   below-bound l = rw (lt-ltb x y l, le-ltb y x (omega arith), and-false upper, and-true lower)
 
   pub above-bound : y < x → not (eqb (w / upperPlace % 2) 1) ≡ bounded w x y
-  above-bound l = rw (lt-ltb y x l, le-ltb x y (omega arith), and-true upper, and-false lower) (sym (and-true (not upper)))
+  above-bound l =
+      rw (lt-ltb y x l, le-ltb x y (omega arith), and-true upper, and-false lower) (sym (and-true (not upper)))
 
   pub at-bound : y ≤ x → x ≤ y → true ≡ bounded w x y
   at-bound l m = rw (le-ltb y x m, le-ltb x y l, and-false upper, and-false lower)

@@ -19,8 +19,10 @@ pub verdict-joined : (v : Verdict)
     → (bytesOf "STANDING KEPT DROPPED RECORDS BREAK REASON\n" ++ threeFields (v .standing) (v .kept) (v .dropped) 32)
     ++ threeFields (v .records) (v .broken) (v .reason) 10 ≡ verdictLines v
 unfolding verdictLines bytesOf
-verdict-joined v = six (bytesOf "STANDING KEPT DROPPED RECORDS BREAK REASON\n") (decimalOf (v .standing)) (decimalOf (v .kept))
-    (decimalOf (v .dropped)) (decimalOf (v .records)) (decimalOf (v .broken)) (decimalOf (v .reason)) (32 ∷ []) (10 ∷ [])
+verdict-joined v =
+    six (bytesOf "STANDING KEPT DROPPED RECORDS BREAK REASON\n") (decimalOf (v .standing)) (decimalOf (v .kept))
+    (decimalOf (v .dropped)) (decimalOf (v .records)) (decimalOf (v .broken)) (decimalOf (v .reason)) (32 ∷ [])
+    (10 ∷ [])
 
 refusal : (p a t b s n : List ℕ) → ((p ++ (a ++ s)) ++ t) ++ (b ++ n) ≡ p ++ (a ++ ((s ++ t) ++ (b ++ (n ++ []))))
 refusal p a t b s n = simp (append-assoc, append-nil)
@@ -28,6 +30,9 @@ refusal p a t b s n = simp (append-assoc, append-nil)
 pub refusal-joined : (part : Part) (number offset : ℕ)
     → ((partText part ++ fieldText number 32) ++ bytesOf "at ") ++ fieldText offset 10 ≡ refusalLine part number offset
 unfolding refusalLine bytesOf
-refusal-joined Input number offset = refusal (bytesOf "refused input ") (decimalOf number) (bytesOf "at ") (decimalOf offset) (32 ∷ []) (10 ∷ [])
-refusal-joined Chart number offset = refusal (bytesOf "refused chart ") (decimalOf number) (bytesOf "at ") (decimalOf offset) (32 ∷ []) (10 ∷ [])
-refusal-joined Log number offset = refusal (bytesOf "refused log ") (decimalOf number) (bytesOf "at ") (decimalOf offset) (32 ∷ []) (10 ∷ [])
+refusal-joined Input number offset =
+    refusal (bytesOf "refused input ") (decimalOf number) (bytesOf "at ") (decimalOf offset) (32 ∷ []) (10 ∷ [])
+refusal-joined Chart number offset =
+    refusal (bytesOf "refused chart ") (decimalOf number) (bytesOf "at ") (decimalOf offset) (32 ∷ []) (10 ∷ [])
+refusal-joined Log number offset =
+    refusal (bytesOf "refused log ") (decimalOf number) (bytesOf "at ") (decimalOf offset) (32 ∷ []) (10 ∷ [])

@@ -1,4 +1,5 @@
--- The chart in live bytes: what the reader gives for its part, zeros where there is none; zeros are no chart. Assumes nothing.
+-- The chart in live bytes: what the reader gives for its part, zeros where there is none; zeros are no chart. Assumes
+-- nothing.
 use mathlib.Core.Path.{_≡_, refl, sym, ap, _∙_}
 use mathlib.Core.Bool.{true, false, cond, _&&_}
 use mathlib.Core.Logic.{inl, inr}
@@ -12,10 +13,9 @@ use lib.Seq.{getD-drop, drop-drop, take-at}
 use Rattle.base.proofs.Bools.{both, split}
 use Rattle.model.specs.declared.Chart.{Chart}
 use Rattle.model.specs.Chart.{zeroChart}
-use Rattle.chart_step.proofs.Numbers.{refusal-nonzero}
-use Rattle.chart_value.proofs.Sound.{sound}
+use Rattle.chart_value.proofs.Exact.{accepted-whole}
 use Rattle.chart_reader.specs.Read.{readChart}
-use Rattle.chart_reader.specs.Said.{Said, acceptedAs}
+use Rattle.chart_reader.specs.Said.{Said}
 use Rattle.chart_reader.proofs.Ends.{Reads, accepts, refuses, reads}
 use Rattle.chart_value.specs.WellFormed.{wellFormed}
 use Rattle.wire.specs.Bytes.{word64}
@@ -42,7 +42,7 @@ framed l n h e k =
     rw (le-leb headSize (length l) h, le-leb (lengthIn l) (length l - headSize) b)
     (ap (λ (j : ℕ). readChart (take j (drop headSize l)) .chart) s)
 
--- the chart depends on the number of bytes and on what stands behind the monitor's image
+-- the chart depends on the number of bytes and on what stands after the monitor's image
 chartFrom : ℕ → List ℕ → Chart
 chartFrom k t =
     cond (leb headSize k && leb (word64 t 0) (k - headSize)) (readChart (take (word64 t 0) (drop 8 t)) .chart) zeroChart
@@ -65,25 +65,24 @@ chart-from l =
 pub same-chart : (l n : List ℕ) → length n ≡ length l → drop monitorSize n ≡ drop monitorSize l → chartIn n ≡ chartIn l
 same-chart l n p q = sym (chart-from n) ∙ (λ i. chartFrom (p i) (q i)) ∙ chart-from l
 
--- a chart's length and its bytes behind the image, with anything behind them
-pub chart-behind : (l chart rest : List ℕ) → drop monitorSize l ≡ longBytes (length chart) ++ (chart ++ rest) → headSize + length chart ≤ length l
+-- a chart's length and its bytes after the image, with anything after them
+pub chart-after : (l chart rest : List ℕ) → drop monitorSize l ≡ longBytes (length chart) ++ (chart ++ rest)
+    → headSize + length chart ≤ length l
     → length chart < 2 ^ 64 → chartIn l ≡ readChart chart .chart
 unfolding chartFrom
-chart-behind l chart rest e h k =
+chart-after l chart rest e h k =
     let b : length chart ≤ length l - headSize = omega arith in
     sym (chart-from l) ∙ ap (chartFrom (length l)) e
-    ∙ rw (long-back (length chart) (chart ++ rest) k, le-leb headSize (length l) (omega arith), le-leb (length chart) (length l - headSize) b, take-at chart rest (length chart) refl)
+    ∙ rw (
+      long-back (length chart) (chart ++ rest) k,
+      le-leb headSize (length l) (omega arith),
+      le-leb (length chart) (length l - headSize) b,
+      take-at chart rest (length chart) refl,
+    )
 
 refused-zeros : {x : Said} → Reads x → (x .number ≡ 0 → ⊥) → x .chart ≡ zeroChart
 refused-zeros (accepts c) h = absurd (h refl)
 refused-zeros (refuses f offset) h = refl
-
-accepted-as : {x : Said} → Reads x → x .number ≡ 0 → x ≡ acceptedAs (x .chart)
-accepted-as (accepts c) h = refl
-accepted-as (refuses f offset) h = absurd (refusal-nonzero f h)
-
-pub accepted-whole : (s : List ℕ) → readChart s .number ≡ 0 → wellFormed (readChart s .chart) ≡ true
-accepted-whole s h = sound s (readChart s .chart) (accepted-as (reads s) h) .fine
 
 pub not-live : (l : List ℕ) → isLive l ≡ false → chartIn l ≡ zeroChart
 unfolding isLive chartIn

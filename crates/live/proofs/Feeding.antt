@@ -40,7 +40,8 @@ use Rattle.live.specs.Live.{chartIn, isRefused, isBroken, bytesFed, Live
 use Rattle.live.proofs.Charts.{same-chart, live-exact, zero-refused}
 
 -- an answer whose number is 20
-answered-20 : (a : Answer) → answerOf a ≡ refused (feedRefusalNumber NotAChart) → answerNumber a ≡ feedRefusalNumber NotAChart
+answered-20 : (a : Answer) → answerOf a ≡ refused (feedRefusalNumber NotAChart)
+    → answerNumber a ≡ feedRefusalNumber NotAChart
 answered-20 (Refused k) e = cc
 answered-20 (Broken n k) e = let z : _≡_ {A = ℕ} 0 1 = cc in absurd (omega arith)
 answered-20 Kept e = let z : _≡_ {A = ℕ} 0 1 = cc in absurd (omega arith)
@@ -55,7 +56,8 @@ unfolding feedOf
 zeros-fed m e = rw zero-refused
 
 -- with a chart it is another: feeding refuses with 21, 22, 23 or not at all
-answered-as : (a : Answer) → answerNumber a ≡ feedRefusalNumber NotAChart → answerOf a ≡ refused (feedRefusalNumber NotAChart)
+answered-as : (a : Answer) → answerNumber a ≡ feedRefusalNumber NotAChart
+    → answerOf a ≡ refused (feedRefusalNumber NotAChart)
 answered-as (Refused k) e = ap refused e
 answered-as (Broken n k) e = absurd (omega arith)
 answered-as Kept e = absurd (omega arith)
@@ -70,7 +72,8 @@ same-number e = cc
 broken-clashes : {a b n : ℕ} → brokenAt a b ≡ refused n → ⊥
 broken-clashes e = let z : _≡_ {A = ℕ} 0 1 = cc in omega arith
 
-machine-never : (C : Abstract) (m : AbstractMonitor) (e : LogRecord) → feed C m e .answer ≡ refused (feedRefusalNumber NotAChart) → ⊥
+machine-never : (C : Abstract) (m : AbstractMonitor) (e : LogRecord)
+    → feed C m e .answer ≡ refused (feedRefusalNumber NotAChart) → ⊥
 unfolding feed NotRefused
 machine-never C m e h = elim (split (eqb (m .tally .broken .at) 0)) [
   | inl p ↦ elim (split (ltb (e .time) (m .tally .now))) [
@@ -83,7 +86,8 @@ machine-never C m e h = elim (split (eqb (m .tally .broken .at) 0)) [
   | inr p ↦ broken-clashes (rw p at h)
 ]
 
-whole-never : (c : Chart) (m : Monitor) (e : Record) → wellFormed c ≡ true → feedOf c m e .answer ≡ refused (feedRefusalNumber NotAChart) → ⊥
+whole-never : (c : Chart) (m : Monitor) (e : Record) → wellFormed c ≡ true
+    → feedOf c m e .answer ≡ refused (feedRefusalNumber NotAChart) → ⊥
 unfolding feedOf
 whole-never c m e w h = elim (split (fits (chartOf c) m)) [
   | inl f ↦ machine-never (chartOf c) (monitorAt m) (logRecord e) (rw (w, f) at h)
@@ -103,7 +107,8 @@ exactly-20 c m e s f = (
 )
 
 -- a monitor's image written at the start
-pub monitor-at-start : {l n : List ℕ} {j : ℕ} (m : Monitor) → Wrote l 0 (monitorBytes m) n j → monitorSize ≤ length l → n ≡ monitorBytes m ++ drop monitorSize l
+pub monitor-at-start : {l n : List ℕ} {j : ℕ} (m : Monitor) → Wrote l 0 (monitorBytes m) n j → monitorSize ≤ length l
+    → n ≡ monitorBytes m ++ drop monitorSize l
 monitor-at-start {l} {n} m w h =
     let size = monitor-length m in
     at-start w (omega (arith, size)) ∙ ap (λ (x : ℕ). monitorBytes m ++ drop x l) size
@@ -117,7 +122,8 @@ refused-for Entered e = absurd (false≢true e)
 refused-for Moved e = absurd (false≢true e)
 refused-for Quiet e = absurd (false≢true e)
 
-module _ (c : Chart) (l : List ℕ) (m : Monitor) (e : Record) (s : Step) (q : m ≡ monitorIn l) (f : stepOf s ≡ feedOf c m e) (r : ℕ)
+module _ (c : Chart) (l : List ℕ) (m : Monitor) (e : Record) (s : Step) (q : m ≡ monitorIn l)
+    (f : stepOf s ≡ feedOf c m e) (r : ℕ)
     (t : r ≡ answerNumber (s .answer)) where
   fed-in : stepOf s ≡ feedOf c (monitorIn l) e
   fed-in = f ∙ ap (λ (m : Monitor). feedOf c m e) q
@@ -163,8 +169,9 @@ fed-none l e z = record {
   none = ((λ n. refl), (λ n. live-exact l ∙ ap wellFormed z ∙ zero-refused));
 }
 
--- the chart behind the monitor's image is not written
-chart-stays : (l : List ℕ) (s : Step) (b : Bool) → monitorSize ≤ length l → chartIn (cond b l (monitorBytes (s .next) ++ drop monitorSize l)) ≡ chartIn l
+-- the chart after the monitor's image is not written
+chart-stays : (l : List ℕ) (s : Step) (b : Bool) → monitorSize ≤ length l
+    → chartIn (cond b l (monitorBytes (s .next) ++ drop monitorSize l)) ≡ chartIn l
 chart-stays l s true h = refl
 chart-stays l s false h =
     let size = monitor-length (s .next) in
@@ -172,7 +179,8 @@ chart-stays l s false h =
     (length-append (monitorBytes (s .next)) (drop monitorSize l) ∙ omega (arith, size, length-drop monitorSize l))
     (drop-at (monitorBytes (s .next)) (drop monitorSize l) monitorSize size)
 
-pub fed-live : {l n : List ℕ} {e : Record} {r : ℕ} (c : Chart) → c ≡ chartIn l → monitorSize ≤ length l → LiveFedBy c l e r n → LiveFed l e r n
+pub fed-live : {l n : List ℕ} {e : Record} {r : ℕ} (c : Chart) → c ≡ chartIn l → monitorSize ≤ length l
+    → LiveFedBy c l e r n → LiveFed l e r n
 unfolding bytesFed
 fed-live {l} {n} {e} {r} c p h F = record {
   by-chart = subst (λ (c : Chart). LiveFedBy c l e r n) p F;

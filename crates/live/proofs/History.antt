@@ -16,15 +16,18 @@ use Rattle.live.specs.Live.{chartIn, LiveFed}
 use Rattle.live.specs.History.{LiveHistory, opened, then-fed, Extends, LiveClaims}
 use Rattle.live.proofs.Charts.{live-exact}
 
-chart-kept : {chart l : List ℕ} {es : Snoc Record} {ans : Snoc AbstractAnswer} → LiveHistory chart es ans l → chartIn l ≡ readChart chart .chart
+chart-kept : {chart l : List ℕ} {es : Snoc Record} {ans : Snoc AbstractAnswer} → LiveHistory chart es ans l
+    → chartIn l ≡ readChart chart .chart
 chart-kept (opened H) = H .chart-read
 chart-kept (then-fed q F) = F .chart ∙ chart-kept q
 
-goes : {chart l : List ℕ} {es : Snoc Record} {ans : Snoc AbstractAnswer} → LiveHistory chart es ans l → History (readChart chart .chart) es ans (monitorIn l)
+goes : {chart l : List ℕ} {es : Snoc Record} {ans : Snoc AbstractAnswer} → LiveHistory chart es ans l
+    → History (readChart chart .chart) es ans (monitorIn l)
 goes {chart} (opened H) = subst (λ (m : Monitor). History (readChart chart .chart) ε ε m) (sym (H .fresh)) none-yet
 goes {chart} (then-fed {es} {ans} {l} {n} {e} q F) =
     let s = F .by-chart .taken in
-    subst (λ (m : Monitor). History (readChart chart .chart) (es ▸ e) (ans ▸ answerOf (s .answer)) m) (sym (F .by-chart .next))
+    subst (λ (m : Monitor). History (readChart chart .chart) (es ▸ e) (ans ▸ answerOf (s .answer)) m)
+    (sym (F .by-chart .next))
     (one-more e s (goes q) (F .by-chart .fed ∙ ap (λ (c : Chart). feedOf c (monitorIn l) e) (chart-kept q)))
 
 -- one more feed

@@ -23,20 +23,22 @@ use Rattle.monitor_image.specs.MonitorImage.{monitorSize, monitorBytes, monitor
 use Rattle.monitor_image.proofs.Laws.{monitor-length}
 use Rattle.live.specs.declared.Opened.{Opened}
 use Rattle.live.specs.Live.{headSize, largest, liveSize, freshBytes, openedBy, openedOf, bytesOpened, Holds}
-use Rattle.live.proofs.Charts.{chart-behind}
+use Rattle.live.proofs.Charts.{chart-after}
 use Rattle.chart_step.proofs.Numbers.{refusal-nonzero}
 
 pub size-sum : (n : ℕ) → n ≤ largest - headSize → liveSize n ≡ headSize + n
 unfolding liveSize
 size-sum n h = rw (le-ltb (largest - headSize) n h)
 
--- the parts of a fresh live monitor, one behind the other
-pub fresh-parts : {l a b n : List ℕ} {i j k : ℕ} (m : Monitor) (chart : List ℕ) → m ≡ zeroMonitor → Wrote l 0 (monitorBytes m) a i
+-- the parts of a fresh live monitor, one after the other
+pub fresh-parts : {l a b n : List ℕ} {i j k : ℕ} (m : Monitor) (chart : List ℕ) → m ≡ zeroMonitor
+    → Wrote l 0 (monitorBytes m) a i
     → Wrote a i (longBytes (length chart)) b j → Wrote b j chart n k → Wrote l 0 (freshBytes chart) n k
 unfolding freshBytes
 fresh-parts m chart z u v w =
     spelled
-    (append-assoc (monitorBytes m) (longBytes (length chart)) chart ∙ ap (λ (m : Monitor). monitorBytes m ++ (longBytes (length chart) ++ chart)) z)
+    (append-assoc (monitorBytes m) (longBytes (length chart)) chart
+    ∙ ap (λ (m : Monitor). monitorBytes m ++ (longBytes (length chart) ++ chart)) z)
     (then (then u v) w)
 
 pub fresh-length : (chart : List ℕ) → length (freshBytes chart) ≡ headSize + length chart
@@ -58,12 +60,17 @@ bytes-by chart l o b p q =
     ∙ ap (λ (b : Bool). cond b (freshBytes chart ++ drop (liveSize (length chart)) l) l) q)
 
 -- bytes that start with those of a fresh live monitor hold its chart and a fresh monitor
-held : (chart n rest : List ℕ) → n ≡ freshBytes chart ++ rest → headSize + length chart ≤ length n → length chart < 2 ^ 64 → Holds chart n
+held : (chart n rest : List ℕ) → n ≡ freshBytes chart ++ rest → headSize + length chart ≤ length n
+    → length chart < 2 ^ 64 → Holds chart n
 unfolding freshBytes monitorBytes monitorIn
 held chart n rest b h k =
-    let behind : drop monitorSize (freshBytes chart ++ rest) ≡ longBytes (length chart) ++ (chart ++ rest) = refl in
+    let tail : drop monitorSize (freshBytes chart ++ rest) ≡ longBytes (length chart) ++ (chart ++ rest) = refl in
     let again : monitorIn (freshBytes chart ++ rest) ≡ zeroMonitor = refl in
-    record { chart-read = chart-behind n chart rest (ap (drop monitorSize) b ∙ behind) h k; fresh = ap monitorIn b ∙ again }
+    record {
+      chart-read = chart-after n chart rest (ap (drop monitorSize) b ∙ tail) h k;
+      fresh = ap monitorIn b
+          ∙ again;
+    }
 
 module _ (chart l : List ℕ) (r : ChartRead) (e : said r ≡ readChart chart) where
   pub opened-refused : (f : Refusal) (o n : ℕ) → r .answer ≡ Refused f o → n ≡ refusalNumber f
@@ -72,7 +79,8 @@ module _ (chart l : List ℕ) (r : ChartRead) (e : said r ≡ readChart chart) w
   opened-refused f o n a p =
       let z : eqb n 0 ≡ false = ap (λ (k : ℕ). eqb k 0) p ∙ ne-eqb _ _ (refusal-nonzero f) in
       let s : record { number = refusalNumber f; at = o } ≡ openedOf chart (length l) =
-      rw (ap (λ (x : Said). openedBy x (liveSize (length chart)) (length l)) (as-answered chart r (Refused f o) e a)) (rw (ne-eqb _ _ (refusal-nonzero f))) in
+      rw (ap (λ (x : Said). openedBy x (liveSize (length chart)) (length l)) (as-answered chart r (Refused f o) e a))
+      (rw (ne-eqb _ _ (refusal-nonzero f))) in
       let t : record { number = n; at = o } ≡ openedOf chart (length l) = (λ i. record { number = p i; at = o }) ∙ s in
       (t, bytes-by chart l (record { number = n; at = o }) false (sym t) z, eqb-false n 0 z)
 
@@ -82,20 +90,35 @@ module _ (chart l : List ℕ) (r : ChartRead) (e : said r ≡ readChart chart) w
   opened-short size a p h =
       let g : length l < liveSize (length chart) = omega arith in
       let s : record { number = tooShort; at = size } ≡ openedOf chart (length l) =
-      rw (ap (λ (x : Said). openedBy x (liveSize (length chart)) (length l)) (as-answered chart r Accepted e a), lt-ltb _ _ g, p) in
+      rw (
+        ap (λ (x : Said). openedBy x (liveSize (length chart)) (length l)) (as-answered chart r Accepted e a),
+        lt-ltb _ _ g,
+        p,
+      ) in
       (s, bytes-by chart l (record { number = tooShort; at = size }) false (sym s) refl)
 
   -- a fresh live monitor, written where it has room
-  pub opened-fresh : (size : ℕ) {n : List ℕ} {j : ℕ} → r .answer ≡ Accepted → size ≡ liveSize (length chart) → size ≤ length l
+  pub opened-fresh : (size : ℕ) {n : List ℕ} {j : ℕ} → r .answer ≡ Accepted → size ≡ liveSize (length chart)
+      → size ≤ length l
       → length chart ≤ largest - headSize → Wrote l 0 (freshBytes chart) n j
       → (record { number = 0; at = size } ≡ openedOf chart (length l)) × ((n ≡ bytesOpened chart l) × Holds chart n)
   unfolding openedOf
   opened-fresh size {n} {j} a p h k w =
       let g : liveSize (length chart) ≤ length l = omega arith in
       let s : record { number = 0; at = size } ≡ openedOf chart (length l) =
-      rw (ap (λ (x : Said). openedBy x (liveSize (length chart)) (length l)) (as-answered chart r Accepted e a), le-ltb _ _ g, p) in
-      let z : length (freshBytes chart) ≡ liveSize (length chart) = fresh-length chart ∙ sym (size-sum (length chart) k) in
+      rw (
+        ap (λ (x : Said). openedBy x (liveSize (length chart)) (length l)) (as-answered chart r Accepted e a),
+        le-ltb _ _ g,
+        p,
+      ) in
+      let z : length (freshBytes chart) ≡ liveSize (length chart) = fresh-length chart
+      ∙ sym (size-sum (length chart) k) in
       let b : n ≡ freshBytes chart ++ drop (liveSize (length chart)) l =
       at-start w (omega (arith, z)) ∙ ap (λ (x : ℕ). freshBytes chart ++ drop x l) z in
-      let y : headSize + length chart ≤ length n = omega (arith, w .size, size-sum (length chart) k) in
-      (s, (b ∙ bytes-by chart l (record { number = 0; at = size }) true (sym s) refl, held chart n (drop (liveSize (length chart)) l) b y (omega arith)))
+      let y : headSize + length chart ≤ length n = omega (arith, w .size, size-sum (length chart) k) in (
+        s,
+        (
+          b ∙ bytes-by chart l (record { number = 0; at = size }) true (sym s) refl,
+          held chart n (drop (liveSize (length chart)) l) b y (omega arith),
+        ),
+      )

@@ -18,17 +18,20 @@ use Rattle.live.specs.declared.LiveVerdict.{LiveVerdict}
 use Rattle.live.specs.Live.{standingBy}
 
 module _ (c : Chart) (m : Monitor) where
-  pub stands-no-chart : (r : LiveVerdict) → wellFormed c ≡ false → r ≡ record { number = feedRefusalNumber NotAChart; verdict = zeroVerdict } → r ≡ standingBy c m
+  pub stands-no-chart : (r : LiveVerdict) → wellFormed c ≡ false
+      → r ≡ record { number = feedRefusalNumber NotAChart; verdict = zeroVerdict } → r ≡ standingBy c m
   stands-no-chart r w q = rw w q
 
   module _ (w : wellFormed c ≡ true) (C : Abstract) (same : C ≡ chartOf c) where
     fit-same : (b : Bool) → b ≡ fits C m → b ≡ fits (chartOf c) m
     fit-same b t = t ∙ ap (λ (C : Abstract). fits C m) same
 
-    pub stands-unfit : (r : LiveVerdict) (b : Bool) → b ≡ fits C m → b ≡ false → r ≡ record { number = feedRefusalNumber Unfit; verdict = zeroVerdict } → r ≡ standingBy c m
+    pub stands-unfit : (r : LiveVerdict) (b : Bool) → b ≡ fits C m → b ≡ false
+        → r ≡ record { number = feedRefusalNumber Unfit; verdict = zeroVerdict } → r ≡ standingBy c m
     stands-unfit r b t n q = rw (w, ← fit-same b t, n) q
 
-    pub stands-fit : (v : Verdict) (b : Bool) → b ≡ fits C m → b ≡ true → Fit C (monitorAt m) → v ≡ verdictBy (c .prechart) m
+    pub stands-fit : (v : Verdict) (b : Bool) → b ≡ fits C m → b ≡ true → Fit C (monitorAt m)
+        → v ≡ verdictBy (c .prechart) m
         → record { number = 0; verdict = v } ≡ standingBy c m
     stands-fit v b t y F q =
         let fit : Fit (chartOf c) (monitorAt m) = subst (λ (C : Abstract). Fit C (monitorAt m)) same F in

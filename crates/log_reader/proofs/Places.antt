@@ -19,10 +19,15 @@ at-end s at h = rw (le-leb _ _ h)
 
 -- the offset moves past the record, and not past the end
 pub taken-past : (s : List ℕ) (at : ℕ) (r : Record) (p : ℕ) → nextAt s at ≡ next.Handed r p → (at < p) × (p ≤ length s)
-taken-past s at r p e = by (leb (length s) at) (eqb (getD s at 0) 1) (ltb (length s - at) 9) (eqb (getD s at 0) 2) (ltb (length s - at) 5) refl refl refl e
+taken-past s at r p e =
+    by (leb (length s) at) (eqb (getD s at 0) 1) (ltb (length s - at) 9) (eqb (getD s at 0) 2)
+    (ltb (length s - at) 5) refl refl refl e
   where
     by : (a b c d f : Bool) → leb (length s) at ≡ a → ltb (length s - at) 9 ≡ c → ltb (length s - at) 5 ≡ f
-        → cond a next.End (cond b (cond c (next.Refused CutShort) (next.Handed (messageAt s at) (at + 9))) (cond d (cond f (next.Refused CutShort) (next.Handed (timeAt s at) (at + 5))) (next.Refused UnknownByte))) ≡ next.Handed r p
+        → cond a next.End
+        (cond b (cond c (next.Refused CutShort) (next.Handed (messageAt s at) (at + 9)))
+        (cond d (cond f (next.Refused CutShort) (next.Handed (timeAt s at) (at + 5)))
+        (next.Refused UnknownByte))) ≡ next.Handed r p
         → (at < p) × (p ≤ length s)
     by true b c d f l x y e = let z : _≡_ {A = ℕ} 0 1 = cc in absurd (omega arith)
     by false true true d f l x y e = let z : _≡_ {A = ℕ} 0 1 = cc in absurd (omega arith)

@@ -14,4 +14,5 @@ pub one-record : (s : List ℕ) (at left : ℕ) → 0 < left → (es : Snoc Reco
 unfolding recordsFrom
 one-record s at left h es n q =
     let k : left ≡ suc (left - 1) = omega arith in
-    ap (λ (j : ℕ). recordsFrom j s at es) k ∙ ap (λ (x : Next). onRecord (λ e past. recordsFrom (left - 1) s past (es ▸ e)) x es) q
+    ap (λ (j : ℕ). recordsFrom j s at es) k ∙ ap
+    (λ (x : Next). onRecord (λ e past. recordsFrom (left - 1) s past (es ▸ e)) x es) q

@@ -19,15 +19,17 @@ use Rattle.judge.specs.Check.{checkLog}
 use Rattle.judge.specs.Judge.{byCheck, judgeOf}
 use Rattle.respond.specs.Respond.{logReport, chartReport, partsReport}
 use Rattle.chart_reader.proofs.Ends.{Reads, accepts, refuses, reads}
-use Rattle.live.proofs.Charts.{accepted-whole}
+use Rattle.chart_value.proofs.Exact.{accepted-whole}
 use Rattle.listing.specs.declared.Part.{Part}
 use Rattle.listing.specs.declared.Report.{Report}
 use Rattle.listing.specs.declared.Report.the-variants.{Refused}
 use Rattle.lsc.specs.Lsc.{partNumber, reportNumbers, reportNumber, judgedNumber, judgedOut, isJudgedNumber}
 
 -- six numbers that are those of a refusal
-pub put-refusal : (r : Report) (out : List ℕ) {m : List ℕ} (part : Part) (number offset p : ℕ) → r ≡ Refused part number offset → p ≡ partNumber part
-    → m ≡ (p ∷ number ∷ offset ∷ 0 ∷ 0 ∷ 0 ∷ []) ++ drop places out → (number ≡ reportNumber r) × (m ≡ reportNumbers r ++ drop places out)
+pub put-refusal : (r : Report) (out : List ℕ) {m : List ℕ} (part : Part) (number offset p : ℕ)
+    → r ≡ Refused part number offset → p ≡ partNumber part
+    → m ≡ (p ∷ number ∷ offset ∷ 0 ∷ 0 ∷ 0 ∷ []) ++ drop places out → (number ≡ reportNumber r)
+    × (m ≡ reportNumbers r ++ drop places out)
 put-refusal r out part number offset p e q b = (
   ap reportNumber (sym e),
   b
@@ -35,24 +37,28 @@ put-refusal r out part number offset p e q b = (
       ∙ ap (λ (x : Report). reportNumbers x ++ drop places out) (sym e),
 )
 
-pub judged-short : (r : Report) (out : List ℕ) → length out < places → (tooShort ≡ judgedNumber r out) × (out ≡ judgedOut r out)
+pub judged-short : (r : Report) (out : List ℕ) → length out < places → (tooShort ≡ judgedNumber r out)
+    × (out ≡ judgedOut r out)
 judged-short r out h = let e = lt-ltb (length out) places h in (rw e, rw e)
 
-pub judged-room : (q r : Report) (out m : List ℕ) (n : ℕ) → places ≤ length out → q ≡ r → n ≡ reportNumber q → m ≡ reportNumbers q ++ drop places out
+pub judged-room : (q r : Report) (out m : List ℕ) (n : ℕ) → places ≤ length out → q ≡ r → n ≡ reportNumber q
+    → m ≡ reportNumbers q ++ drop places out
     → (n ≡ judgedNumber r out) × (m ≡ judgedOut r out)
 judged-room q r out m n h p a b =
     let e = le-ltb (length out) places h in
     (rw e (a ∙ ap reportNumber p), rw e (b ∙ ap (λ (x : Report). reportNumbers x ++ drop places out) p))
 
 -- a chart that was read is never refused with 20
-log-listed : (c : Chart) (log : List ℕ) (k : Checked) → isJudgedNumber (reportNumber (logReport (byCheck c log k))) ≡ true
+log-listed : (c : Chart) (log : List ℕ) (k : Checked)
+    → isJudgedNumber (reportNumber (logReport (byCheck c log k))) ≡ true
 log-listed c log (checked.Fine n) = refl
 log-listed c log (checked.Refused (NoRecord CutShort) offset) = refl
 log-listed c log (checked.Refused (NoRecord UnknownByte) offset) = refl
 log-listed c log (checked.Refused TimeFalls offset) = refl
 log-listed c log (checked.Refused TooManyRecords offset) = refl
 
-chart-listed : (log : List ℕ) {x : Said} → Reads x → (x .number ≡ 0 → wellFormed (x .chart) ≡ true) → isJudgedNumber (reportNumber (chartReport x log)) ≡ true
+chart-listed : (log : List ℕ) {x : Said} → Reads x → (x .number ≡ 0 → wellFormed (x .chart) ≡ true)
+    → isJudgedNumber (reportNumber (chartReport x log)) ≡ true
 unfolding judgeOf
 chart-listed log (accepts c) w = rw (w refl) (log-listed c log (checkLog log))
 chart-listed log (refuses refusal.CutShort offset) w = refl

@@ -10,16 +10,20 @@ use Rattle.live.specs.declared.LiveVerdict.{LiveVerdict}
 use Rattle.lsc_live.specs.Lsc.{standingNumber, standingOut}
 
 module _ (s t : LiveVerdict) (out : List ℕ) (p : s ≡ t) where
-  along : (n : ℕ) (m : List ℕ) → n ≡ standingNumber s out → m ≡ standingOut s out → (n ≡ standingNumber t out) × (m ≡ standingOut t out)
-  along n m a b = (a ∙ ap (λ (x : LiveVerdict). standingNumber x out) p, b ∙ ap (λ (x : LiveVerdict). standingOut x out) p)
+  along : (n : ℕ) (m : List ℕ) → n ≡ standingNumber s out → m ≡ standingOut s out → (n ≡ standingNumber t out)
+      × (m ≡ standingOut t out)
+  along n m a b =
+      (a ∙ ap (λ (x : LiveVerdict). standingNumber x out) p, b ∙ ap (λ (x : LiveVerdict). standingOut x out) p)
 
   pub standing-refused : (s .number ≡ 0 → ⊥) → (s .number ≡ standingNumber t out) × (out ≡ standingOut t out)
   standing-refused h = let e = ne-eqb (s .number) 0 h in along (s .number) out (rw e) (rw (e, e))
 
   module _ (z : s .number ≡ 0) where
     pub standing-short : length out < places → (tooShort ≡ standingNumber t out) × (out ≡ standingOut t out)
-    standing-short h = let e = eq-eqb (s .number) 0 z in let f = lt-ltb (length out) places h in along tooShort out (rw (e, f)) (rw (e, f))
+    standing-short h = let e = eq-eqb (s .number) 0 z in let f = lt-ltb (length out) places h in
+        along tooShort out (rw (e, f)) (rw (e, f))
 
     pub standing-room : (m : List ℕ) → places ≤ length out → m ≡ verdictNumbers (s .verdict) ++ drop places out
         → (0 ≡ standingNumber t out) × (m ≡ standingOut t out)
-    standing-room m h b = let e = eq-eqb (s .number) 0 z in let f = le-ltb (length out) places h in along 0 m (rw (e, f)) (rw (e, f) b)
+    standing-room m h b = let e = eq-eqb (s .number) 0 z in let f = le-ltb (length out) places h in
+        along 0 m (rw (e, f)) (rw (e, f) b)

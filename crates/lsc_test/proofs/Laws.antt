@@ -23,9 +23,11 @@ use Rattle.live.proofs.Feeding.{exactly-20, monitor-at-start}
 use Rattle.lsc_test.specs.Images.{newNumber, newBytes, FedImage}
 
 pub image-short : (image : List ℕ) {l : List ℕ} (e : Record) → length l < monitorSize → FedImage image l e tooShort l
-image-short image e h = record { short = λ g. (refl, refl); by-chart = λ g. absurd (omega arith); none = λ g x. absurd (omega arith) }
+image-short image e h =
+    record { short = λ g. (refl, refl); by-chart = λ g. absurd (omega arith); none = λ g x. absurd (omega arith) }
 
-pub image-fed : {image l n : List ℕ} {e : Record} {r : ℕ} (c : Chart) → c ≡ chartValue image → monitorSize ≤ length l → LiveFedBy c l e r n
+pub image-fed : {image l n : List ℕ} {e : Record} {r : ℕ} (c : Chart) → c ≡ chartValue image → monitorSize ≤ length l
+    → LiveFedBy c l e r n
     → FedImage image l e r n
 unfolding chartValue
 image-fed {image} {l} {n} {e} {r} c p h F = record {
@@ -38,11 +40,14 @@ pub new-short : (image l : List ℕ) → length l < monitorSize → (tooShort �
 unfolding newNumber newBytes
 new-short image l h = let e = lt-ltb (length l) monitorSize h in (rw e, rw e)
 
-pub new-made : (image l : List ℕ) {n : List ℕ} {j : ℕ} (c : Chart) (made : Made) (r : ℕ) → monitorSize ≤ length l → c ≡ chartValue image → MadeOf c made
-    → r ≡ madeNumber (made .answer) → Wrote l 0 (monitorBytes (made .monitor)) n j → (r ≡ newNumber image l) × (n ≡ newBytes l)
+pub new-made : (image l : List ℕ) {n : List ℕ} {j : ℕ} (c : Chart) (made : Made) (r : ℕ) → monitorSize ≤ length l
+    → c ≡ chartValue image → MadeOf c made
+    → r ≡ madeNumber (made .answer) → Wrote l 0 (monitorBytes (made .monitor)) n j → (r ≡ newNumber image l)
+    × (n ≡ newBytes l)
 unfolding newNumber newBytes
 new-made image l {n} c made r h p M t w =
     let e = le-ltb (length l) monitorSize h in (
       rw e (t ∙ M .number ∙ ap (λ (c : Chart). cond (wellFormed c) 0 (feedRefusalNumber NotAChart)) p),
-      rw e (monitor-at-start (made .monitor) w h ∙ ap (λ (m : Monitor). monitorBytes m ++ drop monitorSize l) (M .monitor)),
+      rw e (monitor-at-start (made .monitor) w h
+          ∙ ap (λ (m : Monitor). monitorBytes m ++ drop monitorSize l) (M .monitor)),
     )

@@ -25,5 +25,6 @@ contains-touched (Message m) k h =
 contains-touched (Plain l) k h = refl
 
 -- what `touched` promises, from the set alone
-pub touches-of : (e : Event) (r : ℕ) → r ≡ touched e → (r ≡ touched e) × ((k : ℕ) → k < mostLines → contains r k ≡ touches e k)
+pub touches-of : (e : Event) (r : ℕ) → r ≡ touched e → (r ≡ touched e)
+    × ((k : ℕ) → k < mostLines → contains r k ≡ touches e k)
 touches-of e r h = (h, λ k l. ap (λ (x : ℕ). contains x k) h ∙ contains-touched e k l)

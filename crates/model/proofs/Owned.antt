@@ -8,7 +8,8 @@ use base.Fml.{Fml}
 use denote.Shadow.{shadow}
 use denote.Array.{each}
 
-pub each-at : (d e : Type 0) (to : e → d) (f : d → List Val → Fml) (xs : List e) (us : List Val) (i : ℕ) (z : e) → shadow (each d f (map to xs) us)
+pub each-at : (d e : Type 0) (to : e → d) (f : d → List Val → Fml) (xs : List e) (us : List Val) (i : ℕ) (z : e)
+    → shadow (each d f (map to xs) us)
     → i < length xs → (u : Val) × shadow (f (to (getD xs i z)) (u ∷ []))
 each-at d e to f [] [] i z s h = absurd (omega arith)
 each-at d e to f [] (u ∷ us) i z s h = absurd s

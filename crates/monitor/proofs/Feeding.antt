@@ -29,7 +29,8 @@ code-logged (Message m t) = λ i. logRecord (Message m t) .code
 code-logged (Time t) = λ i. 0
 
 -- the set of all numbers below the count has every region
-pub all-covered : {count : ℕ} {keys : List ℕ} (code s : ℕ) → count ≤ mostRegions → s ≡ 2 ^ count - 1 → Covers count keys code s
+pub all-covered : {count : ℕ} {keys : List ℕ} (code s : ℕ) → count ≤ mostRegions → s ≡ 2 ^ count - 1
+    → Covers count keys code s
 all-covered {count} code s n e = record {
   within = record { few = n; own = λ i m. ltb-true i count (sym (member i) ∙ m) };
   has = λ i l k. member i ∙ lt-ltb i count l;

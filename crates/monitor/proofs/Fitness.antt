@@ -35,13 +35,15 @@ use Rattle.stepping.specs.Monitors.{monitorAt}
 use Rattle.layout.specs.View.{planChart, Compiled}
 use Rattle.firing.specs.Parts.{readyBy, foundOf}
 use Rattle.firing.proofs.Ready.{lt-two-pow, subset-all, found-plain}
-use Rattle.monitor.specs.Fit.{closedUpward, isNone, restsUnlessBroken, momentsFit, breakFits, countsFit, placeFits, fits}
+use Rattle.monitor.specs.Fit.{closedUpward, isNone, restsUnlessBroken, momentsFit, breakFits, countsFit}
+use Rattle.monitor.specs.Fit.{placeFits, fits}
 
 -- a set whose members are below n is a number below 2 ^ n
 members-within : (n s : ℕ) → ((i : ℕ) → So (contains s i) → i < n) → within n s ≡ true
 unfolding isSubset
 members-within n s h =
-    let e : isSubset s (2 ^ n - 1) ≡ true = members-subset s s (2 ^ n - 1) (lt-two-pow s) (λ i l p. contains-below n i ∙ lt-ltb i n (h i p)) in
+    let e : isSubset s (2 ^ n - 1) ≡ true = members-subset s s (2 ^ n - 1) (lt-two-pow s)
+    (λ i l p. contains-below n i ∙ lt-ltb i n (h i p)) in
     let q : bitAnd s (2 ^ n - 1) ≡ s = eqb-true _ _ e in
     lt-within n s (subst (λ (x : ℕ). x < 2 ^ n) q (lt-of-le-of-lt (and-le-r s (2 ^ n - 1)) (ones-lt n)))
 
@@ -64,18 +66,24 @@ module _ (C : Abstract) (A : Accepted C) (x : Place) (t b : ℕ) where
       ap (λ (x : Moment). x .0) (List·getD-eq-default (x .resets) (record { 0 = 0 }) l)
 
   -- each clause
-  closed-of : So (closedUpward C fired) → So (within (C .regions) fired) → (i a : ℕ) → So (contains fired i) → So (C .above a i) → So (contains fired a)
+  closed-of : So (closedUpward C fired) → So (within (C .regions) fired) → (i a : ℕ) → So (contains fired i)
+      → So (C .above a i) → So (contains fired a)
   unfolding closedUpward
   closed-of e w i a p q =
       let l : i < C .regions = member-lt (C .regions) fired i (within-true _ _ w) p in
-      let f = rw p at (all-at (C .regions) (λ i. not (contains fired i) || allBelow (C .regions) (λ a. not (C .above a i) || contains fired a)) e i l) in
+      let f = rw p at
+      (all-at (C .regions)
+      (λ i. not (contains fired i) || allBelow (C .regions) (λ a. not (C .above a i) || contains fired a)) e i l) in
       rw q at (all-at (C .regions) (λ a. not (C .above a i) || contains fired a) f a (omega (arith, A .downward a i q)))
 
-  of-closed : ((i a : ℕ) → So (contains fired i) → So (C .above a i) → So (contains fired a)) → So (closedUpward C fired)
+  of-closed : ((i a : ℕ) → So (contains fired i) → So (C .above a i) → So (contains fired a))
+      → So (closedUpward C fired)
   unfolding closedUpward
   of-closed f =
       all-of (C .regions) _ (λ i l. elim (split (contains fired i)) [
-        | inl p ↦ rw p (all-of (C .regions) _ (λ a k. elim (split (C .above a i)) [ inl q ↦ rw q (f i a p q) | inr q ↦ rw q ]))
+        | inl p ↦
+            rw p (all-of (C .regions) _
+            (λ a k. elim (split (C .above a i)) [ inl q ↦ rw q (f i a p q) | inr q ↦ rw q ]))
         | inr p ↦ rw p
       ])
 
@@ -94,19 +102,24 @@ module _ (C : Abstract) (A : Accepted C) (x : Place) (t b : ℕ) where
     | inr e ↦ rw e
   ]
 
-  moments-of : length (x .resets) ≡ mostClocks → So (momentsFit (C .clocks) (x .resets) t) → (k : ℕ) → (momentsOf (x .resets) k ≤ t) × (C .clocks ≤ k → momentsOf (x .resets) k ≡ 0)
+  moments-of : length (x .resets) ≡ mostClocks → So (momentsFit (C .clocks) (x .resets) t) → (k : ℕ)
+      → (momentsOf (x .resets) k ≤ t) × (C .clocks ≤ k → momentsOf (x .resets) k ≡ 0)
   unfolding momentsFit
   moments-of size e k = by (decLt k mostClocks)
     where
       by : Dec (k < mostClocks) → (momentsOf (x .resets) k ≤ t) × (C .clocks ≤ k → momentsOf (x .resets) k ≡ 0)
       by (yes l) =
-          let f = all-at mostClocks (λ k. leb (momentsOf (x .resets) k) t && (ltb k (C .clocks) || eqb (momentsOf (x .resets) k) 0)) e k l in (
+          let f = all-at mostClocks
+          (λ k. leb (momentsOf (x .resets) k) t && (ltb k (C .clocks) || eqb (momentsOf (x .resets) k) 0)) e k l in (
             leb-true _ _ (and-left (leb (momentsOf (x .resets) k) t) _ f),
-            λ h. eqb-true _ _ (rw (le-ltb k (C .clocks) h) at (and-right (leb (momentsOf (x .resets) k) t) (ltb k (C .clocks) || eqb (momentsOf (x .resets) k) 0) f)),
+            λ h. eqb-true _ _
+                (rw (le-ltb k (C .clocks) h) at
+                (and-right (leb (momentsOf (x .resets) k) t) (ltb k (C .clocks) || eqb (momentsOf (x .resets) k) 0) f)),
           )
       by (no l) = let z = beyond size k (omega arith) in (omega arith, λ h. z)
 
-  of-moments : ((k : ℕ) → momentsOf (x .resets) k ≤ t) → ((k : ℕ) → C .clocks ≤ k → momentsOf (x .resets) k ≡ 0) → So (momentsFit (C .clocks) (x .resets) t)
+  of-moments : ((k : ℕ) → momentsOf (x .resets) k ≤ t) → ((k : ℕ) → C .clocks ≤ k → momentsOf (x .resets) k ≡ 0)
+      → So (momentsFit (C .clocks) (x .resets) t)
   unfolding momentsFit
   of-moments f g =
       all-of mostClocks _ (λ k l. and-both (le-leb _ _ (f k)) (by k (decLt k (C .clocks))))
@@ -137,7 +150,8 @@ module _ (C : Abstract) (A : Accepted C) (x : Place) (t b : ℕ) where
   of-place F =
       and-both (of-closed (F .closed))
       (and-both (members-within (C .regions) fired (F .within))
-      (and-both (not-full (full C (contains fired)) refl) (and-both (of-rests (F .settled)) (of-moments (F .moments) (F .unused)))))
+      (and-both (not-full (full C (contains fired)) refl)
+      (and-both (of-rests (F .settled)) (of-moments (F .moments) (F .unused)))))
     where
       not-full : (d : Bool) → full C (contains fired) ≡ d → So (not d)
       not-full true e = absurd (F .unfinished (full-true C (contains fired) e))
@@ -146,21 +160,27 @@ module _ (C : Abstract) (A : Accepted C) (x : Place) (t b : ℕ) where
 module _ (C : Abstract) (A : Accepted C) (m : Monitor) where
   Breaks : Type 0
   Breaks = ((m .tally .broken .at ≡ 0) × (m .tally .broken .reason ≡ 0))
-      ⊎ ((1 ≤ m .tally .broken .at) × (m .tally .broken .at ≤ m .tally .records) × ((m .tally .broken .reason ≡ noReadyRegion) ⊎ (m .tally .broken .reason ≡ conditionFails)))
+      ⊎ ((1 ≤ m .tally .broken .at) × (m .tally .broken .at ≤ m .tally .records)
+      × ((m .tally .broken .reason ≡ noReadyRegion) ⊎ (m .tally .broken .reason ≡ conditionFails)))
 
   break-of : So (breakFits (m .tally .records) (m .tally .broken)) → Breaks
   unfolding breakFits Breaks
   break-of e = elim (either (eqb (m .tally .broken .at) 0 && eqb (m .tally .broken .reason) 0) _ e) [
-    | inl p ↦ inl (eqb-true _ _ (and-left (eqb (m .tally .broken .at) 0) _ p), eqb-true _ _ (and-right (eqb (m .tally .broken .at) 0) _ p))
+    | inl p ↦
+        inl (
+          eqb-true _ _ (and-left (eqb (m .tally .broken .at) 0) _ p),
+          eqb-true _ _ (and-right (eqb (m .tally .broken .at) 0) _ p),
+        )
     | inr p ↦
         let q = and-right (leb 1 (m .tally .broken .at)) _ p in
         inr (
           leb-true _ _ (and-left (leb 1 (m .tally .broken .at)) _ p),
           leb-true _ _ (and-left (leb (m .tally .broken .at) (m .tally .records)) _ q),
-          elim (either (eqb (m .tally .broken .reason) noReadyRegion) _ (and-right (leb (m .tally .broken .at) (m .tally .records)) _ q)) [
-            | inl x ↦ inl (eqb-true _ _ x)
-            | inr x ↦ inr (eqb-true _ _ x)
-          ],
+          elim (either (eqb (m .tally .broken .reason) noReadyRegion) _
+              (and-right (leb (m .tally .broken .at) (m .tally .records)) _ q)) [
+                | inl x ↦ inl (eqb-true _ _ x)
+                | inr x ↦ inr (eqb-true _ _ x)
+              ],
         )
   ]
 
@@ -177,9 +197,11 @@ module _ (C : Abstract) (A : Accepted C) (m : Monitor) where
   fit-of : length (m .place .resets) ≡ mostClocks → So (fits C m) → Fit C (monitorAt m)
   unfolding fits countsFit Breaks
   fit-of size e =
-      let P = place-of C A (m .place) (m .tally .now .0) (m .tally .broken .at) size (and-left (placeFits C (m .place) (m .tally .now .0) (m .tally .broken .at)) _ e) in
+      let P = place-of C A (m .place) (m .tally .now .0) (m .tally .broken .at) size
+      (and-left (placeFits C (m .place) (m .tally .now .0) (m .tally .broken .at)) _ e) in
       let t = and-right (placeFits C (m .place) (m .tally .now .0) (m .tally .broken .at)) _ e in
-      let counts = and-left (leb (m .tally .records) mostRecords && leb (m .tally .kept + m .tally .dropped) (m .tally .records)) _ t in
+      let counts = and-left
+      (leb (m .tally .records) mostRecords && leb (m .tally .kept + m .tally .dropped) (m .tally .records)) _ t in
       record {
         closed = P .closed;
         within = P .within;
@@ -189,7 +211,10 @@ module _ (C : Abstract) (A : Accepted C) (m : Monitor) where
         unused = P .unused;
         few = leb-true _ _ (and-left (leb (m .tally .records) mostRecords) _ counts);
         counts = leb-true _ _ (and-right (leb (m .tally .records) mostRecords) _ counts);
-        break-fits = break-of (and-right (leb (m .tally .records) mostRecords && leb (m .tally .kept + m .tally .dropped) (m .tally .records)) _ t);
+        break-fits =
+            break-of (and-right
+            (leb (m .tally .records) mostRecords && leb (m .tally .kept + m .tally .dropped)
+            (m .tally .records)) _ t);
       }
 
   pub of-fit : Fit C (monitorAt m) → So (fits C m)
@@ -206,7 +231,8 @@ module _ (C : Abstract) (A : Accepted C) (m : Monitor) where
       (and-both (and-both (le-leb _ _ (F .few)) (le-leb _ _ (F .counts))) (of-break (F .break-fits)))
 
   -- what the test promises
-  pub fit-exactly : length (m .place .resets) ≡ mostClocks → (r : Bool) → r ≡ fits C m → (r ≡ true) ↔ Fit C (monitorAt m)
+  pub fit-exactly : length (m .place .resets) ≡ mostClocks → (r : Bool) → r ≡ fits C m
+      → (r ≡ true) ↔ Fit C (monitorAt m)
   fit-exactly size r e = (λ p. fit-of size (sym e ∙ p), λ F. e ∙ of-fit F)
 
 all-same : (n : ℕ) (s t : ℕ → Bool) → ((i : ℕ) → i < n → s i ≡ t i) → allBelow n s ≡ allBelow n t
@@ -217,7 +243,8 @@ module _ {h : Head} {keys above resets terms : List ℕ} (K : Compiled h keys ab
   abbrev compiled : Abstract
   compiled = planChart h keys above resets terms
 
-  closed-same : (f : ℕ) → allBelow (h .count) (λ i. not (contains f i) || isSubset (getD above i 0) f) ≡ closedUpward compiled f
+  closed-same : (f : ℕ) → allBelow (h .count)
+      (λ i. not (contains f i) || isSubset (getD above i 0) f) ≡ closedUpward compiled f
   unfolding closedUpward
   closed-same f =
       all-same (h .count) _ _
@@ -229,19 +256,22 @@ module _ {h : Head} {keys above resets terms : List ℕ} (K : Compiled h keys ab
       → closed ≡ allBelow (h .count) (λ i. not (contains (x .fired) i) || isSubset (getD above i 0) (x .fired))
       → set ≡ within (h .count) (x .fired)
       → all ≡ allBelow (h .count) (contains (x .fired))
-      → foundOf o ≡ first (h .count) (λ i. contains (h .plain) i && readyBy above (x .fired) i) → rests ≡ isNone (foundOf o)
+      → foundOf o ≡ first (h .count) (λ i. contains (h .plain) i && readyBy above (x .fired) i)
+      → rests ≡ isNone (foundOf o)
       → moments ≡ momentsFit (h .clocks) (x .resets) t
       → (closed && (set && (not all && ((not (eqb b 0) || rests) && moments)))) ≡ placeFits compiled x t b
   unfolding placeFits full restsUnlessBroken
   tested x t b closed set all rests moments o e₁ e₂ e₃ f e₄ e₅ =
       let n = found-plain K (x .fired) o refl f in
-      λ i. (e₁ ∙ closed-same (x .fired)) i && (e₂ i && (not (e₃ i) && ((not (eqb b 0) || (e₄ ∙ ap isNone (sym n)) i) && e₅ i)))
+      λ i. (e₁ ∙ closed-same (x .fired)) i &&
+      (e₂ i && (not (e₃ i) && ((not (eqb b 0) || (e₄ ∙ ap isNone (sym n)) i) && e₅ i)))
 
   -- what `is_fit` promises, from the tests of the place and of the tally
   pub fit-test : (m : Monitor) → length (m .place .resets) ≡ mostClocks → (place counts break : Bool)
       → place ≡ placeFits compiled (m .place) (m .tally .now .0) (m .tally .broken .at) → counts ≡ countsFit (m .tally)
       → break ≡ breakFits (m .tally .records) (m .tally .broken)
-      → ((place && (counts && break)) ≡ fits compiled m) × (((place && (counts && break)) ≡ true) ↔ Fit compiled (monitorAt m))
+      → ((place && (counts && break)) ≡ fits compiled m)
+      × (((place && (counts && break)) ≡ true) ↔ Fit compiled (monitorAt m))
   unfolding fits
   fit-test m size place counts break e₁ e₂ e₃ = (same, fit-exactly compiled (K .accepted) m size _ same)
     where

@@ -42,7 +42,8 @@ use Rattle.monitor.proofs.Storing.{answered-as, stored-as, storedTally}
 
 module _ (c : Chart) (wf : wellFormed c ≡ true) (A : Accepted (chartOf c)) where
   -- a fit monitor is fed as the machine is
-  fed-fit : (m : Monitor) (e : Record) → Fit (chartOf c) (monitorAt m) → feedOf c m e ≡ feed (chartOf c) (monitorAt m) (logRecord e)
+  fed-fit : (m : Monitor) (e : Record) → Fit (chartOf c) (monitorAt m)
+      → feedOf c m e ≡ feed (chartOf c) (monitorAt m) (logRecord e)
   unfolding feedOf
   fed-fit m e F = rw (wf, of-fit (chartOf c) A m F)
 
@@ -54,7 +55,8 @@ module _ (c : Chart) (wf : wellFormed c ≡ true) (A : Accepted (chartOf c)) whe
     monitor : monitorAt m ≡ after (chartOf c) (logged es)
     answered : ans ≡ answers (chartOf c) (logged es)
 
-  fit-after : {es : Snoc Record} {ans : Snoc AbstractAnswer} {m : Monitor} → Goes es ans m → Fit (chartOf c) (monitorAt m)
+  fit-after : {es : Snoc Record} {ans : Snoc AbstractAnswer} {m : Monitor} → Goes es ans m
+      → Fit (chartOf c) (monitorAt m)
   fit-after {es} g = subst (λ (x : AbstractMonitor). Fit (chartOf c) x) (sym (g .monitor)) (D .stays-fit (logged es))
 
   fed-after : {es : Snoc Record} {ans : Snoc AbstractAnswer} {m : Monitor} → Goes es ans m → (e : Record)
@@ -62,7 +64,8 @@ module _ (c : Chart) (wf : wellFormed c ≡ true) (A : Accepted (chartOf c)) whe
   fed-after {es} {ans} {m} g e =
       fed-fit m e (fit-after g) ∙ ap (λ (x : AbstractMonitor). feed (chartOf c) x (logRecord e)) (g .monitor)
 
-  step-after : {es : Snoc Record} {ans : Snoc AbstractAnswer} {m : Monitor} → Goes es ans m → (e : Record) (r : Step) → stepOf r ≡ feedOf c m e
+  step-after : {es : Snoc Record} {ans : Snoc AbstractAnswer} {m : Monitor} → Goes es ans m → (e : Record) (r : Step)
+      → stepOf r ≡ feedOf c m e
       → stepOf r ≡ feed (chartOf c) (after (chartOf c) (logged es)) (logRecord e)
   step-after g e r q = q ∙ fed-after g e
 
@@ -103,7 +106,8 @@ module _ (c : Chart) (wf : wellFormed c ≡ true) (A : Accepted (chartOf c)) whe
   same-number : {a b : ℕ} → refused a ≡ refused b → a ≡ b
   same-number e = cc
 
-  never-said : (k : FeedRefusal) → feedRefusalNumber k ≢ timeFalls → feedRefusalNumber k ≢ tooManyRecords → (m : AbstractMonitor) (e : LogRecord)
+  never-said : (k : FeedRefusal) → feedRefusalNumber k ≢ timeFalls → feedRefusalNumber k ≢ tooManyRecords
+      → (m : AbstractMonitor) (e : LogRecord)
       → feed (chartOf c) m e .answer ≡ refused (feedRefusalNumber k) → ⊥
   unfolding feed NotRefused
   never-said k n l m e h = elim (split (eqb (m .tally .broken .at) 0)) [
@@ -120,8 +124,10 @@ module _ (c : Chart) (wf : wellFormed c ≡ true) (A : Accepted (chartOf c)) whe
       clashes : {a b : ℕ} → brokenAt a b ≡ refused (feedRefusalNumber k) → ⊥
       clashes e = let z : _≡_ {A = ℕ} 0 1 = cc in omega arith
 
-  never : {es : Snoc Record} {ans : Snoc AbstractAnswer} {m : Monitor} → Goes es ans m → (e : Record) (r : Step) → stepOf r ≡ feedOf c m e
-      → (k : FeedRefusal) → feedRefusalNumber k ≢ timeFalls → feedRefusalNumber k ≢ tooManyRecords → r .answer ≢ Refused k
+  never : {es : Snoc Record} {ans : Snoc AbstractAnswer} {m : Monitor} → Goes es ans m → (e : Record) (r : Step)
+      → stepOf r ≡ feedOf c m e
+      → (k : FeedRefusal) → feedRefusalNumber k ≢ timeFalls → feedRefusalNumber k ≢ tooManyRecords
+      → r .answer ≢ Refused k
   never {es} g e r h k n l q =
       never-said k n l (after (chartOf c) (logged es)) (logRecord e)
       (sym (ap (λ (x : AbstractStep). x .answer) (step-after g e r h)) ∙ ap answerOf q)
@@ -133,15 +139,18 @@ module _ (c : Chart) (wf : wellFormed c ≡ true) (A : Accepted (chartOf c)) whe
     answered = λ q. goes q .answered;
     leads = λ q. goes q .monitor;
     never-refused = λ {es} {ans} {m} q e r h.
-        let g = goes q in
-        (never g e r h NotAChart (λ z. omega arith) (λ z. omega arith), never g e r h Unfit (λ z. omega arith) (λ z. omega arith));
+        let g = goes q in (
+          never g e r h NotAChart (λ z. omega arith) (λ z. omega arith),
+          never g e r h Unfit (λ z. omega arith) (λ z. omega arith),
+        );
   }
 
 -- the view fixes the monitor
 pub view-tells : ViewTells
 view-tells m n p q e =
     let f : m .place .fired ≡ n .place .fired =
-    same-members mostRegions (m .place .fired) (n .place .fired) (p .bits) (q .bits) (λ i l. ap (λ (x : AbstractMonitor). x .place .fired i) e) in
+    same-members mostRegions (m .place .fired) (n .place .fired) (p .bits) (q .bits)
+    (λ i l. ap (λ (x : AbstractMonitor). x .place .fired i) e) in
     let zero : Moment = record { 0 = 0 } in
     let k : length (m .place .resets) ≡ length (n .place .resets) = p .places ∙ sym (q .places) in
     let r : m .place .resets ≡ n .place .resets =

@@ -65,6 +65,7 @@ unfolding monitorBytes
 monitor-length m = refl
 
 -- a monitor written there is read again
-pub monitor-back : {l n : List ℕ} {j : ℕ} (m : Monitor) → Wrote l 0 (monitorBytes m) n j → monitorSize ≤ length l → Small m → monitorIn n ≡ m
+pub monitor-back : {l n : List ℕ} {j : ℕ} (m : Monitor) → Wrote l 0 (monitorBytes m) n j → monitorSize ≤ length l
+    → Small m → monitorIn n ≡ m
 monitor-back {l} {n} m w h s =
     ap monitorIn (at-start w (omega (arith, monitor-length m))) ∙ monitor-read m (drop (length (monitorBytes m)) l) s

@@ -22,7 +22,9 @@ owned m vs p =
     record {
       fired = place .1 .1 .0 .1;
       places = size;
-      moments = λ k h. each-at _ Moment (moment.the-type .to) _ (m .place .resets) (r .0) k (record { 0 = 0 }) (r .1 .1) (omega arith) .1 .1 .1 .0 .1;
+      moments =
+          λ k h. each-at _ Moment (moment.the-type .to) _ (m .place .resets) (r .0) k (record { 0 = 0 }) (r .1 .1)
+          (omega arith) .1 .1 .1 .0 .1;
       now = tally .1 .1 .0 .1 .1 .0 .1;
       records = tally .1 .1 .1 .0 .1;
       kept = tally .1 .1 .1 .1 .0 .1;

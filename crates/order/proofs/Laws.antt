@@ -33,7 +33,8 @@ not-empty s t l =
     ap not
     (ne-eqb _ _
     (λ z. false≢true
-    (sym (contains-empty (l .line)) ∙ ap (λ (x : ℕ). contains x (l .line)) (sym z) ∙ contains-and s t (l .line) ∙ and-both (l .one) (l .other))))
+    (sym (contains-empty (l .line)) ∙ ap (λ (x : ℕ). contains x (l .line)) (sym z) ∙ contains-and s t (l .line)
+    ∙ and-both (l .one) (l .other))))
 
 module _ (lines : ℕ → ℕ) (p : ℕ) where
   -- the test is the relation
@@ -58,9 +59,11 @@ module _ (lines : ℕ → ℕ) (p : ℕ) where
   unfolding isOver
   is-over a b (halves h k) = or-left _ (and-both (lt-ltb a p h) (le-leb p b k))
   is-over a b (direct h (inPrechart k m) l) =
-      or-right (ltb a p && leb p b) (and-both (lt-ltb a b h) (and-both (or-left (leb p a) (lt-ltb b p m)) (not-empty _ _ l)))
+      or-right (ltb a p && leb p b)
+      (and-both (lt-ltb a b h) (and-both (or-left (leb p a) (lt-ltb b p m)) (not-empty _ _ l)))
   is-over a b (direct h (inMain k m) l) =
-      or-right (ltb a p && leb p b) (and-both (lt-ltb a b h) (and-both (or-right (ltb b p) (le-leb p a k)) (not-empty _ _ l)))
+      or-right (ltb a p && leb p b)
+      (and-both (lt-ltb a b h) (and-both (or-right (ltb b p) (le-leb p a k)) (not-empty _ _ l)))
 
   over-lt : {a b : ℕ} → Over lines p a b → a < b
   over-lt (direct h k l) = h
@@ -82,7 +85,9 @@ module _ (lines : ℕ → ℕ) (p : ℕ) where
   gathered-from above (suc a) b x e = by (isOver lines p a b) refl e (gathered-from above a b x)
     where
       by : (t : Bool) → isOver lines p a b ≡ t
-          → contains (cond t (union (inserted (gathered lines p above a b) a) (getD above a 0)) (gathered lines p above a b)) x ≡ true
+          → contains
+          (cond t (union (inserted (gathered lines p above a b) a) (getD above a 0))
+          (gathered lines p above a b)) x ≡ true
           → (contains (gathered lines p above a b) x ≡ true → Source above a b x) → Source above (suc a) b x
       by false o e r = later (r e)
       by true o e r = pick (either _ _ (sym (contains-union _ _ x) ∙ e))
@@ -91,7 +96,8 @@ module _ (lines : ℕ → ℕ) (p : ℕ) where
           own (inl h) = later (r h)
           own (inr h) = record { at = a; below = omega arith; stands = o; holds = inl (eqb-true x a h) }
 
-          pick : (contains (inserted (gathered lines p above a b) a) x ≡ true) ⊎ (contains (getD above a 0) x ≡ true) → Source above (suc a) b x
+          pick : (contains (inserted (gathered lines p above a b) a) x ≡ true) ⊎ (contains (getD above a 0) x ≡ true)
+              → Source above (suc a) b x
           pick (inl h) = own (either _ _ (sym (contains-inserted _ a x) ∙ h))
           pick (inr h) = record { at = a; below = omega arith; stands = o; holds = inr h }
 
@@ -102,19 +108,36 @@ module _ (lines : ℕ → ℕ) (p : ℕ) where
     where
       new : (x ≡ n) ⊎ (contains (getD above n 0) x ≡ true)
           → contains (union (inserted (gathered lines p above n b) n) (getD above n 0)) x ≡ true
-      new (inl h) = contains-union _ _ x ∙ or-left _ (contains-inserted _ n x ∙ or-right (contains (gathered lines p above n b) x) (eq-eqb x n h))
+      new (inl h) =
+          contains-union _ _ x ∙ or-left _
+          (contains-inserted _ n x ∙ or-right (contains (gathered lines p above n b) x) (eq-eqb x n h))
       new (inr h) = contains-union _ _ x ∙ or-right (contains (inserted (gathered lines p above n b) n) x) h
 
       old : contains (gathered lines p above n b) x ≡ true
           → contains (union (inserted (gathered lines p above n b) n) (getD above n 0)) x ≡ true
       old h = contains-union _ _ x ∙ or-left _ (contains-inserted _ n x ∙ or-left (eqb x n) h)
 
-      by : Dec (s .at ≡ n) → (t : Bool) → isOver lines p n b ≡ t → (Source above n b x → contains (gathered lines p above n b) x ≡ true)
-          → contains (cond t (union (inserted (gathered lines p above n b) n) (getD above n 0)) (gathered lines p above n b)) x ≡ true
+      by : Dec (s .at ≡ n) → (t : Bool) → isOver lines p n b ≡ t
+          → (Source above n b x → contains (gathered lines p above n b) x ≡ true)
+          → contains
+          (cond t (union (inserted (gathered lines p above n b) n) (getD above n 0))
+          (gathered lines p above n b)) x ≡ true
       by (yes e) true o r = new (rw e at (s .holds))
       by (yes e) false o r = absurd (false≢true (sym o ∙ (rw e at (s .stands))))
-      by (no e) true o r = old (r (record { at = s .at; below = lt-of-le-ne (omega (arith, s .below)) e; stands = s .stands; holds = s .holds }))
-      by (no e) false o r = r (record { at = s .at; below = lt-of-le-ne (omega (arith, s .below)) e; stands = s .stands; holds = s .holds })
+      by (no e) true o r =
+          old (r (record {
+            at = s .at;
+            below = lt-of-le-ne (omega (arith, s .below)) e;
+            stands = s .stands;
+            holds = s .holds;
+          }))
+      by (no e) false o r =
+          r (record {
+            at = s .at;
+            below = lt-of-le-ne (omega (arith, s .below)) e;
+            stands = s .stands;
+            holds = s .holds;
+          })
 
   length-sets : (n : ℕ) → length (aboveSets lines p n) ≡ 32
   unfolding aboveSets
@@ -140,14 +163,16 @@ module _ (lines : ℕ → ℕ) (p : ℕ) where
   sound zero b x h m e = absurd (omega arith)
   sound (suc k) b x h m e = by (gathered-from _ b b x e) (λ a. sound k a x)
     where
-      at : (s : Source (aboveSets lines p b) b b x) → (x ≡ s .at) ⊎ (contains (getD (aboveSets lines p b) (s .at) 0) x ≡ true)
+      at : (s : Source (aboveSets lines p b) b b x) → (x ≡ s .at)
+          ⊎ (contains (getD (aboveSets lines p b) (s .at) 0) x ≡ true)
           → ((a : ℕ) → a < k → k ≤ 32 → contains (own a) x ≡ true → Above lines p x a) → Above lines p x b
       at s (inl e) r = rw e (first (over (s .at) b (s .stands)))
       at s (inr e) r =
           then (r (s .at) (omega (arith, s .below)) (omega arith) (rw (stable b (s .at) (s .below) (omega arith)) at e))
           (over (s .at) b (s .stands))
 
-      by : Source (aboveSets lines p b) b b x → ((a : ℕ) → a < k → k ≤ 32 → contains (own a) x ≡ true → Above lines p x a)
+      by : Source (aboveSets lines p b) b b x →
+          ((a : ℕ) → a < k → k ≤ 32 → contains (own a) x ≡ true → Above lines p x a)
           → Above lines p x b
       by s r = at s (s .holds) r
 
@@ -158,10 +183,16 @@ module _ (lines : ℕ → ℕ) (p : ℕ) where
   complete {x} {b} (then {b = a} q o) h =
       let l = over-lt o in
       gathered-to _ b b x
-      (record { at = a; below = l; stands = is-over a b o; holds = inr (rw (stable b a l (omega arith)) (complete q (omega arith))) })
+      (record {
+        at = a;
+        below = l;
+        stands = is-over a b o;
+        holds = inr (rw (stable b a l (omega arith)) (complete q (omega arith)));
+      })
 
   -- the set of a region holds exactly those above it
-  pub above-sets : (n b x : ℕ) → b < n → n ≤ 32 → (contains (getD (aboveSets lines p n) b 0) x ≡ true) ↔ Above lines p x b
+  pub above-sets : (n b x : ℕ) → b < n → n ≤ 32
+      → (contains (getD (aboveSets lines p n) b 0) x ≡ true) ↔ Above lines p x b
   above-sets n b x h k =
       (λ e. sound n b x h k (rw (stable n b h k) at e), λ a. rw (stable n b h k) (complete a (omega arith)))
 
@@ -176,7 +207,8 @@ module _ (f g : ℕ → ℕ) (p k : ℕ) (same : (i : ℕ) → i < k → f i ≡
   unfolding gathered
   same-gathered above zero b h l = refl
   same-gathered above (suc a) b h l =
-      λ i. cond (same-over a b (omega arith) l i) (union (inserted (same-gathered above a b (omega arith) l i) a) (getD above a 0))
+      λ i. cond (same-over a b (omega arith) l i)
+      (union (inserted (same-gathered above a b (omega arith) l i) a) (getD above a 0))
       (same-gathered above a b (omega arith) l i)
 
   pub same-sets : (n : ℕ) → n ≤ k → aboveSets f p n ≡ aboveSets g p n
@@ -189,12 +221,16 @@ module _ (f g : ℕ → ℕ) (p k : ℕ) (same : (i : ℕ) → i < k → f i ≡
 
 -- beyond the chart the sets are empty
 pub sets-beyond : (c : Chart) (b : ℕ) → c .count ≤ b → getD (aboveOf c) b 0 ≡ 0
-sets-beyond c b h = filled-beyond (filled (touchedAt c) (c .prechart) (min (c .count) mostRegions) (omega arith)) b (omega arith)
+sets-beyond c b h =
+    filled-beyond (filled (touchedAt c) (c .prechart) (min (c .count) mostRegions) (omega arith)) b (omega arith)
 
 -- what `above_sets` promises, from the sets alone
 pub decides : (c : Chart) → Decides c (aboveOf c)
 decides c =
-    record { members = λ a b h l. above-sets (touchedAt c) (c .prechart) (min (c .count) mostRegions) b a (omega arith) (omega arith) }
+    record {
+      members = λ a b h l. above-sets (touchedAt c) (c .prechart) (min (c .count) mostRegions) b a (omega arith)
+          (omega arith);
+    }
 
 pub sets-decide : (c : Chart) (r : List ℕ) → r ≡ aboveOf c → (r ≡ aboveOf c) × Decides c r
 sets-decide c r e = (e, subst (λ (l : List ℕ). Decides c l) (sym e) (decides c))

@@ -8,7 +8,8 @@ use native.Mathlib.Omega.{arith}
 use lib.Dec.{eqb, ltb}
 use Rattle.base.specs.Lists.{Snoc, ε, _▸_, size}
 use Rattle.rounds.specs.Chart.{Chart, Accepted}
-use Rattle.rounds.specs.Rows.{LogRecord, Row, stands, momentAt, chartMessage, chartMessages, messageRegions, momentOf, opened, resetMoment, holds, Lawful, NoRow}
+use Rattle.rounds.specs.Rows.{LogRecord, Row, stands, momentAt, chartMessage, chartMessages, messageRegions, momentOf}
+use Rattle.rounds.specs.Rows.{opened, resetMoment, holds, Lawful, NoRow}
 use Rattle.rounds.specs.Machine.{Place, Move, rests, offer, opening}
 use Rattle.base.proofs.Bools.{split}
 use Rattle.rounds.proofs.Machine.{plain-none, opening-settled}
@@ -39,7 +40,8 @@ module _ (C : Chart) (o : ℕ) where
 
   reset-bound : (l : Snoc LogRecord) (r : Row) (c : ℕ) → Rising o l → resetMoment C o l r c ≤ lastOf o l
   unfolding resetMoment opened momentOf
-  reset-bound l ε c R = elim (split (ltb c (C .clocks))) [ inl h ↦ rw h (from-opening l R) | inr h ↦ rw h (omega arith) ]
+  reset-bound l ε c R =
+      elim (split (ltb c (C .clocks))) [ inl h ↦ rw h (from-opening l R) | inr h ↦ rw h (omega arith) ]
   reset-bound l (r ▸ i) c R = elim (split (C .resets i c)) [
     | inl h ↦ rw h (momentAt-bound l (size (messageRegions C (r ▸ i))) R)
     | inr h ↦ rw h (reset-bound l r c R)
@@ -65,25 +67,30 @@ module _ (C : Chart) (o : ℕ) where
       empty-place = unfold placeOf opening resetMoment in refl
 
   -- the machine's move, from the rows
-  rests-row : {s : Snoc LogRecord} {e : LogRecord} {q : Row} {v : Move} → Accepted C → Means C o s q e v → (r : Row) → Lawful C o (s ▸ e) r
+  rests-row : {s : Snoc LogRecord} {e : LogRecord} {q : Row} {v : Move} → Accepted C → Means C o s q e v → (r : Row)
+      → Lawful C o (s ▸ e) r
       → v ≡ rests (placeOf C o (chartMessages C (s ▸ e)) r)
   unfolding NoRow
   rests-row {s} {e} A (unplaced W) r L = absurd (none-placed C A o s e W r L)
   rests-row {s} {e} A (failed p i b W f) r L = absurd (none-holds C A o s e b i W f r L)
-  rests-row {s} {e} A (grown b M lt) r L = ap (λ (k : Row). rests (placeOf C o (chartMessages C (s ▸ e)) k)) (one-row C A o (s ▸ e) b r M L)
+  rests-row {s} {e} A (grown b M lt) r L =
+      ap (λ (k : Row). rests (placeOf C o (chartMessages C (s ▸ e)) k)) (one-row C A o (s ▸ e) b r M L)
 
-  row-rests : {s : Snoc LogRecord} {e : LogRecord} {q : Row} {v : Move} → Means C o s q e v → (t : ℕ) (p : Place) (z : Config) → v ≡ rests p
+  row-rests : {s : Snoc LogRecord} {e : LogRecord} {q : Row} {v : Move} → Means C o s q e v
+      → (t : ℕ) (p : Place) (z : Config) → v ≡ rests p
       → z ≡ configAt C t p → (r : Row) × Lawful C o (s ▸ e) r × (z ≡ configOf C t o (chartMessages C (s ▸ e)) r)
   row-rests (unplaced W) t p z h c = absurd (let z : _≡_ {A = ℕ} 0 1 = cc in omega arith)
   row-rests (failed b i r W f) t p z h c = absurd (let z : _≡_ {A = ℕ} 0 1 = cc in omega arith)
-  row-rests {s} {e} (grown b M lt) t p z h c = (b, M, c ∙ ap (configAt C t) (same-place h) ∙ config-of-place t (chartMessages C (s ▸ e)) b)
+  row-rests {s} {e} (grown b M lt) t p z h c =
+      (b, M, c ∙ ap (configAt C t) (same-place h) ∙ config-of-place t (chartMessages C (s ▸ e)) b)
     where
       same-place : {x : Place} → rests x ≡ rests p → p ≡ x
       same-place u = cc
 
 module _ (C : Chart) (A : Accepted C) (o : ℕ) where
   -- before its last message region, a lawful row for s ▸ e is one for s
-  row-before : (s : Snoc LogRecord) (e : LogRecord) (r : Row) → So (chartMessage C e) → Lawful C o (s ▸ e) r → (q : Row) × Lawful C o s q
+  row-before : (s : Snoc LogRecord) (e : LogRecord) (r : Row) → So (chartMessage C e) → Lawful C o (s ▸ e) r → (q : Row)
+      × Lawful C o s q
   unfolding Lawful Early
   row-before s e r h L =
       let K : LastMessage C (holds C o (chartMessages C (s ▸ e))) (codes (chartMessages C s)) (e .code) r
@@ -92,8 +99,10 @@ module _ (C : Chart) (A : Accepted C) (o : ℕ) where
         K .before,
         record {
           one-for-one = K .codes;
-          placed = retest C (holds C o (chartMessages C (s ▸ e))) (holds C o (chartMessages C s)) (size (chartMessages C s))
-              (strict-early C o s e h) (K .before) (omega (arith, as-many C (chartMessages C s) (K .before) (K .codes))) (K .placed);
+          placed = retest C (holds C o (chartMessages C (s ▸ e))) (holds C o (chartMessages C s))
+              (size (chartMessages C s))
+              (strict-early C o s e h) (K .before) (omega (arith, as-many C (chartMessages C s) (K .before) (K .codes)))
+              (K .placed);
           settled = plain-none C A (stands (K .before)) (K .rests);
         },
       )
@@ -103,15 +112,19 @@ module _ (C : Chart) (A : Accepted C) (o : ℕ) where
   at-rest s q M = λ j p R. absurd (M .settled j p R)
 
   -- one more chart message leads from the one row to the other
-  pub row-step : (s : Snoc LogRecord) (e : LogRecord) (q r : Row) → So (chartMessage C e) → Rising o (chartMessages C s ▸ e)
+  pub row-step : (s : Snoc LogRecord) (e : LogRecord) (q r : Row) → So (chartMessage C e)
+      → Rising o (chartMessages C s ▸ e)
       → Lawful C o s q → Lawful C o (s ▸ e) r
-      → OneMessage C (shown C o s q) (e .time - lastOf o (chartMessages C s)) (e .code) (configOf C (e .time) o (chartMessages C (s ▸ e)) r)
+      → OneMessage C (shown C o s q) (e .time - lastOf o (chartMessages C s)) (e .code)
+      (configOf C (e .time) o (chartMessages C (s ▸ e)) r)
   row-step s e q r h R M L =
       let l : Snoc LogRecord = chartMessages C s in
       let l′ : Snoc LogRecord = chartMessages C (s ▸ e) in
-      let v : offer C (placeOf C o l q) e ≡ rests (placeOf C o l′ r) = rests-row C o A (move-means C A o s e h q M) r L in
+      let v : offer C (placeOf C o l q) e ≡ rests (placeOf C o l′ r) = rests-row C o A
+      (move-means C A o s e h q M) r L in
       rw (← (config-of-place C o (lastOf o l) l q), ← (config-of-place C o (e .time) l′ r))
-      (steps-of C A (placeOf C o l q) e (lastOf o l) (past C o l q (R .0)) (R .1) h (placeOf C o l′ r) (at-rest s q M) v)
+      (steps-of C A (placeOf C o l q) e (lastOf o l) (past C o l q (R .0)) (R .1) h (placeOf C o l′ r)
+      (at-rest s q M) v)
 
   row-is-chain : (s : Snoc LogRecord) (r : Row) → Rising o (chartMessages C s) → Lawful C o s r
       → Chain C initial o (chartMessages C s) (shown C o s r)
@@ -121,12 +134,16 @@ module _ (C : Chart) (A : Accepted C) (o : ℕ) where
         let R′ : Rising o (chartMessages C s ▸ e) = rw (chartMessages-take C s e h) at R in
         let q = row-before s e r h L in
         rw (chartMessages-take C s e h)
-        (next (row-is-chain s (q .0) (R′ .0) (q .1)) (rw (chartMessages-take C s e h) at (row-step s e (q .0) r h R′ (q .1) L)))
-    | inr h ↦ rw (chartMessages-skip C s e h) (row-is-chain s r (rw (chartMessages-skip C s e h) at R) (lawful-before C o s e r h L))
+        (next (row-is-chain s (q .0) (R′ .0) (q .1))
+        (rw (chartMessages-take C s e h) at (row-step s e (q .0) r h R′ (q .1) L)))
+    | inr h ↦
+        rw (chartMessages-skip C s e h)
+        (row-is-chain s r (rw (chartMessages-skip C s e h) at R) (lawful-before C o s e r h L))
   ]
 
   -- and where it leads there is a row
-  step-row : (s : Snoc LogRecord) (e : LogRecord) (q : Row) (z : Config) → So (chartMessage C e) → Rising o (chartMessages C s ▸ e)
+  step-row : (s : Snoc LogRecord) (e : LogRecord) (q : Row) (z : Config) → So (chartMessage C e)
+      → Rising o (chartMessages C s ▸ e)
       → Lawful C o s q → OneMessage C (shown C o s q) (e .time - lastOf o (chartMessages C s)) (e .code) z
       → (r : Row) × Lawful C o (s ▸ e) r × (z ≡ configOf C (e .time) o (chartMessages C (s ▸ e)) r)
   step-row s e q z h R M N =
@@ -142,7 +159,8 @@ module _ (C : Chart) (A : Accepted C) (o : ℕ) where
       → (x : Config) × Chain C initial o l x × OneMessage C x (e .time - lastOf o l) (e .code) z
   chain-last (next {y} K M) = (y, K, M)
 
-  chain-is-row : (s : Snoc LogRecord) (z : Config) → Rising o (chartMessages C s) → Chain C initial o (chartMessages C s) z
+  chain-is-row : (s : Snoc LogRecord) (z : Config) → Rising o (chartMessages C s)
+      → Chain C initial o (chartMessages C s) z
       → (r : Row) × Lawful C o s r × (z ≡ shown C o s r)
   chain-is-row ε z R K = (ε, opens-lawful C A o, chain-empty (unfold chartMessages in K) ∙ sym (empty-shown C o))
   chain-is-row (s ▸ e) z R K = elim (split (chartMessage C e)) [
@@ -166,6 +184,7 @@ module _ (C : Chart) (A : Accepted C) (o : ℕ) where
       → Over C initial (spelled o (chartMessages C s)) (shown C o s r)
   row-is-prompt s r R L = chain-prompt C opening-rests (row-is-chain s r R L)
 
-  pub prompt-is-row : (s : Snoc LogRecord) (z : Config) → Rising o (chartMessages C s) → Over C initial (spelled o (chartMessages C s)) z
+  pub prompt-is-row : (s : Snoc LogRecord) (z : Config) → Rising o (chartMessages C s)
+      → Over C initial (spelled o (chartMessages C s)) z
       → (r : Row) × Lawful C o s r × (z ≡ shown C o s r)
   prompt-is-row s z R P = chain-is-row s z R (prompt-chain C initial o opening-rests (chartMessages C s) P)

@@ -4,12 +4,14 @@ use Rattle.rounds.proofs.Fitness.{feed-fit}
 use Rattle.paper.specs.Demand2.{Demand2}
 use Rattle.paper.proofs.Prompts.{prompt-run}
 use Rattle.paper.proofs.Unique.{one-prompt}
-use Rattle.paper.proofs.Words.{delay-shifts, no-delay, no-step, no-advancement, not-silent, no-message, no-synchronization, step-follows, hot-stays, holding-stays, main-in-cut}
+use Rattle.paper.proofs.Words.{delay-shifts, no-delay, no-step, no-advancement, not-silent, no-message}
+use Rattle.paper.proofs.Words.{no-synchronization, step-follows, hot-stays, holding-stays, main-in-cut}
 use Rattle.paper.proofs.Satisfying.{satisfied-exactly}
 use Rattle.paper.proofs.Taking.{same-monitor, given, only}
 use Rattle.paper.proofs.Reading.{all-given, all-only, as-rows}
 use Rattle.paper.proofs.Chains.{row-is-prompt, prompt-is-row}
-use Rattle.paper.proofs.Wholes.{monitor-is-cut, round-is-prompt, kept-satisfies, entered-satisfies, decided, broken-violates}
+use Rattle.paper.proofs.Wholes.{monitor-is-cut, round-is-prompt, kept-satisfies, entered-satisfies, decided}
+use Rattle.paper.proofs.Wholes.{broken-violates}
 
 pub demand-2 : (C : Chart) → Accepted C → Demand2 C
 demand-2 C A = record {

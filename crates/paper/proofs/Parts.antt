@@ -13,7 +13,8 @@ module _ (C : Chart) where
   -- silent advancements, lowest number first
   pub data Silents (x : Config) : Config → Type 0 where
     no-more : Silents x x
-    one : {y : Config} → Silents x y → (s : ℕ) → Next C (y .cut) s → So (C .condition s (y .valuation)) → Silents x (successor C y s)
+    one : {y : Config} → Silents x y → (s : ℕ) → Next C (y .cut) s → So (C .condition s (y .valuation))
+        → Silents x (successor C y s)
 
   -- one chart message m, d ticks later: the delay, the synchronization, and silent advancements until no plain region
   -- is ready
@@ -30,8 +31,10 @@ module _ (C : Chart) where
   -- the condition of region i fails, d ticks later: that of the message's region, or that of a plain region after
   -- silent advancements
   pub data Failure (x : Config) (d m i : ℕ) : Config → Type 0 where
-    at-once : Ready C (x .cut) i → C .key i ≡ m → C .condition i (shift C (x .valuation) d) ≡ false → Failure x d m i (wait C x d)
-    later : (s : ℕ) → Ready C (x .cut) s → plain C s ≡ false → C .key s ≡ m → So (C .condition s (shift C (x .valuation) d))
+    at-once : Ready C (x .cut) i → C .key i ≡ m → C .condition i (shift C (x .valuation) d) ≡ false
+        → Failure x d m i (wait C x d)
+    later : (s : ℕ) → Ready C (x .cut) s → plain C s ≡ false → C .key s ≡ m
+        → So (C .condition s (shift C (x .valuation) d))
         → (y : Config) → Silents (successor C (wait C x d) s) y
         → Next C (y .cut) i → C .condition i (y .valuation) ≡ false → Failure x d m i y
 

@@ -12,7 +12,9 @@ use Rattle.base.specs.Lists.{Snoc, ε, _▸_}
 use Rattle.rounds.specs.Chart.{Chart}
 use Rattle.rounds.specs.Rows.{LogRecord, Ready, plain}
 use Rattle.base.proofs.Bools.{clash, either, or-left}
-use Rattle.paper.specs.Runs.{Config, Letter, message, silent, delay, initial, strip, add, shift, successor, wait, Advance, synchronization, silent-advancement, premature-termination, time-delay, by, Run, here, step, Next, AtRest, Prompt, begins, settles, goes, Over, lastOf, spelled}
+use Rattle.paper.specs.Runs.{Config, Letter, message, silent, delay, initial, strip, add, shift, successor, wait}
+use Rattle.paper.specs.Runs.{Advance, synchronization, silent-advancement, premature-termination, time-delay, by}
+use Rattle.paper.specs.Runs.{Run, here, step, Next, AtRest, Prompt, begins, settles, goes, Over, lastOf, spelled}
 use Rattle.paper.proofs.Parts.{Silents, no-more, one, OneMessage, Chain, opens, next}
 
 module _ (C : Chart) where
@@ -34,7 +36,8 @@ module _ (C : Chart) where
       → (a : Advance C x silent initial) × (by C a ≡ some s)
   terminates s R c f = (premature-termination s R c cc, refl)
 
-  pub delays : {x : Config} (d s : ℕ) → Ready C (x .cut) s → So (C .condition s (shift C (x .valuation) d)) → Advance C x (delay d) (wait C x d)
+  pub delays : {x : Config} (d s : ℕ) → Ready C (x .cut) s → So (C .condition s (shift C (x .valuation) d))
+      → Advance C x (delay d) (wait C x d)
   delays d s R h = time-delay d s R cc
 
   -- what a step over a message needs
@@ -47,7 +50,8 @@ module _ (C : Chart) where
     pub to : z ≡ successor C y region
 
   pub synced : {y z : Config} {u : Letter} (k : ℕ) → u ≡ message k → Advance C y u z → Synced y k z
-  synced k q (synchronization s R p h) = record { region = s; follows = R; is-message = p; fits = cc; holds = h; to = refl }
+  synced k q (synchronization s R p h) =
+      record { region = s; follows = R; is-message = p; fits = cc; holds = h; to = refl }
   synced k q (silent-advancement s R p h) = absurd (let z : _≡_ {A = ℕ} 0 1 = cc in omega arith)
   synced k q (premature-termination s R p h) = absurd (let z : _≡_ {A = ℕ} 0 1 = cc in omega arith)
   synced k q (time-delay d s R h) = absurd (let z : _≡_ {A = ℕ} 0 1 = cc in omega arith)
@@ -64,13 +68,19 @@ module _ (C : Chart) where
   delayed d q (premature-termination s R p h) = absurd (let z : _≡_ {A = ℕ} 0 1 = cc in omega arith)
   delayed {y} d q (time-delay f s R h) =
       let e : f ≡ d = cc in
-      record { region = s; follows = R; holds = subst (λ (n : ℕ). So (C .condition s (shift C (y .valuation) n))) e h; to = ap {B = Config} (wait C y) e }
+      record {
+        region = s;
+        follows = R;
+        holds = subst (λ (n : ℕ). So (C .condition s (shift C (y .valuation) n))) e h;
+        to = ap {B = Config} (wait C y) e;
+      }
 
   -- a successor says which region that follows the cut it is of
   same-added : (c : ℕ → Bool) (s t : ℕ) → Ready C c s → Ready C c t → add C c s ≡ add C c t → s ≡ t
   unfolding add
   same-added c s t R Q e =
-      elim (either (eqb s t) (c s) (rw (← (ap {B = Bool} (λ (f : ℕ → Bool). f s) e)) (or-left (c s) (eq-eqb s s refl)))) [
+      elim (either (eqb s t) (c s)
+      (rw (← (ap {B = Bool} (λ (f : ℕ → Bool). f s) e)) (or-left (c s) (eq-eqb s s refl)))) [
         | inl q ↦ eqb-true s t q
         | inr q ↦ clash q (R .unfired)
       ]
@@ -80,7 +90,8 @@ module _ (C : Chart) where
     pub is-plain : So (plain C s)
     pub holds : So (C .condition s (y .valuation))
 
-  pub advanced : {y z : Config} {u : Letter} (s : ℕ) → u ≡ silent → z ≡ successor C y s → Ready C (y .cut) s → Advance C y u z
+  pub advanced : {y z : Config} {u : Letter} (s : ℕ) → u ≡ silent → z ≡ successor C y s → Ready C (y .cut) s
+      → Advance C y u z
       → Advanced y s
   unfolding add
   advanced s q e N (synchronization t R p h) = absurd (let z : _≡_ {A = ℕ} 0 1 = cc in omega arith)
@@ -88,7 +99,8 @@ module _ (C : Chart) where
       let w : t ≡ s = same-added (y .cut) t s R N (ap {B = ℕ → Bool} (λ (z : Config). z .cut) e) in
       record { is-plain = rw w at p; holds = subst (λ (n : ℕ). So (C .condition n (y .valuation))) w h }
   advanced {y} s q e N (premature-termination t R p h) =
-      clash {b = eqb s s || y .cut s} (or-left (y .cut s) (eq-eqb s s refl)) (sym (ap {B = Bool} (λ (z : Config). z .cut s) e))
+      clash {b = eqb s s || y .cut s} (or-left (y .cut s) (eq-eqb s s refl))
+      (sym (ap {B = Bool} (λ (z : Config). z .cut s) e))
   advanced s q e N (time-delay d t R h) = absurd (let z : _≡_ {A = ℕ} 0 1 = cc in omega arith)
 
   -- silent advancements after a prompt run
@@ -106,10 +118,13 @@ module _ (C : Chart) where
   loud-message q = let z : _≡_ {A = ℕ} 0 1 = cc in omega arith
 
   -- a delay and a message at rest
-  pub goes-on : {x y : Config} {w : Snoc Letter} (d s : ℕ) → Prompt C x w y → AtRest C (y .cut) → Ready C (y .cut) s → plain C s ≡ false
+  pub goes-on : {x y : Config} {w : Snoc Letter} (d s : ℕ) → Prompt C x w y → AtRest C (y .cut) → Ready C (y .cut) s
+      → plain C s ≡ false
       → So (C .condition s (shift C (y .valuation) d))
       → Prompt C x (w ▸ delay d ▸ message (C .key s)) (successor C (wait C y d) s)
-  goes-on d s P r R p h = goes (goes P r (λ q. absurd (loud-delay q)) (delays d s R h)) r (λ q. absurd (loud-message q)) (synchronizes s R p h .0)
+  goes-on d s P r R p h =
+      goes (goes P r (λ q. absurd (loud-delay q)) (delays d s R h)) r (λ q. absurd (loud-message q))
+      (synchronizes s R p h .0)
 
   -- up to the message's region
   pub synchronized : {x y z : Config} {w : Snoc Letter} {d m : ℕ} → Prompt C x w y → (M : OneMessage C y d m z)
@@ -126,7 +141,8 @@ module _ (C : Chart) where
   chain-rests A opens = A
   chain-rests A (next K M) = M .rests
 
-  chain-word : {x z : Config} {o : ℕ} {l : Snoc LogRecord} → Chain C x o l z → (w : Snoc Letter) × (strip w ≡ spelled o l) × Prompt C x w z
+  chain-word : {x z : Config} {o : ℕ} {l : Snoc LogRecord} → Chain C x o l z → (w : Snoc Letter)
+      × (strip w ≡ spelled o l) × Prompt C x w z
   chain-word opens = (ε, refl, begins)
   chain-word {o} (next {l} {y} {e} K M) =
       let T = chain-word K in
@@ -137,7 +153,8 @@ module _ (C : Chart) where
       )
 
   -- a chain is a prompt run
-  pub chain-prompt : {x z : Config} {o : ℕ} {l : Snoc LogRecord} → AtRest C (x .cut) → Chain C x o l z → Over C x (spelled o l) z
+  pub chain-prompt : {x z : Config} {o : ℕ} {l : Snoc LogRecord} → AtRest C (x .cut) → Chain C x o l z
+      → Over C x (spelled o l) z
   chain-prompt A K =
       let T = chain-word K in
       record { letters = T .0; spells = T .1; run = T .2; rests = chain-rests A K }
@@ -173,14 +190,24 @@ module _ (C : Chart) where
     -- after the message of the last record, silent advancements under way
     pub data Mid : Snoc LogRecord → Config → Type 0 where
       start : Mid ε x
-      moving : {l : Snoc LogRecord} {y : Config} {e : LogRecord} {z : Config} → Chain C x o l y → AtRest C (y .cut) → (s : ℕ) → Ready C (y .cut) s
+      moving : {l : Snoc LogRecord} {y : Config} {e : LogRecord} {z : Config} → Chain C x o l y → AtRest C (y .cut)
+          → (s : ℕ) → Ready C (y .cut) s
           → plain C s ≡ false → C .key s ≡ e .code → So (C .condition s (shift C (y .valuation) (e .time - lastOf o l)))
           → Silents C (successor C (wait C y (e .time - lastOf o l)) s) z → Mid (l ▸ e) z
 
     mid-rest : {l : Snoc LogRecord} {y : Config} → Mid l y → AtRest C (y .cut) → Chain C x o l y
     mid-rest start R = opens
     mid-rest (moving K A s r p k h S) R =
-        next K (record { waits = A; region = s; follows = r; is-message = p; fits = k; holds = h; silents = S; rests = R })
+        next K (record {
+          waits = A;
+          region = s;
+          follows = r;
+          is-message = p;
+          fits = k;
+          holds = h;
+          silents = S;
+          rests = R;
+        })
 
     -- after the delay before a message
     record Waiting (l : Snoc LogRecord) (d : ℕ) (z : Config) : Type 0 where
@@ -193,7 +220,8 @@ module _ (C : Chart) where
       mid : (l : Snoc LogRecord) → strip w ≡ spelled o l → Mid l z
       waiting : (l : Snoc LogRecord) (d : ℕ) → strip w ≡ spelled o l ▸ delay d → Waiting l d z
 
-    grow-mid : {l : Snoc LogRecord} {y : Config} → Mid l y → (s : ℕ) → Next C (y .cut) s → So (C .condition s (y .valuation))
+    grow-mid : {l : Snoc LogRecord} {y : Config} → Mid l y → (s : ℕ) → Next C (y .cut) s
+        → So (C .condition s (y .valuation))
         → Mid l (successor C y s)
     unfolding AtRest
     grow-mid start s N h = absurd (rest s (N .is-plain) (N .follows))
@@ -206,14 +234,21 @@ module _ (C : Chart) where
         subst (λ (v : Config). Mid (l ▸ e) v) (sym (Y .to))
         (moving (W .chain) (W .rests) (Y .region) (Y .follows) (Y .is-message) (Y .fits ∙ q) (Y .holds) no-more)
 
-    both-goes : {w : Snoc Letter} {y : Config} (u : Letter) {z : Config} → Both w y → AtRest C (y .cut) → u ≢ silent → Advance C y u z
+    both-goes : {w : Snoc Letter} {y : Config} (u : Letter) {z : Config} → Both w y → AtRest C (y .cut) → u ≢ silent
+        → Advance C y u z
         → Both (w ▸ u) z
     both-goes silent I B n a = absurd (n refl)
     both-goes {y} (delay d) I B n a = record {
       mid = λ l q. absurd (no-delay-end o l q);
       waiting = λ l f q.
           let e = delay-delay q in
-          record { from = y; chain = mid-rest (I .mid l (e .0)) B; rests = B; at = delayed d refl a .to ∙ ap {B = Config} (wait C y) (e .1) };
+          record {
+            from = y;
+            chain = mid-rest (I .mid l (e .0)) B;
+            rests = B;
+            at = delayed d refl a .to
+                ∙ ap {B = Config} (wait C y) (e .1);
+          };
     }
     both-goes (message k) {z} I B n a = record {
       mid = λ l q.
@@ -240,7 +275,8 @@ module _ (C : Chart) where
         }
     both (goes {w} {y} {u} {z} P B n a) = both-goes u (both P) B n a
 
-    pub prompt-mid : (l : Snoc LogRecord) {w : Snoc Letter} {z : Config} → strip w ≡ spelled o l → Prompt C x w z → Mid l z
+    pub prompt-mid : (l : Snoc LogRecord) {w : Snoc Letter} {z : Config} → strip w ≡ spelled o l → Prompt C x w z
+        → Mid l z
     prompt-mid l q P = both P .mid l q
 
     -- a prompt run is a chain

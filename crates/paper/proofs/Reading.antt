@@ -5,7 +5,8 @@ use mathlib.Core.Logic.{_≢_, inl, inr}
 use mathlib.Core.Bool.{false}
 use Prim.Native.Nat.{ℕ, _≤_, _<_}
 use lib.Dec.{eqb, ltb, leb}
-use borrow.Author.Tests.{eqb-true, eqb-false, eq-eqb, ne-eqb, ltb-false, leb-false, ltb-true, leb-true, lt-ltb, le-ltb, le-leb}
+use borrow.Author.Tests.{eqb-true, eqb-false, eq-eqb, ne-eqb, ltb-false, leb-false, ltb-true, leb-true, lt-ltb, le-ltb}
+use borrow.Author.Tests.{le-leb}
 use Rattle.base.specs.Lists.{Snoc, ε, _▸_}
 use Rattle.model.specs.Answers.{timeFalls, tooManyRecords, mostRecords}
 use Rattle.rounds.specs.Chart.{Chart, Accepted}
@@ -28,7 +29,8 @@ module _ (C : Chart) where
       (fun-ext (λ x. elim (split (ltb x (C .clocks))) [ inl r ↦ rw r | inr r ↦ rw r ]))
 
   -- feeding's first tests
-  feed-broken : (m : Monitor) (e : LogRecord) → m .tally .broken .at ≢ 0 → feed C m e ≡ record { answer = brokenAt (m .tally .broken .at) (m .tally .broken .reason); next = m }
+  feed-broken : (m : Monitor) (e : LogRecord) → m .tally .broken .at ≢ 0
+      → feed C m e ≡ record { answer = brokenAt (m .tally .broken .at) (m .tally .broken .reason); next = m }
   unfolding feed
   feed-broken m e h = rw (ne-eqb (m .tally .broken .at) 0 h)
 
@@ -37,13 +39,20 @@ module _ (C : Chart) where
   unfolding feed
   feed-falls m e b h = rw (eq-eqb (m .tally .broken .at) 0 b, lt-ltb (e .time) (m .tally .now) h)
 
-  feed-overflows : (m : Monitor) (e : LogRecord) → m .tally .broken .at ≡ 0 → m .tally .now ≤ e .time → mostRecords ≤ m .tally .records
+  feed-overflows : (m : Monitor) (e : LogRecord) → m .tally .broken .at ≡ 0 → m .tally .now ≤ e .time
+      → mostRecords ≤ m .tally .records
       → feed C m e ≡ record { answer = refused tooManyRecords; next = m }
   unfolding feed
-  feed-overflows m e b h r = rw (eq-eqb (m .tally .broken .at) 0 b, le-ltb (e .time) (m .tally .now) h, le-leb mostRecords (m .tally .records) r)
+  feed-overflows m e b h r =
+      rw (
+        eq-eqb (m .tally .broken .at) 0 b,
+        le-ltb (e .time) (m .tally .now) h,
+        le-leb mostRecords (m .tally .records) r,
+      )
 
 module _ (C : Chart) (A : Accepted C) where
-  read-one : (fs : Snoc LogRecord) (ans : Snoc Answer) (m : Monitor) (e : LogRecord) → Fit C m → Read C fs ans (statusOf C m)
+  read-one : (fs : Snoc LogRecord) (ans : Snoc Answer) (m : Monitor) (e : LogRecord) → Fit C m
+      → Read C fs ans (statusOf C m)
       → Read C (fs ▸ e) (ans ▸ feed C m e .answer) (statusOf C (feed C m e .next))
   read-one fs ans m e F R = elim (split (eqb (m .tally .broken .at) 0)) [
     | inl b ↦
@@ -63,7 +72,9 @@ module _ (C : Chart) (A : Accepted C) where
                     takes e R b′ t′ r′ (given C A m e (record { fit = F; unbroken = b′; forward = t′; room = r′ }))
               ]
         ]
-    | inr b ↦ rw (feed-broken C m e (eqb-false (m .tally .broken .at) 0 b)) (stays-broken e R (eqb-false (m .tally .broken .at) 0 b))
+    | inr b ↦
+        rw (feed-broken C m e (eqb-false (m .tally .broken .at) 0 b))
+        (stays-broken e R (eqb-false (m .tally .broken .at) 0 b))
   ]
 
   pub all-given : (fs : Snoc LogRecord) → Read C fs (answers C fs) (statusOf C (after C fs))
@@ -79,7 +90,8 @@ module _ (C : Chart) (A : Accepted C) where
       → feed C (after C fs) e ≡ record { answer = a; next = after C fs } → ReadsAs (fs ▸ e) (ans ▸ a) x
   unfolding after answers
   unchanged fs ans x e a I p = (
-    ap₂ {C = Snoc Answer} (λ (l : Snoc Answer) (k : Answer). l ▸ k) (I .0) (sym (ap {B = Answer} (λ (u : Step). u .answer) p)),
+    ap₂ {C = Snoc Answer} (λ (l : Snoc Answer) (k : Answer). l ▸ k) (I .0)
+        (sym (ap {B = Answer} (λ (u : Step). u .answer) p)),
     I .1 ∙ sym (ap {B = Status} (λ (u : Step). statusOf C (u .next)) p),
   )
 
@@ -101,12 +113,14 @@ module _ (C : Chart) (A : Accepted C) where
       (feed-overflows C (after C fs) e (rw (I .1) at b) (rw (I .1) at t) (rw (I .1) at r))
   reads-as (stays-broken {fs} {ans} {x} e R b) =
       let I : ReadsAs fs ans x = reads-as R in
-      unchanged fs ans x e (brokenAt (x .tally .broken .at) (x .tally .broken .reason)) I (rw (I .1) (feed-broken C (after C fs) e (rw (I .1) at b)))
+      unchanged fs ans x e (brokenAt (x .tally .broken .at) (x .tally .broken .reason)) I
+      (rw (I .1) (feed-broken C (after C fs) e (rw (I .1) at b)))
 
   pub all-only : (fs : Snoc LogRecord) (ans : Snoc Answer) (x : Status) → Read C fs ans x → ReadsAs fs ans x
   all-only fs ans x R = reads-as R
 
-  at-last-of : (last : Last) (rs : Snoc LogRecord) (m : Monitor) → AtLast C last rs m → StatusAtLast C last rs (statusOf C m)
+  at-last-of : (last : Last) (rs : Snoc LogRecord) (m : Monitor) → AtLast C last rs m
+      → StatusAtLast C last rs (statusOf C m)
   unfolding AtLast StatusAtLast configAt configOf
   at-last-of (unended o s) rs m T = (
     T .no-break,

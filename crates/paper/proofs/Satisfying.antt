@@ -14,7 +14,9 @@ use Rattle.rounds.specs.Chart.{Chart, Accepted}
 use Rattle.rounds.specs.Rows.{Ready, Full, PrechartDone}
 use Rattle.base.proofs.Bools.{split, clash}
 use Rattle.base.proofs.Facts.{count-falls}
-use Rattle.paper.specs.Runs.{Config, Letter, message, silent, delay, initial, _·_, add, synchronization, silent-advancement, premature-termination, time-delay, Run, here, step, Maximal, Satisfies, Prompt, begins, settles, goes}
+use Rattle.paper.specs.Runs.{Config, Letter, message, silent, delay, initial, _·_, add, synchronization}
+use Rattle.paper.specs.Runs.{silent-advancement, premature-termination, time-delay, Run, here, step, Maximal}
+use Rattle.paper.specs.Runs.{Satisfies, Prompt, begins, settles, goes}
 use Rattle.paper.specs.Demand2.{SatisfiesExactly}
 use Rattle.paper.proofs.Prompts.{prompt-run}
 use Rattle.paper.proofs.Words.{run-is-cut, full-completes, done-satisfies}
@@ -48,7 +50,8 @@ counted (suc k) t i h p = elim (split (t k)) [
 ]
 
 -- with a member below n and every number from n on, more than what lies from n on
-counted-from : (k n : ℕ) (t : ℕ → Bool) → n ≤ k → 1 ≤ countBelow n t → ((j : ℕ) → n ≤ j → j < k → So (t j)) → k < n + countBelow k t
+counted-from : (k n : ℕ) (t : ℕ → Bool) → n ≤ k → 1 ≤ countBelow n t → ((j : ℕ) → n ≤ j → j < k → So (t j))
+    → k < n + countBelow k t
 counted-from zero n t h m u = let z : n ≡ 0 = omega arith in absurd (omega (arith, ap (λ (j : ℕ). countBelow j t) z, m))
 counted-from (suc k) n t h m u = elim (ℕ-discrete n (suc k)) [
   | yes e ↦ let z : 1 ≤ countBelow (suc k) t = rw e at m in omega (arith, z, e)
@@ -64,13 +67,15 @@ counted-rest zero n t h u = omega arith
 counted-rest (suc k) n t h u = elim (split (t k)) [
   | inl q ↦ elim (ℕ-discrete n (suc k)) [
     | yes e ↦ clash q (u k (omega arith))
-    | no e ↦ let r : n + countBelow k t ≤ k = counted-rest k n t (omega arith) u in rw q (let z : n + suc (countBelow k t) ≤ suc k = omega arith in z)
+    | no e ↦ let r : n + countBelow k t ≤ k = counted-rest k n t (omega arith) u in
+        rw q (let z : n + suc (countBelow k t) ≤ suc k = omega arith in z)
   ]
   | inr q ↦ elim (ℕ-discrete n (suc k)) [
     | yes e ↦
         let r : k + countBelow k t ≤ k = counted-rest k k t (omega arith) (λ j l. u j (omega arith)) in
         rw q (let z : n + countBelow k t ≤ suc k = omega arith in z)
-    | no e ↦ let r : n + countBelow k t ≤ k = counted-rest k n t (omega arith) u in rw q (let z : n + countBelow k t ≤ suc k = omega arith in z)
+    | no e ↦ let r : n + countBelow k t ≤ k = counted-rest k n t (omega arith) u in
+        rw q (let z : n + countBelow k t ≤ suc k = omega arith in z)
   ]
 ]
 
@@ -97,7 +102,8 @@ module _ (C : Chart) where
       let a : C .regions ≤ left (y .cut) + heard w = run-adds R in
       let b : suc (left (add C (y .cut) s)) ≡ left (y .cut) = left-falls (y .cut) s F in
       omega arith
-  run-adds (step {w} {y} R (premature-termination s F p h)) = let z : left (λ i. false) ≡ C .regions = left-none in omega arith
+  run-adds (step {w} {y} R (premature-termination s F p h)) = let z : left (λ i. false) ≡ C .regions = left-none in
+      omega arith
   run-adds (step R (time-delay d s F h)) = run-adds R
 
   -- a prompt run adds just as many
@@ -124,12 +130,15 @@ module _ (C : Chart) where
       let b : C .regions ≤ left (S .end .cut) + heard (S .prefix) = run-adds (S .run) in
       let c : n + left (S .end .cut) ≤ C .regions
       = counted-rest (C .regions) n (λ i. not (S .end .cut i)) h (λ j l. ap not (S .maximal j .1 l)) in
-      let d : heard (S .prefix) ≤ heard w = subst (λ (u : Snoc Letter). heard (S .prefix) ≤ heard u) (sym (S .parts)) (heard-more (S .prefix) (S .rest)) in
+      let d : heard (S .prefix) ≤ heard w = subst (λ (u : Snoc Letter). heard (S .prefix) ≤ heard u) (sym (S .parts))
+      (heard-more (S .prefix) (S .rest)) in
       omega arith
 
-  pub satisfied-exactly : (A : Accepted C) {w : Snoc Letter} {z : Config} → Prompt C initial w z → SatisfiesExactly C w (z .cut)
+  pub satisfied-exactly : (A : Accepted C) {w : Snoc Letter} {z : Config} → Prompt C initial w z
+      → SatisfiesExactly C w (z .cut)
   unfolding Full PrechartDone
-  satisfied-exactly A {w} {z} P = record { prechart = (done, done-satisfies C A R); chart = (whole, λ F. full-completes C R F .satisfies) }
+  satisfied-exactly A {w} {z} P =
+      record { prechart = (done, done-satisfies C A R); chart = (whole, λ F. full-completes C R F .satisfies) }
     where
       R : Run C initial w z
       R = prompt-run C P

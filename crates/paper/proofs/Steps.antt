@@ -10,10 +10,13 @@ use native.Mathlib.Omega.{arith}
 use lib.Dec.{eqb, ltb}
 use Rattle.rounds.specs.Chart.{Chart, Accepted}
 use Rattle.rounds.specs.Rows.{LogRecord, chartMessage, Ready, values, opened}
-use Rattle.rounds.specs.Machine.{Place, Move, stuck, fails, rests, readyPlain, readyFor, unfired, fire, settle, offer, opening}
+use Rattle.rounds.specs.Machine.{Place, Move, stuck, fails, rests, readyPlain, readyFor, unfired, fire, settle, offer}
+use Rattle.rounds.specs.Machine.{opening}
 use Rattle.base.proofs.Bools.{split}
 use Rattle.base.proofs.Facts.{found}
-use Rattle.rounds.proofs.Machine.{unfired-falls, chart-nonzero, has-message, offer-stuck, offer-fails, offer-fires, LowestPlain, plain-some, plain-is, plain-none, plain-is-none, for-some, for-none, for-is}
+use Rattle.rounds.proofs.Machine.{unfired-falls, chart-nonzero, has-message, offer-stuck, offer-fails, offer-fires}
+use Rattle.rounds.proofs.Machine.{LowestPlain, plain-some, plain-is, plain-none, plain-is-none, for-some, for-none}
+use Rattle.rounds.proofs.Machine.{for-is}
 use Rattle.paper.specs.Runs.{Config, initial, add, reset, shift, Next, AtRest, configAt}
 use Rattle.paper.proofs.Parts.{Silents, no-more, one, OneMessage, Failure, at-once, later}
 
@@ -21,7 +24,8 @@ use Rattle.paper.proofs.Parts.{Silents, no-more, one, OneMessage, Failu
 module _ (C : Chart) where
   -- firing a region is the source's step
   fire-config : (t : ℕ) (p : Place) (s : ℕ)
-      → configAt C t (fire C t p s) ≡ record { cut = add C (p .fired) s; valuation = reset C s (values C t (p .clocks)) }
+      → configAt C t
+      (fire C t p s) ≡ record { cut = add C (p .fired) s; valuation = reset C s (values C t (p .clocks)) }
   unfolding configAt fire add reset values
   fire-config t p s = ap {B = Config} (λ (v : ℕ → ℕ). record { cut = λ j. eqb j s || p .fired j; valuation = v })
       (fun-ext (λ x. elim (split (C .resets s x)) [
@@ -32,7 +36,8 @@ module _ (C : Chart) where
   -- a delay shifts the clocks
   pub shift-values : (t u : ℕ) (k : ℕ → ℕ) → ((c : ℕ) → k c ≤ t) → t ≤ u → shift C (values C t k) (u - t) ≡ values C u k
   unfolding shift values
-  shift-values t u k h l = fun-ext (λ x. elim (split (ltb x (C .clocks))) [ inl r ↦ rw r (omega (arith, h x)) | inr r ↦ rw r ])
+  shift-values t u k h l =
+      fun-ext (λ x. elim (split (ltb x (C .clocks))) [ inl r ↦ rw r (omega (arith, h x)) | inr r ↦ rw r ])
 
   -- a round opens in the initial configuration
   pub opening-config : (t : ℕ) → configAt C t (opening C t) ≡ initial
@@ -62,7 +67,8 @@ module _ (C : Chart) (A : Accepted C) where
     -- settling is silent advancements, to a cut at rest or to a region that fails
     Came : Move → Type 0
     Came stuck = ⊥
-    Came (fails i q) = Silents C x (configAt C t q) × Next C (q .fired) i × (C .condition i (values C t (q .clocks)) ≡ false)
+    Came (fails i q) =
+        Silents C x (configAt C t q) × Next C (q .fired) i × (C .condition i (values C t (q .clocks)) ≡ false)
     Came (rests q) = Silents C x (configAt C t q) × AtRest C (q .fired)
 
     settle-came : (k : ℕ) (p : Place) → Silents C x (configAt C t p) → unfired C (p .fired) ≤ k → Came (settle C t k p)
@@ -87,19 +93,22 @@ module _ (C : Chart) (A : Accepted C) where
     settle-none zero p n = refl
     settle-none (suc k) p n = rw n
 
-    settle-more : (k : ℕ) (p : Place) (i : ℕ) → readyPlain C (p .fired) ≡ some i → So (C .condition i (values C t (p .clocks)))
+    settle-more : (k : ℕ) (p : Place) (i : ℕ) → readyPlain C (p .fired) ≡ some i
+        → So (C .condition i (values C t (p .clocks)))
         → settle C t (suc k) p ≡ settle C t k (fire C t p i)
     unfolding settle
     settle-more k p i f c = rw (f, c)
 
-    settle-fails : (k : ℕ) (p : Place) (i : ℕ) → readyPlain C (p .fired) ≡ some i → C .condition i (values C t (p .clocks)) ≡ false
+    settle-fails : (k : ℕ) (p : Place) (i : ℕ) → readyPlain C (p .fired) ≡ some i
+        → C .condition i (values C t (p .clocks)) ≡ false
         → settle C t (suc k) p ≡ fails i p
     unfolding settle
     settle-fails k p i f c = rw (f, c)
 
     -- and the other way round
     Reached : Place → Config → Type 0
-    Reached p y = (q : Place) × (y ≡ configAt C t q) × (settle C t (unfired C (p .fired)) p ≡ settle C t (unfired C (q .fired)) q)
+    Reached p y =
+        (q : Place) × (y ≡ configAt C t q) × (settle C t (unfired C (p .fired)) p ≡ settle C t (unfired C (q .fired)) q)
 
     reach-one : (p : Place) (y : Config) (s : ℕ) → Reached p y → Next C (y .cut) s → So (C .condition s (y .valuation))
         → Reached p (record { cut = add C (y .cut) s; valuation = reset C s (y .valuation) })
@@ -107,9 +116,11 @@ module _ (C : Chart) (A : Accepted C) where
     reach-one p y s W N c =
         let q : Place = W .0 in
         let N′ : Next C (q .fired) s = subst (λ (z : Config). Next C (z .cut) s) (W .1) N in
-        let c′ : So (C .condition s (values C t (q .clocks))) = subst (λ (z : Config). So (C .condition s (z .valuation))) (W .1) c in (
+        let c′ : So (C .condition s (values C t (q .clocks))) = subst
+        (λ (z : Config). So (C .condition s (z .valuation))) (W .1) c in (
           fire C t q s,
-          ap {B = Config} (λ (z : Config). record { cut = add C (z .cut) s; valuation = reset C s (z .valuation) }) (W .1)
+          ap {B = Config} (λ (z : Config). record { cut = add C (z .cut) s; valuation = reset C s (z .valuation) })
+              (W .1)
               ∙ sym (fire-config C t q s),
           W .2 ∙ rw (← (unfired-falls C t q s (N′ .follows)))
               (settle-more (unfired C (fire C t q s .fired)) q s (of-next (q .fired) s N′) c′),
@@ -127,7 +138,8 @@ module _ (C : Chart) (A : Accepted C) where
     | inl n ↦ for-none C A (p .fired) e s n R k
     | inr f ↦ elim (split (C .condition (f .0) (values C (e .time) (p .clocks)))) [
       | inl c ↦ subst (Came (e .time) _) (sym (offer-fires C p e (f .0) (f .1) c) ∙ h) (settle-came (e .time)
-          (configAt C (e .time) (fire C (e .time) p (f .0))) (unfired C (fire C (e .time) p (f .0) .fired)) (fire C (e .time) p (f .0))
+          (configAt C (e .time) (fire C (e .time) p (f .0))) (unfired C (fire C (e .time) p (f .0) .fired))
+          (fire C (e .time) p (f .0))
           no-more (omega arith))
       | inr c ↦ not-stuck (sym (offer-fails C p e (f .0) (f .1) c) ∙ h)
     ]
@@ -137,7 +149,8 @@ module _ (C : Chart) (A : Accepted C) where
       not-stuck u = let z : _≡_ {A = ℕ} 0 1 = cc in omega arith
 
   -- where no region that follows the cut has the message, the machine finds none
-  pub of-unmatched : (p : Place) (e : LogRecord) → ((s : ℕ) → Ready C (p .fired) s → C .key s ≢ e .code) → offer C p e ≡ stuck
+  pub of-unmatched : (p : Place) (e : LogRecord) → ((s : ℕ) → Ready C (p .fired) s → C .key s ≢ e .code)
+      → offer C p e ≡ stuck
   of-unmatched p e h = elim (found (readyFor C (p .fired) e)) [
     | inl n ↦ offer-stuck C p e n
     | inr f ↦ let R = for-some C A (p .fired) e (f .0) (f .1) in absurd (h (f .0) (R .0) (R .1))
@@ -157,7 +170,8 @@ module _ (C : Chart) (A : Accepted C) where
     abbrev lastAfter : ℕ → Config
     lastAfter m = record { cut = add C (p .fired) m; valuation = reset C m (values C (e .time) (p .clocks)) }
 
-    fired-came : (m : ℕ) → Came (e .time) (lastAfter m) (settle C (e .time) (unfired C (fire C (e .time) p m .fired)) (fire C (e .time) p m))
+    fired-came : (m : ℕ) → Came (e .time) (lastAfter m)
+        (settle C (e .time) (unfired C (fire C (e .time) p m .fired)) (fire C (e .time) p m))
     fired-came m = settle-came (e .time) (lastAfter m) (unfired C (fire C (e .time) p m .fired)) (fire C (e .time) p m)
         (rw (fire-config C (e .time) p m) no-more) (omega arith)
 
@@ -209,12 +223,15 @@ module _ (C : Chart) (A : Accepted C) where
                 let S : Came (e .time) (lastAfter (f .0)) (fails i q)
                 = subst (Came (e .time) _) (sym (offer-fires C p e (f .0) (f .1) c) ∙ h) (fired-came (f .0)) in
                 later (f .0) (R .0) (has-message C e (f .0) chart (R .1)) (R .1) (rw shifted c)
-                (record { cut = q .fired; valuation = values C (e .time) (q .clocks) }) (rw shifted (S .0)) (S .1) (S .2)
+                (record { cut = q .fired; valuation = values C (e .time) (q .clocks) }) (rw shifted (S .0)) (S .1)
+                (S .2)
             | inr c ↦
                 let u : fails (f .0) p ≡ fails i q = sym (offer-fails C p e (f .0) (f .1) c) ∙ h in
-                subst (λ (y : Place). Fails i (record { cut = y .fired; valuation = values C (e .time) (y .clocks) })) (same-place u)
+                subst (λ (y : Place). Fails i (record { cut = y .fired; valuation = values C (e .time) (y .clocks) }))
+                (same-place u)
                 (subst (λ (v : ℕ → ℕ). Fails i (record { cut = p .fired; valuation = v })) shifted
-                (at-once (rw (same-region u) at (R .0)) (rw (same-region u) at (R .1)) (rw shifted (rw (same-region u) at c))))
+                (at-once (rw (same-region u) at (R .0)) (rw (same-region u) at (R .1))
+                (rw shifted (rw (same-region u) at c))))
           ]
     ]
       where
@@ -228,9 +245,12 @@ module _ (C : Chart) (A : Accepted C) where
         same-region u = cc
 
     -- after region m, silent advancements are settling
-    reached : (m : ℕ) {y : Config} → Silents C (record { cut = add C (p .fired) m; valuation = reset C m later-values }) y
+    reached : (m : ℕ) {y : Config} → Silents C
+        (record { cut = add C (p .fired) m; valuation = reset C m later-values }) y
         → Reached (e .time) (lastAfter m) (fire C (e .time) p m) y
-    reached m S = silents-reach (e .time) (lastAfter m) (fire C (e .time) p m) (sym (fire-config C (e .time) p m)) (rw shifted at S)
+    reached m S =
+        silents-reach (e .time) (lastAfter m) (fire C (e .time) p m) (sym (fire-config C (e .time) p m))
+        (rw shifted at S)
 
     settles : (m : ℕ) → Ready C (p .fired) m → C .key m ≡ e .code → So (C .condition m later-values)
         → offer C p e ≡ settle C (e .time) (unfired C (fire C (e .time) p m .fired)) (fire C (e .time) p m)
@@ -243,9 +263,11 @@ module _ (C : Chart) (A : Accepted C) where
     of-steps z M =
         let m : ℕ = M .region in
         let W : Reached (e .time) (lastAfter m) (fire C (e .time) p m) z = reached m (M .silents) in
-        let n : readyPlain C (W .0 .fired) ≡ none = of-rest (W .0 .fired) (subst (λ (y : Config). AtRest C (y .cut)) (W .1) (M .rests)) in (
+        let n : readyPlain C (W .0 .fired) ≡ none = of-rest (W .0 .fired)
+        (subst (λ (y : Config). AtRest C (y .cut)) (W .1) (M .rests)) in (
           W .0,
-          settles m (M .follows) (M .fits) (M .holds) ∙ W .2 ∙ settle-none (e .time) (lastAfter m) (unfired C (W .0 .fired)) (W .0) n,
+          settles m (M .follows) (M .fits) (M .holds) ∙ W .2
+              ∙ settle-none (e .time) (lastAfter m) (unfired C (W .0 .fired)) (W .0) n,
           W .1,
         )
 
@@ -266,6 +288,7 @@ module _ (C : Chart) (A : Accepted C) where
         = subst (λ (z : Config). C .condition i (z .valuation) ≡ false) (W .1) f in (
           q,
           settles m R k h ∙ W .2 ∙ rw (← (unfired-falls C (e .time) q i (N′ .follows)))
-              (settle-fails (e .time) (lastAfter m) (unfired C (fire C (e .time) q i .fired)) q i (of-next (q .fired) i N′) f′),
+              (settle-fails (e .time) (lastAfter m) (unfired C (fire C (e .time) q i .fired)) q i
+              (of-next (q .fired) i N′) f′),
           W .1,
         )

@@ -11,16 +11,22 @@ use borrow.Author.Tests.{eq-eqb, ltb-false, le-ltb, lt-leb}
 use Rattle.model.specs.Answers.{mostRecords}
 use Rattle.rounds.specs.Chart.{Chart, Accepted}
 use Rattle.rounds.specs.Rows.{LogRecord, chartMessage, Full, PrechartDone, values}
-use Rattle.rounds.specs.Feeds.{noReadyRegion, conditionFails, Answer, refused, brokenAt, keptNow, droppedNow, entered, moved, quiet}
-use Rattle.rounds.specs.Machine.{Place, Move, stuck, fails, rests, offer, Monitor, Step, full, prechartDone, goOn, keepRound, dropRound, breakRound, conclude, accept, feed, Fit}
+use Rattle.rounds.specs.Feeds.{noReadyRegion, conditionFails, Answer, refused, brokenAt, keptNow, droppedNow, entered}
+use Rattle.rounds.specs.Feeds.{moved, quiet}
+use Rattle.rounds.specs.Machine.{Place, Move, stuck, fails, rests, offer, Monitor, Step, full, prechartDone, goOn}
+use Rattle.rounds.specs.Machine.{keepRound, dropRound, breakRound, conclude, accept, feed, Fit}
 use Rattle.base.proofs.Bools.{split}
 use Rattle.base.proofs.Facts.{all-of}
 use Rattle.rounds.proofs.Machine.{full-true, full-false, done-true, done-false, done-is, done-is-not}
 use Rattle.paper.specs.Runs.{Config, wait, AtRest, Over, configAt}
-use Rattle.paper.specs.Taken.{Status, onward, keeping, dropping, breaking, wordOf, Unmatched, Taken, passes, moves, enters, keeps, fails-cold, fails-hot, unmatched-prechart, unmatched-main, caseOf, statusOf, Acceptable}
+use Rattle.paper.specs.Taken.{Status, onward, keeping, dropping, breaking, wordOf, Unmatched, Taken, passes}
+use Rattle.paper.specs.Taken.{moves, enters, keeps, fails-cold, fails-hot, unmatched-prechart, unmatched-main}
+use Rattle.paper.specs.Taken.{caseOf, statusOf, Acceptable}
 use Rattle.paper.proofs.Parts.{Failure}
-use Rattle.paper.proofs.Steps.{shift-values, opening-config, stuck-of, of-unmatched, steps-of, failure-of, of-steps, of-failure}
-use Rattle.paper.proofs.Turns.{one-over, over-one, one-chart, turn-of, fails-chart, terminates-of, blocked-of, terminates-fails, blocked-fails}
+use Rattle.paper.proofs.Steps.{shift-values, opening-config, stuck-of, of-unmatched, steps-of, failure-of}
+use Rattle.paper.proofs.Steps.{of-steps, of-failure}
+use Rattle.paper.proofs.Turns.{one-over, over-one, one-chart, turn-of, fails-chart, terminates-of, blocked-of}
+use Rattle.paper.proofs.Turns.{terminates-fails, blocked-fails}
 
 -- the machine's tests, time that passes, and how a status gives its monitor back
 module _ (C : Chart) where
@@ -32,22 +38,31 @@ module _ (C : Chart) where
   full-is-not f h = elim (split (full C f)) [ inl t ↦ absurd (h (full-true C f t)) | inr t ↦ t ]
 
   -- time that passes changes no reset moment
-  wait-config : (t u : ℕ) (p : Place) → ((c : ℕ) → p .clocks c ≤ t) → t ≤ u → wait C (configAt C t p) (u - t) ≡ configAt C u p
+  wait-config : (t u : ℕ) (p : Place) → ((c : ℕ) → p .clocks c ≤ t) → t ≤ u
+      → wait C (configAt C t p) (u - t) ≡ configAt C u p
   unfolding configAt
-  wait-config t u p h l = ap {B = Config} (λ (v : ℕ → ℕ). record { cut = p .fired; valuation = v }) (shift-values C t u (p .clocks) h l)
+  wait-config t u p h l =
+      ap {B = Config} (λ (v : ℕ → ℕ). record { cut = p .fired; valuation = v }) (shift-values C t u (p .clocks) h l)
 
   -- feeding's first tests let the record through
   accepts : (m : Monitor) (e : LogRecord) → Acceptable C m e → feed C m e ≡ accept C m e
   unfolding feed
-  accepts m e P = rw (eq-eqb (m .tally .broken .at) 0 (P .unbroken), le-ltb (e .time) (m .tally .now) (P .forward), lt-leb mostRecords (m .tally .records) (P .room))
+  accepts m e P =
+      rw (
+        eq-eqb (m .tally .broken .at) 0 (P .unbroken),
+        le-ltb (e .time) (m .tally .now) (P .forward),
+        lt-leb mostRecords (m .tally .records) (P .room),
+      )
 
   -- the clocks' values determine the reset moments
   same-clocks : (m m′ : Monitor) → Fit C m → Fit C m′ → m .tally .now ≡ m′ .tally .now
-      → values C (m .tally .now) (m .place .clocks) ≡ values C (m′ .tally .now) (m′ .place .clocks) → (c : ℕ) → m .place .clocks c ≡ m′ .place .clocks c
+      → values C (m .tally .now) (m .place .clocks) ≡ values C (m′ .tally .now) (m′ .place .clocks) → (c : ℕ)
+      → m .place .clocks c ≡ m′ .place .clocks c
   unfolding values
   same-clocks m m′ F F′ n v c = elim (split (ltb c (C .clocks))) [
     | inl r ↦
-        let w : m .tally .now - m .place .clocks c ≡ m′ .tally .now - m′ .place .clocks c = rw r at (ap {B = ℕ} (λ (f : ℕ → ℕ). f c) v) in
+        let w : m .tally .now - m .place .clocks c ≡ m′ .tally .now - m′ .place .clocks c = rw r at
+        (ap {B = ℕ} (λ (f : ℕ → ℕ). f c) v) in
         omega (arith, F .moments c, F′ .moments c)
     | inr r ↦ F .unused c (ltb-false c (C .clocks) r) ∙ sym (F′ .unused c (ltb-false c (C .clocks) r))
   ]
@@ -57,7 +72,8 @@ module _ (C : Chart) where
   same-monitor m m′ F F′ E =
       let v : values C (m .tally .now) (m .place .clocks) ≡ values C (m′ .tally .now) (m′ .place .clocks)
       = ap {B = ℕ → ℕ} (λ (x : Status). x .config .valuation) E in
-      let k : m .place .clocks ≡ m′ .place .clocks = fun-ext (same-clocks m m′ F F′ (ap {B = ℕ} (λ (x : Status). x .tally .now) E) v) in
+      let k : m .place .clocks ≡ m′ .place .clocks = fun-ext
+      (same-clocks m m′ F F′ (ap {B = ℕ} (λ (x : Status). x .tally .now) E) v) in
       λ i. record {
         place = record { fired = E i .config .cut; clocks = k i };
         tally = E i .tally;
@@ -116,9 +132,11 @@ module _ (C : Chart) (A : Accepted C) where
       unfolding conclude breakRound Unmatched configAt
       taken-stuck p = elim (split (prechartDone C (m .place .fired))) [
         | inl q ↦ rw q (subst
-            (λ (c : Config). Taken C before e (breaking before e noReadyRegion c) (brokenAt (suc (m .tally .records)) noReadyRegion)) waited
+            (λ (c : Config). Taken C before e (breaking before e noReadyRegion c)
+            (brokenAt (suc (m .tally .records)) noReadyRegion)) waited
             (unmatched-main h (stuck-of C A (m .place) e p) (done-true C (m .place .fired) q)))
-        | inr q ↦ rw q (taken-drop (unmatched-prechart h (stuck-of C A (m .place) e p) (done-false C (m .place .fired) q)))
+        | inr q ↦
+            rw q (taken-drop (unmatched-prechart h (stuck-of C A (m .place) e p) (done-false C (m .place .fired) q)))
       ]
 
       taken-fails : (i : ℕ) (q : Place) → offer C (m .place) e ≡ fails i q → IsTaken (conclude C m e (fails i q))
@@ -127,9 +145,13 @@ module _ (C : Chart) (A : Accepted C) where
           let F : Failure C start (e .time - m .tally .now) (e .code) i (configAt C (e .time) q)
           = failure-of C A (m .place) e (m .tally .now) (P .fit .moments) (P .forward) h i q p in
           elim (split (C .hot i)) [
-            | inl t ↦ rw t (fails-hot i (configAt C (e .time) q) (turn-of C before e at-rest F) (blocked-of C before e at-rest F t))
+            | inl t ↦
+                rw t (fails-hot i (configAt C (e .time) q) (turn-of C before e at-rest F)
+                (blocked-of C before e at-rest F t))
             | inr t ↦ rw t
-                (taken-drop (fails-cold i (configAt C (e .time) q) (turn-of C before e at-rest F) (terminates-of C before e at-rest F t)))
+                (taken-drop
+                (fails-cold i (configAt C (e .time) q) (turn-of C before e at-rest F)
+                (terminates-of C before e at-rest F t)))
           ]
 
       taken-rests : (q : Place) → offer C (m .place) e ≡ rests q → IsTaken (conclude C m e (rests q))
@@ -137,15 +159,18 @@ module _ (C : Chart) (A : Accepted C) where
       taken-rests q p =
           let z : Config = configAt C (e .time) q in
           let M : Over C start (wordOf C before e) z
-          = one-over C before e at-rest (steps-of C A (m .place) e (m .tally .now) (P .fit .moments) (P .forward) h q at-rest p) in
+          = one-over C before e at-rest
+          (steps-of C A (m .place) e (m .tally .now) (P .fit .moments) (P .forward) h q at-rest p) in
           elim (split (full C (q .fired))) [
             | inl t ↦ rw t (taken-keep (keeps z M (full-true C (q .fired) t)))
             | inr t ↦ elim (split (prechartDone C (m .place .fired))) [
               | inl u ↦ rw (t, u) (moves z M (full-false C (q .fired) t) (λ d. done-true C (m .place .fired) u))
               | inr u ↦ elim (split (prechartDone C (q .fired))) [
                 | inl w ↦ rw (t, u, w)
-                    (enters z M (full-false C (q .fired) t) (done-false C (m .place .fired) u) (done-true C (q .fired) w))
-                | inr w ↦ rw (t, u, w) (moves z M (full-false C (q .fired) t) (λ d. absurd (done-false C (q .fired) w d)))
+                    (enters z M (full-false C (q .fired) t) (done-false C (m .place .fired) u)
+                    (done-true C (q .fired) w))
+                | inr w ↦
+                    rw (t, u, w) (moves z M (full-false C (q .fired) t) (λ d. absurd (done-false C (q .fired) w d)))
               ]
             ]
           ]
@@ -174,7 +199,8 @@ module _ (C : Chart) (A : Accepted C) where
     unfolding dropRound
     is-drop = (rw (opening-config C (e .time)), refl)
 
-    is-on : (a : Answer) (q : Place) {z : Config} → z ≡ configAt C (e .time) q → Is (goOn C m e a q) (onward before e z) a
+    is-on : (a : Answer) (q : Place) {z : Config} → z ≡ configAt C (e .time) q
+        → Is (goOn C m e a q) (onward before e z) a
     unfolding goOn
     is-on a q p = (ap {B = Status} (onward before e) p, refl)
 
@@ -189,13 +215,16 @@ module _ (C : Chart) (A : Accepted C) where
     unfolding conclude
     concludes-moved q nf k = elim (split (prechartDone C (m .place .fired))) [
       | inl u ↦ rw (full-is-not C (q .fired) nf, u)
-      | inr u ↦ rw (full-is-not C (q .fired) nf, u, done-is-not C (q .fired) (λ d. done-false C (m .place .fired) u (k d)))
+      | inr u ↦
+          rw (full-is-not C (q .fired) nf, u, done-is-not C (q .fired) (λ d. done-false C (m .place .fired) u (k d)))
     ]
 
-    concludes-entered : (q : Place) → ¬ Full C (q .fired) → ¬ PrechartDone C (m .place .fired) → PrechartDone C (q .fired)
+    concludes-entered : (q : Place) → ¬ Full C (q .fired) → ¬ PrechartDone C (m .place .fired)
+        → PrechartDone C (q .fired)
         → conclude C m e (rests q) ≡ goOn C m e entered q
     unfolding conclude
-    concludes-entered q nf k d = rw (full-is-not C (q .fired) nf, done-is-not C (m .place .fired) k, done-is C (q .fired) d)
+    concludes-entered q nf k d =
+        rw (full-is-not C (q .fired) nf, done-is-not C (m .place .fired) k, done-is C (q .fired) d)
 
     concludes-kept : (q : Place) → Full C (q .fired) → conclude C m e (rests q) ≡ keepRound C m e
     unfolding conclude
@@ -260,12 +289,14 @@ module _ (C : Chart) (A : Accepted C) where
         let F = blocked-fails C before e at-rest T b in
         let W : Fails i y = fails-at i (F .0) in
         rw (W .is-conclude, F .1) (is-break conditionFails (W .place) (W .same-config))
-    is (unmatched-prechart h U n) = rw (accept-as h (of-unmatched C A (m .place) e U), done-is-not C (m .place .fired) n) is-drop
+    is (unmatched-prechart h U n) =
+        rw (accept-as h (of-unmatched C A (m .place) e U), done-is-not C (m .place .fired) n) is-drop
     is (unmatched-main h U d) = rw (accept-as h (of-unmatched C A (m .place) e U), done-is C (m .place .fired) d)
         (is-break noReadyRegion (m .place) waited)
 
     -- the answer says which case it is, with whether the machine found a region
-    pub numbered : {y : Status} {a : Answer} (T : Taken C before e y a) → caseOf C T ≡ caseFor (unplaceable (offer C (m .place) e)) a
+    pub numbered : {y : Status} {a : Answer} (T : Taken C before e y a)
+        → caseOf C T ≡ caseFor (unplaceable (offer C (m .place) e)) a
     unfolding caseFor unplaceable Unmatched configAt
     numbered (passes h) = refl
     numbered (moves z M nf k) = refl
@@ -280,8 +311,13 @@ module _ (C : Chart) (A : Accepted C) where
       → Taken C (statusOf C m) e (statusOf C (feed C m e .next)) (feed C m e .answer)
   given m e P = rw (accepts C m e P) (is-taken m e P)
 
-  pub only : (m : Monitor) (e : LogRecord) (P : Acceptable C m e) (y : Status) (a : Answer) (T : Taken C (statusOf C m) e y a)
+  pub only : (m : Monitor) (e : LogRecord) (P : Acceptable C m e) (y : Status) (a : Answer)
+      (T : Taken C (statusOf C m) e y a)
       → (y ≡ statusOf C (feed C m e .next)) × (a ≡ feed C m e .answer) × (caseOf C T ≡ caseOf C (given m e P))
   only m e P y a T =
-      let I : (y ≡ statusOf C (feed C m e .next)) × (a ≡ feed C m e .answer) = rw (accepts C m e P) (is m e P T) in
-      (I .0, I .1, numbered m e P T ∙ ap (caseFor (unplaceable (offer C (m .place) e))) (I .1) ∙ sym (numbered m e P (given m e P)))
+      let I : (y ≡ statusOf C (feed C m e .next)) × (a ≡ feed C m e .answer) = rw (accepts C m e P) (is m e P T) in (
+        I .0,
+        I .1,
+        numbered m e P T ∙ ap (caseFor (unplaceable (offer C (m .place) e))) (I .1)
+            ∙ sym (numbered m e P (given m e P)),
+      )

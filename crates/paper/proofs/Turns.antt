@@ -11,10 +11,12 @@ use Rattle.rounds.specs.Chart.{Chart}
 use Rattle.rounds.specs.Rows.{LogRecord, chartMessage, plain, Ready}
 use Rattle.base.proofs.Bools.{split, clash}
 use Rattle.rounds.proofs.Machine.{is-chart}
-use Rattle.paper.specs.Runs.{Config, Letter, message, delay, Advance, synchronization, silent-advancement, premature-termination, time-delay, by, Next, AtRest, begins, Over}
+use Rattle.paper.specs.Runs.{Config, Letter, message, delay, Advance, synchronization, silent-advancement}
+use Rattle.paper.specs.Runs.{premature-termination, time-delay, by, Next, AtRest, begins, Over}
 use Rattle.paper.specs.Taken.{Status, ticks, wordOf, Turn, of-message, of-plain, Terminates, Blocked}
 use Rattle.paper.proofs.Parts.{OneMessage, Failure, at-once, later, Chain, opens, next}
-use Rattle.paper.proofs.Prompts.{synchronizes, advances, terminates, goes-on, silents-prompt, chain-prompt, Mid, moving, prompt-mid, prompt-chain}
+use Rattle.paper.proofs.Prompts.{synchronizes, advances, terminates, goes-on, silents-prompt, chain-prompt, Mid}
+use Rattle.paper.proofs.Prompts.{moving, prompt-mid, prompt-chain}
 use Rattle.paper.proofs.Words.{some-one, terminated}
 
 module _ (C : Chart) where
@@ -22,21 +24,27 @@ module _ (C : Chart) where
   chain-empty opens = refl
 
   chain-one : {x z : Config} {o : ℕ} {e : LogRecord} → Chain C x o (ε ▸ e) z → OneMessage C x (e .time - o) (e .code) z
-  chain-one {z} {o} {e} (next K M) = subst (λ (y : Config). OneMessage C y (e .time - o) (e .code) z) (sym (chain-empty K)) M
+  chain-one {z} {o} {e} (next K M) =
+      subst (λ (y : Config). OneMessage C y (e .time - o) (e .code) z) (sym (chain-empty K)) M
 
   -- a region whose condition fails does not advance; a hot one does not terminate
-  no-step-by : {y z : Config} {u : Letter} (i : ℕ) → C .condition i (y .valuation) ≡ false → So (C .hot i) → (a : Advance C y u z)
+  no-step-by : {y z : Config} {u : Letter} (i : ℕ) → C .condition i (y .valuation) ≡ false → So (C .hot i)
+      → (a : Advance C y u z)
       → by C a ≢ some i
-  no-step-by {y} i f t (synchronization s R p h) q = clash (subst (λ (n : ℕ). So (C .condition n (y .valuation))) (some-one C q) h) f
-  no-step-by {y} i f t (silent-advancement s R p h) q = clash (subst (λ (n : ℕ). So (C .condition n (y .valuation))) (some-one C q) h) f
+  no-step-by {y} i f t (synchronization s R p h) q =
+      clash (subst (λ (n : ℕ). So (C .condition n (y .valuation))) (some-one C q) h) f
+  no-step-by {y} i f t (silent-advancement s R p h) q =
+      clash (subst (λ (n : ℕ). So (C .condition n (y .valuation))) (some-one C q) h) f
   no-step-by i f t (premature-termination s R k h) q = clash t (subst (λ (n : ℕ). C .hot n ≡ false) (some-one C q) k)
   no-step-by i f t (time-delay d s R h) q = absurd (let z : _≡_ {A = ℕ} 0 1 = cc in omega arith)
 
   module _ (x : Status) (e : LogRecord) (rest : AtRest C (x .config .cut)) where
-    pub one-over : {z : Config} → OneMessage C (x .config) (ticks C x e) (e .code) z → Over C (x .config) (wordOf C x e) z
+    pub one-over : {z : Config} → OneMessage C (x .config) (ticks C x e) (e .code) z
+        → Over C (x .config) (wordOf C x e) z
     one-over M = chain-prompt C rest (next opens M)
 
-    pub over-one : {z : Config} → Over C (x .config) (wordOf C x e) z → OneMessage C (x .config) (ticks C x e) (e .code) z
+    pub over-one : {z : Config} → Over C (x .config) (wordOf C x e) z
+        → OneMessage C (x .config) (ticks C x e) (e .code) z
     over-one P = chain-one (prompt-chain C (x .config) (x .tally .now) rest (ε ▸ e) P)
 
     -- at rest only regions with a message follow the cut
@@ -79,7 +87,8 @@ module _ (C : Chart) where
     blocked-of {i} F t = λ u z a. no-step-by i (failing F) t a
 
     -- and the other way round
-    mid-fails : {i : ℕ} {y : Config} → Mid C (x .config) (x .tally .now) rest (ε ▸ e) y → Next C (y .cut) i → C .condition i (y .valuation) ≡ false
+    mid-fails : {i : ℕ} {y : Config} → Mid C (x .config) (x .tally .now) rest (ε ▸ e) y → Next C (y .cut) i
+        → C .condition i (y .valuation) ≡ false
         → Fails i y
     mid-fails {i} {y} (moving K B s r p k h S) N f =
         subst (λ (v : Config). Failure C v (ticks C x e) (e .code) i y) (sym (chain-empty K)) (later s r p k h y S N f)
@@ -103,5 +112,9 @@ module _ (C : Chart) where
       | inl h ↦ absurd (moves-on T b h)
       | inr f ↦
           let F : Fails i y = fails-of T f in
-          elim (split (C .hot i)) [ inl t ↦ (F, t) | inr t ↦ let e = terminates C i (ready-of F) t f in absurd (b _ _ (e .0) (e .1)) ]
+          elim (split (C .hot i)) [
+            | inl t ↦
+                (F, t)
+            | inr t ↦ let e = terminates C i (ready-of F) t f in absurd (b _ _ (e .0) (e .1))
+          ]
     ]

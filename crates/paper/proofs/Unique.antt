@@ -8,24 +8,28 @@ use native.Mathlib.Omega.{arith}
 use Rattle.base.specs.Lists.{Snoc, ε, _▸_}
 use Rattle.rounds.specs.Chart.{Chart, Accepted}
 use Rattle.rounds.specs.Rows.{Ready}
-use Rattle.paper.specs.Runs.{Config, Letter, message, silent, delay, strip, successor, Advance, Next, AtRest, Prompt, begins, settles, goes, Over}
+use Rattle.paper.specs.Runs.{Config, Letter, message, silent, delay, strip, successor, Advance, Next, AtRest}
+use Rattle.paper.specs.Runs.{Prompt, begins, settles, goes, Over}
 use Rattle.paper.proofs.Prompts.{synced, delayed}
 use Rattle.paper.proofs.Words.{one-ready}
 
 module _ (C : Chart) where
   same-next : (c : ℕ → Bool) (s t : ℕ) → Next C c s → Next C c t → s ≡ t
-  same-next c s t N N′ = omega (arith, N .lowest t (N′ .is-plain) (N′ .follows), N′ .lowest s (N .is-plain) (N .follows))
+  same-next c s t N N′ =
+      omega (arith, N .lowest t (N′ .is-plain) (N′ .follows), N′ .lowest s (N .is-plain) (N .follows))
 
   -- silent letters only, from the word w and configuration z on
   data Tail (w : Snoc Letter) (z : Config) : Snoc Letter → Config → Type 0 where
     same : Tail w z w z
-    more : {v : Snoc Letter} {y : Config} → Tail w z v y → (s : ℕ) → Next C (y .cut) s → Tail w z (v ▸ silent) (successor C y s)
+    more : {v : Snoc Letter} {y : Config} → Tail w z v y → (s : ℕ) → Next C (y .cut) s
+        → Tail w z (v ▸ silent) (successor C y s)
 
   abbrev Equal : Snoc Letter → Config → Snoc Letter → Config → Type 0
   Equal w z v y = (w ≡ v) × (z ≡ y)
 
   same-tail : {w v : Snoc Letter} {z y : Config} → Equal w z v y → Tail w z v y
-  same-tail {w} {v} {z} {y} q = subst (λ (k : Snoc Letter). Tail w z k y) (q .0) (subst (λ (k : Config). Tail w z w k) (q .1) same)
+  same-tail {w} {v} {z} {y} q =
+      subst (λ (k : Snoc Letter). Tail w z k y) (q .0) (subst (λ (k : Config). Tail w z w k) (q .1) same)
 
   tail-rests : {w v : Snoc Letter} {z y : Config} → AtRest C (z .cut) → Tail w z v y → Equal w z v y
   unfolding AtRest
@@ -48,7 +52,8 @@ module _ (C : Chart) where
     | inr T′ ↦ inr (more T′ t M)
   ]
 
-  tail-through : {w v v′ : Snoc Letter} {z y y′ : Config} → Tail w z v y → Tail w z v′ y′ → AtRest C (y′ .cut) → Tail v y v′ y′
+  tail-through : {w v v′ : Snoc Letter} {z y y′ : Config} → Tail w z v y → Tail w z v′ y′ → AtRest C (y′ .cut)
+      → Tail v y v′ y′
   unfolding AtRest
   tail-through same T′ r = T′
   tail-through (more {v} {y} T s N) T′ r = elim (tail-first s N (tail-through T T′ r)) [
@@ -56,7 +61,8 @@ module _ (C : Chart) where
     | inr U ↦ U
   ]
 
-  same-tails : {w v v′ : Snoc Letter} {z y y′ : Config} → Tail w z v y → Tail w z v′ y′ → AtRest C (y .cut) → AtRest C (y′ .cut) → Equal v y v′ y′
+  same-tails : {w v v′ : Snoc Letter} {z y y′ : Config} → Tail w z v y → Tail w z v′ y′ → AtRest C (y .cut)
+      → AtRest C (y′ .cut) → Equal v y v′ y′
   same-tails T T′ r r′ = tail-rests r (tail-through T T′ r′)
 
   -- a run over no letter but silent ones, and one over a last letter
@@ -80,7 +86,8 @@ module _ (C : Chart) where
     advance : Advance C from u to
     tail : Tail (letters ▸ u) to w z
 
-  loud-last : (w : Snoc Letter) {v : Snoc Letter} (u : Letter) {t : Letter} → u ≢ silent → strip (w ▸ u) ≡ v ▸ t → (strip w ≡ v) × (u ≡ t)
+  loud-last : (w : Snoc Letter) {v : Snoc Letter} (u : Letter) {t : Letter} → u ≢ silent → strip (w ▸ u) ≡ v ▸ t
+      → (strip w ≡ v) × (u ≡ t)
   loud-last w (message k) n q = (cc, cc)
   loud-last w silent n q = absurd (n refl)
   loud-last w (delay d) n q = (cc, cc)
@@ -119,7 +126,8 @@ module _ (C : Chart) where
         let M = synced C k refl a in
         let N = synced C k refl b in
         M .to ∙ ap {B = Config} (successor C x)
-        (one-ready C A (x .cut) (M .region) (N .region) (M .follows) (N .follows) (M .is-message) (M .fits ∙ sym (N .fits))) ∙ sym (N .to)
+        (one-ready C A (x .cut) (M .region) (N .region) (M .follows) (N .follows) (M .is-message)
+        (M .fits ∙ sym (N .fits))) ∙ sym (N .to)
     one-step silent n a b = absurd (n refl)
     one-step (delay d) n a b = delayed C d refl a .to ∙ sym (delayed C d refl b .to)
 
@@ -130,8 +138,10 @@ module _ (C : Chart) where
     stripped (w ▸ silent) q = stripped w q
     stripped (w ▸ delay d) q = λ s. (let z : _≡_ {A = ℕ} 0 1 = cc in omega arith)
 
-    only-one : (v : Snoc Letter) {x z z′ : Config} (P : Over C x v z) (P′ : Over C x v z′) → Equal (P .letters) z (P′ .letters) z′
-    only-one ε P P′ = same-tails (only-silent (P .run) (P .spells)) (only-silent (P′ .run) (P′ .spells)) (P .rests) (P′ .rests)
+    only-one : (v : Snoc Letter) {x z z′ : Config} (P : Over C x v z) (P′ : Over C x v z′)
+        → Equal (P .letters) z (P′ .letters) z′
+    only-one ε P P′ =
+        same-tails (only-silent (P .run) (P .spells)) (only-silent (P′ .run) (P′ .spells)) (P .rests) (P′ .rests)
     only-one (v ▸ u) {x} {z} {z′} P P′ =
         let K = cut-last (P .run) (P .spells) in
         let L = cut-last (P′ .run) (P′ .spells) in
@@ -145,5 +155,6 @@ module _ (C : Chart) where
         (subst (λ (k : Snoc Letter). Tail (k ▸ u) (L .to) (P′ .letters) z′) (sym (I .0)) (L .tail)) in
         same-tails (K .tail) T (P .rests) (P′ .rests)
 
-    pub one-prompt : {x z z′ : Config} {w : Snoc Letter} (P : Over C x w z) (P′ : Over C x w z′) → (P .letters ≡ P′ .letters) × (z ≡ z′)
+    pub one-prompt : {x z z′ : Config} {w : Snoc Letter} (P : Over C x w z) (P′ : Over C x w z′)
+        → (P .letters ≡ P′ .letters) × (z ≡ z′)
     one-prompt {w} P P′ = only-one w P P′

@@ -13,8 +13,12 @@ use Rattle.base.specs.Lists.{Snoc, ε, _▸_}
 use Rattle.model.specs.Answers.{timeFalls}
 use Rattle.rounds.specs.Chart.{Chart, Accepted}
 use Rattle.rounds.specs.Rows.{LogRecord, Row, stands, chartMessage, chartMessages, Lawful, NoRow, Full, PrechartDone}
-use Rattle.rounds.specs.Feeds.{lastMoment, refusal, kept, dropped, broken, Outcome, Stretch, Last, unended, afterBreak, lastAfter, Answer, refused, brokenAt, keptNow, droppedNow, entered, moved, quiet, Onward, completes-prechart, fires, stays, FedOne, refuses, runs-on, ends, again, Fed, none-yet, one-more, Exactly}
-use Rattle.rounds.specs.Machine.{Place, Move, stuck, fails, rests, offer, prechartDone, full, Monitor, Step, goOn, keepRound, dropRound, breakRound, conclude, accept, feed, after}
+use Rattle.rounds.specs.Feeds.{lastMoment, refusal, kept, dropped, broken, Outcome, Stretch, Last, unended, afterBreak}
+use Rattle.rounds.specs.Feeds.{lastAfter, Answer, refused, brokenAt, keptNow, droppedNow, entered, moved, quiet, Onward}
+use Rattle.rounds.specs.Feeds.{completes-prechart, fires, stays, FedOne, refuses, runs-on, ends, again, Fed, none-yet}
+use Rattle.rounds.specs.Feeds.{one-more, Exactly}
+use Rattle.rounds.specs.Machine.{Place, Move, stuck, fails, rests, offer, prechartDone, full, Monitor, Step, goOn}
+use Rattle.rounds.specs.Machine.{keepRound, dropRound, breakRound, conclude, accept, feed, after}
 use Rattle.rounds.specs.Demand3.{Unbroken, AtLast}
 use Rattle.base.proofs.Bools.{split, clash}
 use Rattle.base.proofs.Facts.{found, none-some}
@@ -26,7 +30,8 @@ use Rattle.rounds.proofs.Endings.{ended, Comes, on, keeps, drops, breaks}
 use Rattle.rounds.proofs.Feeds.{feed-unbroken, comes-unbroken, agrees}
 use Rattle.rounds.proofs.Exactly.{exactly}
 use Rattle.rounds.proofs.Fitness.{after-fit}
-use Rattle.paper.specs.Runs.{Config, Letter, delay, message, initial, _·_, strip, IsCut, Maximal, Prompt, Over, configAt, configOf, lastOf, Rising, spelled}
+use Rattle.paper.specs.Runs.{Config, Letter, delay, message, initial, _·_, strip, IsCut, Maximal, Prompt, Over}
+use Rattle.paper.specs.Runs.{configAt, configOf, lastOf, Rising, spelled}
 use Rattle.paper.specs.Demand2.{CompletedBy, word, Reaches, Decided, Violated}
 use Rattle.paper.proofs.Parts.{Failure, at-once, later}
 use Rattle.paper.proofs.Prompts.{prompt-run, goes-on, silents-prompt}
@@ -92,9 +97,12 @@ module _ (C : Chart) (A : Accepted C) (o : ℕ) (s : Snoc LogRecord) (e : LogRec
 
   -- entered, by the rows
   abbrev EntersRow : Type 0
-  EntersRow = (r : Row) × Lawful C o (s ▸ e) r × (¬ Full C (stands r)) × PrechartDone C (stands r) × (¬ PrechartDone C (stands q))
+  EntersRow =
+      (r : Row) × Lawful C o (s ▸ e) r × (¬ Full C (stands r)) × PrechartDone C (stands r)
+      × (¬ PrechartDone C (stands q))
 
-  onward-entered : (r : Row) (a : Answer) → Lawful C o (s ▸ e) r → ¬ Full C (stands r) → Onward C q r a → (a ≡ entered) ↔ EntersRow
+  onward-entered : (r : Row) (a : Answer) → Lawful C o (s ▸ e) r → ¬ Full C (stands r) → Onward C q r a
+      → (a ≡ entered) ↔ EntersRow
   onward-entered r a L nf (completes-prechart undone done) = (λ p. (r, L, nf, done, undone), λ t. refl)
   onward-entered r a L nf (fires lt f) = (
     λ p. absurd (let z : _≡_ {A = ℕ} 0 1 = cc in omega arith),
@@ -151,11 +159,11 @@ not-below rs e h = elim (split (ltb (e .time) (lastMoment rs))) [
 ]
 
 -- a stretch that has just opened
-steady-behind : (x : Outcome) (rs : Snoc LogRecord) (e : LogRecord) → Steady (lastAfter x (e .time)) (rs ▸ e)
+steady-after : (x : Outcome) (rs : Snoc LogRecord) (e : LogRecord) → Steady (lastAfter x (e .time)) (rs ▸ e)
 unfolding Steady
-steady-behind kept rs e = (tt, refl)
-steady-behind dropped rs e = (tt, refl)
-steady-behind (broken k) rs e = tt
+steady-after kept rs e = (tt, refl)
+steady-after dropped rs e = (tt, refl)
+steady-after (broken k) rs e = tt
 
 module _ (C : Chart) where
   -- feed by feed
@@ -164,7 +172,7 @@ module _ (C : Chart) where
   unfolding Steady
   steady-one S (refuses k h) = S
   steady-one {rs} {e} S (runs-on h q r a M L nf O) = ((S .0, omega (arith, not-below rs e h, S .1)), refl)
-  steady-one {rs} {e} S (ends h x E) = steady-behind x rs e
+  steady-one {rs} {e} S (ends h x E) = steady-after x rs e
   steady-one S again = S
 
   steady : {fs : Snoc LogRecord} {ans : Snoc Answer} {rs : Snoc LogRecord} {es : Snoc Stretch} {last : Last}
@@ -207,20 +215,23 @@ module _ (C : Chart) where
           rw (T .has-fired, T .has-clocks) (row-is-prompt C A o s (T .row) (messages-rising C o s rising) (T .lawful))
 
       -- a record answered otherwise is not refused
-      not-refused : (e : LogRecord) (a : Answer) → ((k : ℕ) → refused k ≢ a) → feed C (after C fs) e .answer ≡ a → refusal rs e ≡ none
+      not-refused : (e : LogRecord) (a : Answer) → ((k : ℕ) → refused k ≢ a) → feed C (after C fs) e .answer ≡ a
+          → refusal rs e ≡ none
       not-refused e a n p = elim (found (refusal rs e)) [
         | inl h ↦ h
         | inr f ↦ absurd (n (f .0) (rw (feed-unbroken C (after C fs) e (agrees C A F .1), f .1) at p))
       ]
 
       exactly-here : (e : LogRecord) → refusal rs e ≡ none → Exactly C o s e (feed C (after C fs) e .answer)
-      exactly-here e h = exactly C A (record { ans = ans; accepted = rs; stretches = es; last = unended o s; fed = F }) o s e refl h
+      exactly-here e h =
+          exactly C A (record { ans = ans; accepted = rs; stretches = es; last = unended o s; fed = F }) o s e refl h
 
       pub kept-satisfies : (e : LogRecord) → feed C (after C fs) e .answer ≡ keptNow
           → (z : Config) × (P : Reaches C o (s ▸ e) z) × CompletedBy C (C .regions) (P .letters)
       unfolding configOf
       kept-satisfies e p =
-          let h : refusal rs e ≡ none = not-refused e keptNow (λ k u. absurd (let z : _≡_ {A = ℕ} 0 1 = cc in omega arith)) p in
+          let h : refusal rs e ≡ none = not-refused e keptNow
+          (λ k u. absurd (let z : _≡_ {A = ℕ} 0 1 = cc in omega arith)) p in
           let E = exactly-here e h .kept-exactly .0 p in
           let P = row-is-prompt C A o (s ▸ e) (E .0) (rising-on e h) (E .1) in
           (shown C o (s ▸ e) (E .0), P, full-completes C (prompt-run C (P .run)) (E .2))
@@ -228,13 +239,17 @@ module _ (C : Chart) where
       -- what an accepted record comes to
       comes-here : (e : LogRecord) → refusal rs e ≡ none
           → Comes C A o s e (stands-at .row) (stands-at .lawful) (after C fs) (feed C (after C fs) e)
-      comes-here e h = rw (feed-unbroken C (after C fs) e (agrees C A F .1), h) (comes-unbroken C A e (after C fs) stands-at)
+      comes-here e h =
+          rw (feed-unbroken C (after C fs) e (agrees C A F .1), h) (comes-unbroken C A e (after C fs) stands-at)
 
       pub entered-satisfies : (e : LogRecord) → feed C (after C fs) e .answer ≡ entered
-          → (P : Reaches C o (s ▸ e) (configAt C (e .time) (feed C (after C fs) e .next .place))) × CompletedBy C (C .prechart) (P .letters)
+          → (P : Reaches C o (s ▸ e) (configAt C (e .time) (feed C (after C fs) e .next .place)))
+          × CompletedBy C (C .prechart) (P .letters)
       entered-satisfies e p =
-          let h : refusal rs e ≡ none = not-refused e entered (λ k u. absurd (let z : _≡_ {A = ℕ} 0 1 = cc in omega arith)) p in
-          comes-enter C A o s e (stands-at .row) (stands-at .lawful) (rising-on e h) (after C fs) {v = feed C (after C fs) e} (comes-here e h) p
+          let h : refusal rs e ≡ none = not-refused e entered
+          (λ k u. absurd (let z : _≡_ {A = ℕ} 0 1 = cc in omega arith)) p in
+          comes-enter C A o s e (stands-at .row) (stands-at .lawful) (rising-on e h)
+          (after C fs) {v = feed C (after C fs) e} (comes-here e h) p
 
       -- rows and prompt runs of this stretch
       module _ (e : LogRecord) (h : refusal rs e ≡ none) where
@@ -257,17 +272,21 @@ module _ (C : Chart) where
         unfolding configOf
         before-row y P =
             let W = prompt-is-row C A o s y (messages-rising C o s rising) P in
-            ap {B = ℕ → Bool} (λ (x : Config). x .cut) (W .2) ∙ ap stands (one-row C A o s (W .0) (stands-at .row) (W .1) (stands-at .lawful))
+            ap {B = ℕ → Bool} (λ (x : Config). x .cut) (W .2)
+            ∙ ap stands (one-row C A o s (W .0) (stands-at .row) (W .1) (stands-at .lawful))
 
         pub decided : Decided C o s e (feed C (after C fs) e .answer)
         unfolding NoRow configOf
         decided =
             let X : Exactly C o s e (feed C (after C fs) e .answer) = exactly-here e h in
-            let Y = comes-entered C A o s e (stands-at .row) (stands-at .lawful) (rising-on e h) (after C fs) {v = feed C (after C fs) e} (comes-here e h) in
+            let Y = comes-entered C A o s e (stands-at .row) (stands-at .lawful) (rising-on e h)
+            (after C fs) {v = feed C (after C fs) e} (comes-here e h) in
             record {
               kept-exactly = (
-                λ p. let E = X .kept-exactly .0 p in (up (s ▸ e) (E .0), to-run (E .0) (E .1), maximal-of (to-run (E .0) (E .1)) (E .2)),
-                λ t. let W = to-row (t .0) (t .1) in X .kept-exactly .1 (W .0, W .1, rw (W .2) at (full-of (t .0) (t .2))),
+                λ p. let E = X .kept-exactly .0 p in
+                    (up (s ▸ e) (E .0), to-run (E .0) (E .1), maximal-of (to-run (E .0) (E .1)) (E .2)),
+                λ t. let W = to-row (t .0) (t .1) in
+                    X .kept-exactly .1 (W .0, W .1, rw (W .2) at (full-of (t .0) (t .2))),
               );
               runs-on-exactly = (
                 λ p.
@@ -291,7 +310,13 @@ module _ (C : Chart) where
                 λ t.
                     let W = to-row (t .0) (t .1) in
                     let b = before-row (t .4) (t .5) in
-                    Y .1 (W .0, W .1, λ f. t .2 (maximal-of (t .1) (rw (← (W .2)) at f)), rw (W .2) at (t .3), rw b at (t .6)),
+                    Y .1 (
+                      W .0,
+                      W .1,
+                      λ f. t .2 (maximal-of (t .1) (rw (← (W .2)) at f)),
+                      rw (W .2) at (t .3),
+                      rw b at (t .6),
+                    ),
               );
               dropped-or-broken-exactly = (
                 λ p z P. let W = to-row z P in X .dropped-or-broken-exactly .0 p (W .0) (W .1),
@@ -332,8 +357,10 @@ module _ (C : Chart) where
         main-region : (i : ℕ) → So (C .hot i) → ¬ (i < C .prechart)
         main-region i t l = clash t (A .cold-prechart i l)
 
-        begun-failing : So (chartMessage C e) → {i : ℕ} {y : Config} → Failure C at-message since (e .code) i y → So (C .hot i) → Begun
-        begun-failing c {i} (at-once R k f) t = begun-before c (main-follows C A (at-message .cut) i R (main-region i t))
+        begun-failing : So (chartMessage C e) → {i : ℕ} {y : Config} → Failure C at-message since (e .code) i y
+            → So (C .hot i) → Begun
+        begun-failing c {i} (at-once R k f) t =
+            begun-before c (main-follows C A (at-message .cut) i R (main-region i t))
         begun-failing c {i} (later j R p k g y S N f) t =
             let P = round-is-prompt in
             let T = silents-prompt C (goes-on C since j (P .run) (P .rests) R p g) S in
@@ -341,7 +368,8 @@ module _ (C : Chart) where
               letters = T .0;
               rest = ε;
               parts = ap (spelled o) (chartMessages-take C s e c)
-                  ∙ sym (T .1 ∙ ap₂ {C = Snoc Letter} (λ (w : Snoc Letter) (n : ℕ). w ▸ delay since ▸ message n) (P .spells) k);
+                  ∙ sym (T .1 ∙ ap₂ {C = Snoc Letter} (λ (w : Snoc Letter) (n : ℕ). w ▸ delay since ▸ message n)
+                  (P .spells) k);
               to = y;
               run = T .2;
               done = main-follows C A (y .cut) i (N .follows) (main-region i t);
@@ -361,12 +389,15 @@ module _ (C : Chart) where
         begun-move c (fails i q) p a = elim (split (C .hot i)) [
           | inl t ↦
               let R : Rising o (chartMessages C s ▸ e) = rw (chartMessages-take C s e c) at (rising-on e h) in
-              begun-failing c (failure-of C A (after C fs .place) e (lastOf o (chartMessages C s)) (λ x. held x (R .0)) (R .1) c i q p) t
+              begun-failing c
+              (failure-of C A (after C fs .place) e (lastOf o (chartMessages C s)) (λ x. held x (R .0))
+              (R .1) c i q p) t
           | inr t ↦ dropped-broken (rw t at a)
         ]
         begun-move c (rests q) p a = elim (split (full C (q .fired))) [
           | inl t ↦ kept-broken (rw t at a)
-          | inr t ↦ onward-broken (not (prechartDone C (after C fs .place .fired)) && prechartDone C (q .fired)) (rw t at a)
+          | inr t ↦
+              onward-broken (not (prechartDone C (after C fs .place .fired)) && prechartDone C (q .fired)) (rw t at a)
         ]
 
         begun : {n k : ℕ} → accept C (after C fs) e .answer ≡ brokenAt n k → Begun
@@ -389,6 +420,7 @@ module _ (C : Chart) where
               none-whole = decided e h .dropped-or-broken-exactly .0 (inr (_, _, a));
             }
 
-      pub broken-violates : (e : LogRecord) (n k : ℕ) → feed C (after C fs) e .answer ≡ brokenAt n k → Violated C o (s ▸ e)
+      pub broken-violates : (e : LogRecord) (n k : ℕ) → feed C (after C fs) e .answer ≡ brokenAt n k
+          → Violated C o (s ▸ e)
       broken-violates e n k a =
           violated e (not-refused e (brokenAt n k) (λ j u. absurd (let z : _≡_ {A = ℕ} 0 1 = cc in omega arith)) a) a

@@ -15,7 +15,9 @@ use Rattle.rounds.specs.Rows.{LogRecord, plain, Ready, Full, PrechartDone}
 use Rattle.rounds.specs.Machine.{prechartDone}
 use Rattle.base.proofs.Bools.{split, clash, or-left, or-right, either}
 use Rattle.rounds.proofs.Machine.{done-true, done-false}
-use Rattle.paper.specs.Runs.{Config, Letter, message, silent, delay, initial, strip, IsCut, add, shift, successor, wait, Advance, synchronization, silent-advancement, premature-termination, time-delay, by, Run, here, step, Maximal, Satisfies, Prompt, settles}
+use Rattle.paper.specs.Runs.{Config, Letter, message, silent, delay, initial, strip, IsCut, add, shift, successor}
+use Rattle.paper.specs.Runs.{wait, Advance, synchronization, silent-advancement, premature-termination}
+use Rattle.paper.specs.Runs.{time-delay, by, Run, here, step, Maximal, Satisfies, Prompt, settles}
 use Rattle.paper.specs.Taken.{Unmatched, Terminates}
 use Rattle.paper.specs.Demand2.{CompletedBy}
 use Rattle.paper.proofs.Parts.{Silents, no-more, one, OneMessage}
@@ -27,12 +29,14 @@ module _ (C : Chart) where
   delay-shifts c z d a = delayed C d refl a .to
 
   -- there is one only where some following region's condition would hold
-  pub no-delay : (c z : Config) (d : ℕ) → ((s : ℕ) → Ready C (c .cut) s → C .condition s (shift C (c .valuation) d) ≡ false)
+  pub no-delay : (c z : Config) (d : ℕ) →
+      ((s : ℕ) → Ready C (c .cut) s → C .condition s (shift C (c .valuation) d) ≡ false)
       → ¬ Advance C c (delay d) z
   no-delay c z d h a = let D = delayed C d refl a in clash (D .holds) (h (D .region) (D .follows))
 
   -- a step over a message is the synchronization of a region that has it
-  pub no-step : (c z : Config) (e : LogRecord) (d : ℕ) → Unmatched C c e → ¬ Advance C (wait C c d) (message (e .code)) z
+  pub no-step : (c z : Config) (e : LogRecord) (d : ℕ) → Unmatched C c e
+      → ¬ Advance C (wait C c d) (message (e .code)) z
   unfolding Unmatched
   no-step c z e d U a = let N = synced C (e .code) refl a in U (N .region) (N .follows) (N .fits)
 
@@ -40,7 +44,8 @@ module _ (C : Chart) where
       → ¬ Advance C c silent (successor C c i)
   no-advancement c i R f a = clash (advanced C i refl refl R a .holds) f
 
-  pub not-silent : (c : Config) (i : ℕ) → Ready C (c .cut) i → plain C i ≡ false → ¬ Advance C c silent (successor C c i)
+  pub not-silent : (c : Config) (i : ℕ) → Ready C (c .cut) i → plain C i ≡ false
+      → ¬ Advance C c silent (successor C c i)
   not-silent c i R p a = clash (advanced C i refl refl R a .is-plain) p
 
   pub no-message : (c z : Config) → ¬ Advance C c (message 0) z
@@ -58,14 +63,20 @@ module _ (C : Chart) where
   -- a successor's cut is not empty
   not-initial : (c : Config) (s : ℕ) → successor C c s ≡ initial → ⊥
   unfolding add
-  not-initial c s q = clash {b = eqb s s || c .cut s} (or-left (c .cut s) (eq-eqb s s refl)) (ap {B = Bool} (λ (z : Config). z .cut s) q)
+  not-initial c s q =
+      clash {b = eqb s s || c .cut s} (or-left (c .cut s) (eq-eqb s s refl))
+      (ap {B = Bool} (λ (z : Config). z .cut s) q)
 
-  ended : {c z : Config} {u : Letter} (i : ℕ) → u ≡ silent → z ≡ initial → (a : Advance C c u z) → by C a ≡ some i → Ended c i
+  ended : {c z : Config} {u : Letter} (i : ℕ) → u ≡ silent → z ≡ initial → (a : Advance C c u z) → by C a ≡ some i
+      → Ended c i
   ended i q e (synchronization s R p h) b = absurd (let z : _≡_ {A = ℕ} 0 1 = cc in omega arith)
   ended {c} i q e (silent-advancement s R p h) b = absurd (not-initial c s e)
   ended {c} i q e (premature-termination s R k h) b =
       let w : s ≡ i = some-one b in
-      record { cold = subst (λ (n : ℕ). C .hot n ≡ false) w k; fails = subst (λ (n : ℕ). C .condition n (c .valuation) ≡ false) w h }
+      record {
+        cold = subst (λ (n : ℕ). C .hot n ≡ false) w k;
+        fails = subst (λ (n : ℕ). C .condition n (c .valuation) ≡ false) w h;
+      }
   ended i q e (time-delay d s R h) b = absurd (let z : _≡_ {A = ℕ} 0 1 = cc in omega arith)
 
   pub terminated : (c : Config) (i : ℕ) → Terminates C c i → Ended c i
@@ -120,13 +131,15 @@ module _ (C : Chart) where
     nothing-more = refl;
   }
 
-  pub full-completes : {w : Snoc Letter} {z : Config} → Run C initial w z → Full C (z .cut) → CompletedBy C (C .regions) w
+  pub full-completes : {w : Snoc Letter} {z : Config} → Run C initial w z → Full C (z .cut)
+      → CompletedBy C (C .regions) w
   unfolding Full Maximal
   full-completes R F = ends-here (C .regions) R (λ i. (run-is-cut R .within i, F i))
 
   module _ (A : Accepted C) where
     -- of two regions with one message only one follows the cut
-    pub one-ready : (c : ℕ → Bool) (s t : ℕ) → Ready C c s → Ready C c t → plain C s ≡ false → C .key s ≡ C .key t → s ≡ t
+    pub one-ready : (c : ℕ → Bool) (s t : ℕ) → Ready C c s → Ready C c t → plain C s ≡ false → C .key s ≡ C .key t
+        → s ≡ t
     unfolding plain
     one-ready c s t R Q p k = elim (ℕ-discrete s t) [
       | yes q ↦ q
@@ -162,7 +175,8 @@ module _ (C : Chart) where
         ]
 
     -- silent advancements, from a cut that has at most just completed the prechart
-    silents-complete : {w : Snoc Letter} {y z : Config} → Prompt C initial w y → (PrechartDone C (y .cut) → Maximal C (C .prechart) (y .cut))
+    silents-complete : {w : Snoc Letter} {y z : Config} → Prompt C initial w y
+        → (PrechartDone C (y .cut) → Maximal C (C .prechart) (y .cut))
         → Silents C y z → PrechartDone C (z .cut)
         → (w′ : Snoc Letter) × (strip w′ ≡ strip w) × Prompt C initial w′ z × CompletedBy C (C .prechart) w′
     silents-complete {w} P exact no-more D = (w, refl, P, ends-here (C .prechart) (prompt-run C P) (exact D))
@@ -197,23 +211,27 @@ module _ (C : Chart) where
     ]
 
     -- a chart message that completes the prechart
-    pub message-completes : {w : Snoc Letter} {y z : Config} (d m : ℕ) → Prompt C initial w y → ¬ PrechartDone C (y .cut)
+    pub message-completes : {w : Snoc Letter} {y z : Config} (d m : ℕ) → Prompt C initial w y
+        → ¬ PrechartDone C (y .cut)
         → OneMessage C y d m z → PrechartDone C (z .cut)
-        → (w′ : Snoc Letter) × (strip w′ ≡ strip w ▸ delay d ▸ message m) × Prompt C initial w′ z × CompletedBy C (C .prechart) w′
+        → (w′ : Snoc Letter) × (strip w′ ≡ strip w ▸ delay d ▸ message m) × Prompt C initial w′ z
+        × CompletedBy C (C .prechart) w′
     message-completes {w} {y} d m P n M D =
         let T = silents-complete (synchronized C P M)
         (prechart-exact (y .cut) (M .region) (run-is-cut (prompt-run C P)) (M .follows) n) (M .silents) D in
         (T .0, T .1 ∙ ap {B = Snoc Letter} (λ (k : ℕ). strip w ▸ delay d ▸ message k) (M .fits), T .2, T .3)
 
     -- the message of a following region is that of no other
-    pub no-synchronization : (c z : Config) (i : ℕ) → Ready C (c .cut) i → plain C i ≡ false → C .condition i (c .valuation) ≡ false
+    pub no-synchronization : (c z : Config) (i : ℕ) → Ready C (c .cut) i → plain C i ≡ false
+        → C .condition i (c .valuation) ≡ false
         → ¬ Advance C c (message (C .key i)) z
     no-synchronization c z i R p f a =
         let N = synced C (C .key i) refl a in
         clash (rw (one-ready (c .cut) (N .region) i (N .follows) R (N .is-message) (N .fits)) at (N .holds)) f
 
     -- the step that completes the prechart
-    step-completes : {x z : Config} {u : Letter} → IsCut C (x .cut) → Advance C x u z → ¬ PrechartDone C (x .cut) → PrechartDone C (z .cut)
+    step-completes : {x z : Config} {u : Letter} → IsCut C (x .cut) → Advance C x u z → ¬ PrechartDone C (x .cut)
+        → PrechartDone C (z .cut)
         → Maximal C (C .prechart) (z .cut)
     unfolding Maximal PrechartDone
     step-completes {x} K (synchronization s R p h) n D = prechart-exact (x .cut) s K R n D
@@ -222,7 +240,8 @@ module _ (C : Chart) where
     step-completes K (time-delay d s R h) n D = absurd (n D)
 
     -- a run that has every prechart region has completed the prechart
-    pub done-satisfies : {w : Snoc Letter} {z : Config} → Run C initial w z → PrechartDone C (z .cut) → Satisfies C (C .prechart) w
+    pub done-satisfies : {w : Snoc Letter} {z : Config} → Run C initial w z → PrechartDone C (z .cut)
+        → Satisfies C (C .prechart) w
     unfolding Maximal PrechartDone
     done-satisfies here D = record {
       prefix = ε;

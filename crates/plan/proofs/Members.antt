@@ -22,9 +22,11 @@ gathered-below {t} {k} G y m = elim (decLt y k) [
 ]
 
 pub gathered-none : {t : ℕ → Bool} → Gathered t 0 0
-gathered-none {t} = record { has = λ y. contains-empty y ∙ ap (λ (b : Bool). cond b (t y) false) (sym (le-ltb y 0 (omega arith))) }
+gathered-none {t} =
+    record { has = λ y. contains-empty y ∙ ap (λ (b : Bool). cond b (t y) false) (sym (le-ltb y 0 (omega arith))) }
 
-pub gathered-next : {t : ℕ → Bool} {k set : ℕ} (r : ℕ) → Gathered t k set → r ≡ cond (t k) (inserted set k) set → Gathered t (k + 1) r
+pub gathered-next : {t : ℕ → Bool} {k set : ℕ} (r : ℕ) → Gathered t k set → r ≡ cond (t k) (inserted set k) set
+    → Gathered t (k + 1) r
 gathered-next {t} {k} {set} r G e = record {
   has = front-next false t k (contains set) (contains r) (G .has) (ap (λ (s : ℕ). contains s k) e ∙ own (t k) refl)
       (λ y q. ap (λ (s : ℕ). contains s y) e ∙ other y q (t k));

@@ -39,14 +39,16 @@ clipped {A} c f z e i = by (ltb i (c .count))
     by true = refl
     by false = e
 
-keys-show : (c : Chart) (keys : List ℕ) → Filled 0 (λ i. keyOf (regionAt c i .event)) (c .count) keys → (i : ℕ) → getD keys i 0 ≡ chartOf c .key i
+keys-show : (c : Chart) (keys : List ℕ) → Filled 0 (λ i. keyOf (regionAt c i .event)) (c .count) keys → (i : ℕ)
+    → getD keys i 0 ≡ chartOf c .key i
 keys-show c keys F i = F .is i ∙ clipped c (λ g. keyOf (g .event)) 0 refl i
 
 resets-show : (c : Chart) (resets : List ℕ) → Filled 0 (λ i. regionAt c i .resets) (c .count) resets
     → (i k : ℕ) → contains (getD resets i 0) k ≡ chartOf c .resets i k
 resets-show c resets F i k = ap (λ (s : ℕ). contains s k) (F .is i ∙ clipped c (λ g. g .resets) 0 refl i)
 
-hot-shows : (c : Chart) (hot : ℕ) → Gathered (λ i. regionAt c i .hot) (c .count) hot → (i : ℕ) → contains hot i ≡ chartOf c .hot i
+hot-shows : (c : Chart) (hot : ℕ) → Gathered (λ i. regionAt c i .hot) (c .count) hot → (i : ℕ)
+    → contains hot i ≡ chartOf c .hot i
 hot-shows c hot G i = G .has i ∙ clipped c (λ g. g .hot) false refl i
 
 plain-key : (e : Event) → isPlain e ≡ eqb (keyOf e) 0
@@ -62,7 +64,8 @@ plain-shows c plain G i h =
 above-shows : (c : Chart) (a b : ℕ) → contains (getD (aboveOf c) b 0) a ≡ chartOf c .above a b
 above-shows c a b = by (ltb b (c .count)) refl
   where
-    by : (t : Bool) → ltb b (c .count) ≡ t → contains (getD (aboveOf c) b 0) a ≡ (t && contains (getD (aboveOf c) b 0) a)
+    by : (t : Bool) → ltb b (c .count) ≡ t → contains (getD (aboveOf c) b 0) a ≡
+        (t && contains (getD (aboveOf c) b 0) a)
     by true e = refl
     by false e = ap (λ (s : ℕ). contains s a) (sets-beyond c b (ltb-false _ _ e)) ∙ contains-empty a
 
@@ -72,17 +75,21 @@ words-of c k = wordAt (regionAt c (k / mostTerms)) (k % mostTerms)
 
 -- the words of one region more
 module _ (c : Chart) (i : ℕ) where
-  one-word : (j k next : ℕ) {out : List ℕ} (v : ℕ) → j < mostTerms → k ≡ i * mostTerms + j → next ≡ k + 1 → Filled 0 (words-of c) k out → k < length out
+  one-word : (j k next : ℕ) {out : List ℕ} (v : ℕ) → j < mostTerms → k ≡ i * mostTerms + j → next ≡ k + 1
+      → Filled 0 (words-of c) k out → k < length out
       → v ≡ wordAt (regionAt c i) j → Filled 0 (words-of c) next (set out k v)
   one-word j k next v h a b F l e =
       let d : k / mostTerms ≡ i = omega arith in
       let m : k % mostTerms ≡ j = omega arith in
       rw b (filled-next v F l (rw (d, m) e))
 
-  words-next : {out : List ℕ} (v₀ v₁ v₂ v₃ : ℕ) → Filled 0 (words-of c) (i * mostTerms) out → i * mostTerms + 3 < length out
-      → v₀ ≡ wordAt (regionAt c i) 0 → v₁ ≡ wordAt (regionAt c i) 1 → v₂ ≡ wordAt (regionAt c i) 2 → v₃ ≡ wordAt (regionAt c i) 3
+  words-next : {out : List ℕ} (v₀ v₁ v₂ v₃ : ℕ) → Filled 0 (words-of c) (i * mostTerms) out
+      → i * mostTerms + 3 < length out
+      → v₀ ≡ wordAt (regionAt c i) 0 → v₁ ≡ wordAt (regionAt c i) 1 → v₂ ≡ wordAt (regionAt c i) 2
+      → v₃ ≡ wordAt (regionAt c i) 3
       → Filled 0 (words-of c) ((i + 1) * mostTerms)
-      (set (set (set (set out (i * mostTerms) v₀) (i * mostTerms + 1) v₁) (i * mostTerms + 2) v₂) (i * mostTerms + 3) v₃)
+      (set (set (set (set out (i * mostTerms) v₀) (i * mostTerms + 1) v₁) (i * mostTerms + 2) v₂)
+      (i * mostTerms + 3) v₃)
   words-next {out} v₀ v₁ v₂ v₃ F l e₀ e₁ e₂ e₃ =
       let k = i * mostTerms in
       one-word 3 (k + 3) ((i + 1) * mostTerms) v₃ (omega arith) refl (omega arith)
@@ -93,7 +100,8 @@ module _ (c : Chart) (i : ℕ) where
       (simp length-set (omega arith)) e₂)
       (simp length-set (omega arith)) e₃
 
-module _ (c : Chart) (w : WellFormed c) (numbers : (i j : ℕ) → i < mostRegions → j < mostTerms → termAt (regionAt c i) j .n < bias)
+module _ (c : Chart) (w : WellFormed c)
+    (numbers : (i j : ℕ) → i < mostRegions → j < mostTerms → termAt (regionAt c i) j .n < bias)
     (terms : List ℕ) (F : Filled 0 (words-of c) (c .count * mostTerms) terms) where
   -- the words of region i
   words-in : (i j : ℕ) → i < c .count → j < mostTerms → getD terms (i * mostTerms + j) 0 ≡ wordAt (regionAt c i) j
@@ -117,12 +125,14 @@ module _ (c : Chart) (w : WellFormed c) (numbers : (i j : ℕ) → i < mostRegio
           let t = fits-at c w i h .terms in
           let n : regionAt c i .count ≤ mostTerms = t .count in
           words-hold (regionAt c i) v (λ j. getD terms (i * mostTerms + j) 0) n (λ j l. words-in i j h l)
-          (λ j l. word-holds (c .clocks) (termAt (regionAt c i) j) (w .clocks) (t .used j l) (numbers i j (omega arith) (omega arith)) v)
+          (λ j l. word-holds (c .clocks) (termAt (regionAt c i) j) (w .clocks) (t .used j l)
+          (numbers i j (omega arith) (omega arith)) v)
           ∙ ap (λ (b : Bool). conditionHolds (cond b (regionAt c i) zeroRegion) v) (sym (lt-ltb i (c .count) h))
       by (no h) =
           let l : c .count ≤ i = omega arith in
           words-hold zeroRegion v (λ j. getD terms (i * mostTerms + j) 0) (omega arith)
-          (λ j k. words-beyond i j l ∙ sym (ap (λ (b : Bool). cond b (wordOf (termAt zeroRegion j)) 0) (le-ltb j 0 (omega arith))))
+          (λ j k. words-beyond i j l ∙ sym
+          (ap (λ (b : Bool). cond b (wordOf (termAt zeroRegion j)) 0) (le-ltb j 0 (omega arith))))
           (λ j k. absurd (omega arith))
           ∙ ap (λ (b : Bool). conditionHolds (cond b (regionAt c i) zeroRegion) v) (sym (le-ltb i (c .count) l))
 
@@ -130,11 +140,15 @@ module _ (c : Chart) (w : WellFormed c) (numbers : (i j : ℕ) → i < mostRegio
   words-named : (k : ℕ) → ¬ (getD terms k 0 ≡ 0) → InChart (c .clocks) (getD terms k 0)
   words-named k z = by (decLt k (c .count * mostTerms)) (decLt (k % mostTerms) (regionAt c (k / mostTerms) .count))
     where
-      by : Dec (k < c .count * mostTerms) → Dec (k % mostTerms < regionAt c (k / mostTerms) .count) → InChart (c .clocks) (getD terms k 0)
-      by (no h) d = let l : c .count * mostTerms ≤ k = omega arith in absurd (z (F .is k ∙ rw (le-ltb k (c .count * mostTerms) l)))
+      by : Dec (k < c .count * mostTerms) → Dec (k % mostTerms < regionAt c (k / mostTerms) .count)
+          → InChart (c .clocks) (getD terms k 0)
+      by (no h) d = let l : c .count * mostTerms ≤ k = omega arith in
+          absurd (z (F .is k ∙ rw (le-ltb k (c .count * mostTerms) l)))
       by (yes h) (no d) =
           let l : regionAt c (k / mostTerms) .count ≤ k % mostTerms = omega arith in
-          absurd (z (F .is k ∙ rw (lt-ltb k (c .count * mostTerms) h, le-ltb (k % mostTerms) (regionAt c (k / mostTerms) .count) l)))
+          absurd (z
+          (F .is k ∙ rw
+          (lt-ltb k (c .count * mostTerms) h, le-ltb (k % mostTerms) (regionAt c (k / mostTerms) .count) l)))
       by (yes h) (yes d) =
           let r : c .count ≤ mostRegions = w .room in
           let i : k / mostTerms < c .count = omega arith in
@@ -142,20 +156,24 @@ module _ (c : Chart) (w : WellFormed c) (numbers : (i j : ℕ) → i < mostRegio
           let e : getD terms k 0 ≡ wordOf (termAt (regionAt c (k / mostTerms)) (k % mostTerms)) = F .is k
           ∙ rw (lt-ltb k (c .count * mostTerms) h, lt-ltb (k % mostTerms) (regionAt c (k / mostTerms) .count) d) in
           subst (InChart (c .clocks)) (sym e)
-          (word-named (c .clocks) (termAt (regionAt c (k / mostTerms)) (k % mostTerms)) (w .clocks) (t .used (k % mostTerms) d)
+          (word-named (c .clocks) (termAt (regionAt c (k / mostTerms)) (k % mostTerms)) (w .clocks)
+          (t .used (k % mostTerms) d)
           (numbers (k / mostTerms) (k % mostTerms) (omega arith) (omega arith)))
 
-  words-end : (i j k : ℕ) → j ≤ k → k < mostTerms → getD terms (i * mostTerms + j) 0 ≡ 0 → getD terms (i * mostTerms + k) 0 ≡ 0
+  words-end : (i j k : ℕ) → j ≤ k → k < mostTerms → getD terms (i * mostTerms + j) 0 ≡ 0
+      → getD terms (i * mostTerms + k) 0 ≡ 0
   words-end i j k l m z = by (decLt i (c .count)) (decLt j (regionAt c i .count))
     where
       by : Dec (i < c .count) → Dec (j < regionAt c i .count) → getD terms (i * mostTerms + k) 0 ≡ 0
       by (no h) d = words-beyond i k (omega arith)
       by (yes h) (yes d) =
           absurd (word-is (termAt (regionAt c i) j)
-          (ap (λ (b : Bool). cond b (wordOf (termAt (regionAt c i) j)) 0) (sym (lt-ltb j (regionAt c i .count) d)) ∙ sym (words-in i j h (omega arith)) ∙ z))
+          (ap (λ (b : Bool). cond b (wordOf (termAt (regionAt c i) j)) 0) (sym (lt-ltb j (regionAt c i .count) d))
+          ∙ sym (words-in i j h (omega arith)) ∙ z))
       by (yes h) (no d) =
           let g : regionAt c i .count ≤ k = omega arith in
-          words-in i k h m ∙ ap (λ (b : Bool). cond b (wordOf (termAt (regionAt c i) k)) 0) (le-ltb k (regionAt c i .count) g)
+          words-in i k h m ∙ ap (λ (b : Bool). cond b (wordOf (termAt (regionAt c i) k)) 0)
+          (le-ltb k (regionAt c i .count) g)
 
   words-are : Words (c .clocks) terms
   words-are = record { named = words-named; ends = words-end }
@@ -168,7 +186,8 @@ pub record Parts (c : Chart) (i plain hot : ℕ) (keys resets terms : List ℕ) 
   pub resets-at : Filled 0 (λ k. regionAt c k .resets) i resets
   pub word-at : Filled 0 (words-of c) (i * mostTerms) terms
 
-pub parts-none : {c : Chart} → Parts c 0 0 0 (replicate mostRegions 0) (replicate mostRegions 0) (replicate (mostRegions * mostTerms) 0)
+pub parts-none : {c : Chart} → Parts c 0 0 0 (replicate mostRegions 0) (replicate mostRegions 0)
+    (replicate (mostRegions * mostTerms) 0)
 parts-none = record {
   plain-set = gathered-none;
   hot-set = gathered-none;
@@ -180,11 +199,14 @@ parts-none = record {
 -- one region more
 module _ {c : Chart} {i plain hot : ℕ} {keys resets terms : List ℕ} (P : Parts c i plain hot keys resets terms) where
   pub parts-next : (p h k s v₀ v₁ v₂ v₃ : ℕ) → i < length keys → i < length resets → i * mostTerms + 3 < length terms
-      → p ≡ cond (isPlain (regionAt c i .event)) (inserted plain i) plain → h ≡ cond (regionAt c i .hot) (inserted hot i) hot
+      → p ≡ cond (isPlain (regionAt c i .event)) (inserted plain i) plain
+      → h ≡ cond (regionAt c i .hot) (inserted hot i) hot
       → k ≡ keyOf (regionAt c i .event) → s ≡ regionAt c i .resets
-      → v₀ ≡ wordAt (regionAt c i) 0 → v₁ ≡ wordAt (regionAt c i) 1 → v₂ ≡ wordAt (regionAt c i) 2 → v₃ ≡ wordAt (regionAt c i) 3
+      → v₀ ≡ wordAt (regionAt c i) 0 → v₁ ≡ wordAt (regionAt c i) 1 → v₂ ≡ wordAt (regionAt c i) 2
+      → v₃ ≡ wordAt (regionAt c i) 3
       → Parts c (i + 1) p h (set keys i k) (set resets i s)
-      (set (set (set (set terms (i * mostTerms) v₀) (i * mostTerms + 1) v₁) (i * mostTerms + 2) v₂) (i * mostTerms + 3) v₃)
+      (set (set (set (set terms (i * mostTerms) v₀) (i * mostTerms + 1) v₁) (i * mostTerms + 2) v₂)
+      (i * mostTerms + 3) v₃)
   parts-next p h k s v₀ v₁ v₂ v₃ a b d ep eh ek es e₀ e₁ e₂ e₃ = record {
     plain-set = gathered-next p (P .plain-set) ep;
     hot-set = gathered-next h (P .hot-set) eh;
@@ -197,7 +219,8 @@ module _ {c : Chart} {i plain hot : ℕ} {keys resets terms : List ℕ} (P : Par
 module _ (c : Chart) (p : Plan) (w : WellFormed c) (accepted : Accepted (chartOf c))
     (numbers : (i j : ℕ) → i < mostRegions → j < mostTerms → termAt (regionAt c i) j .n < bias)
     (heading : (p .head .count ≡ c .count) × (p .head .prechart ≡ c .prechart) × (p .head .clocks ≡ c .clocks))
-    (above : p .above ≡ aboveOf c) (P : Parts c (c .count) (p .head .plain) (p .head .hot) (p .keys) (p .resets) (p .terms)) where
+    (above : p .above ≡ aboveOf c)
+    (P : Parts c (c .count) (p .head .plain) (p .head .hot) (p .keys) (p .resets) (p .terms)) where
   above-set : (a b : ℕ) → contains (getD (p .above) b 0) a ≡ chartOf c .above a b
   above-set a b = ap (λ (l : List ℕ). contains (getD l b 0) a) above ∙ above-shows c a b
 
@@ -220,8 +243,12 @@ module _ (c : Chart) (p : Plan) (w : WellFormed c) (accepted : Accepted (chartOf
     compiled = record {
       regions = rw (heading .0) (w .room);
       clocks = rw (heading .2) (w .clocks);
-      plain = λ i h. plain-shows c (p .head .plain) (P .plain-set) i (rw (heading .0) at h) ∙ ap (λ (k : ℕ). eqb k 0) (sym (keys-show c (p .keys) (P .key-at) i));
-      within = record { few = rw (heading .0) (w .room); own = λ i m. rw (heading .0) (gathered-below (P .plain-set) i m) };
+      plain = λ i h. plain-shows c (p .head .plain) (P .plain-set) i (rw (heading .0) at h)
+          ∙ ap (λ (k : ℕ). eqb k 0) (sym (keys-show c (p .keys) (P .key-at) i));
+      within = record {
+        few = rw (heading .0) (w .room);
+        own = λ i m. rw (heading .0) (gathered-below (P .plain-set) i m);
+      };
       words = rw (heading .2) (words-are c w numbers (p .terms) (P .word-at));
       accepted = subst Accepted (sym shows) accepted;
     };

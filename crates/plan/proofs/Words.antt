@@ -22,8 +22,10 @@ use Rattle.condition.specs.Parts.{inRelation, positivePart, negativePart}
 use Rattle.condition.proofs.Signed.{compares-exactly, one-clock}
 use Rattle.base.specs.Lists.{allBelow}
 use Rattle.chart_value.specs.WellFormed.{leftFits}
-use Rattle.layout.specs.View.{secondPlace, upperPlace, lowerPlace, boundPlace, bias, clockCodes, firstOf, secondOf, holdsBy, InChart}
-use Rattle.plan.specs.Words.{sidesOf, biased, raisedBy, loweredBy, boundBy, firstClock, secondClock, wordOf, wordAt}
+use Rattle.layout.specs.View.{secondPlace, upperPlace, lowerPlace, boundPlace, bias, clockCodes, firstOf, secondOf}
+use Rattle.layout.specs.View.{holdsBy, InChart}
+use Rattle.plan.specs.Words.{sidesOf, biased, raisedBy, loweredBy, boundBy, firstClock, secondClock, wordOf}
+use Rattle.plan.specs.Words.{wordAt}
 
 -- the bound by how far it lies above the number, and how far below
 pub bound-parts : (e : Relation) (b : ℕ) → b + raisedBy e - loweredBy e ≡ boundBy e b
@@ -53,7 +55,8 @@ module _ (b r s f : ℕ) (hr : r < 4) (hs : s < clockCodes) (hf : f < clockCodes
       let g : ((b * 4 + r) * clockCodes + s) % clockCodes ≡ s = omega arith in
       rw (e, g)
 
-  unpack : (v : ℕ → ℕ) → holdsBy packed v ≡ sided (eqb (r % 2) 1) (eqb (r / 2) 1) (bias + v f) (b + cond (ltb s mostClocks) (v s) 0)
+  unpack : (v : ℕ → ℕ) → holdsBy packed v ≡ sided (eqb (r % 2) 1) (eqb (r / 2) 1) (bias + v f)
+      (b + cond (ltb s mostClocks) (v s) 0)
   unfolding holdsBy sided packed
   unpack v =
       let eb : packed / boundPlace ≡ b = omega arith in
@@ -64,7 +67,8 @@ module _ (b r s f : ℕ) (hr : r < 4) (hs : s < clockCodes) (hf : f < clockCodes
       rw (eb, first-of, second-of, eu, u, el, l)
 
 -- by the order of the two numbers
-module _ (u l : Bool) (x y : ℕ) (t : Bool) (above : y < x → not u ≡ t) (under : x < y → not l ≡ t) (same : x ≡ y → true ≡ t) where
+module _ (u l : Bool) (x y : ℕ) (t : Bool) (above : y < x → not u ≡ t) (under : x < y → not l ≡ t)
+    (same : x ≡ y → true ≡ t) where
   only-above : (u l : Bool) → (not (u && true) && not (l && false)) ≡ not u
   only-above true true = refl
   only-above true false = refl
@@ -125,7 +129,8 @@ module _ (a b n : ℕ) (h : n < bias) where
   bounds e = by e (biased n) (negativePart n) (positivePart n) (biased-parts n h) (biased-positive n h)
     where
       by : (e : Relation) (k m p : ℕ) → k + m ≡ bias + p → 0 < k
-          → sided (eqb (sidesOf e % 2) 1) (eqb (sidesOf e / 2) 1) (bias + a) (boundBy e k + b) ≡ inRelation e (a + m) (b + p)
+          → sided (eqb (sidesOf e % 2) 1) (eqb (sidesOf e / 2) 1) (bias + a) (boundBy e k + b) ≡ inRelation e (a + m)
+          (b + p)
       by Less k m p q g = sided-is true false (bias + a) ((k - 1) + b) (ltb (a + m) (b + p))
           (λ z. sym (le-ltb (a + m) (b + p) (omega arith)))
           (λ z. sym (lt-ltb (a + m) (b + p) (omega arith)))
@@ -152,7 +157,8 @@ record Names (clocks : ℕ) (l : Left) : Type 0 where
   first : firstClock l < clocks
   second : (secondClock l < clocks) ⊎ (mostClocks ≤ secondClock l)
   codes : (firstClock l < clockCodes) × (secondClock l < clockCodes)
-  value : (v : ℕ → ℕ) → pos (v (firstClock l)) -ℤ pos (cond (ltb (secondClock l) mostClocks) (v (secondClock l)) 0) ≡ leftOf l v
+  value : (v : ℕ → ℕ) → pos (v (firstClock l)) -ℤ pos
+      (cond (ltb (secondClock l) mostClocks) (v (secondClock l)) 0) ≡ leftOf l v
 
 names : (clocks : ℕ) (l : Left) → clocks ≤ mostClocks → leftFits clocks l ≡ true → Names clocks l
 names clocks (Clock a) k f =
@@ -162,16 +168,23 @@ names clocks (Difference a b) k f =
     let p = both (ltb a clocks) (ltb b clocks && not (eqb a b)) f in
     let l : a < clocks = ltb-true _ _ (p .0) in
     let m : b < clocks = ltb-true _ _ (both (ltb b clocks) (not (eqb a b)) (p .1) .0) in
-    record { first = l; second = inl m; codes = (omega arith, omega arith); value = λ v. rw (lt-ltb b mostClocks (omega arith)) }
+    record {
+      first = l;
+      second = inl m;
+      codes = (omega arith, omega arith);
+      value = λ v. rw (lt-ltb b mostClocks (omega arith));
+    }
 
 -- the word of a term that fits; nothing is asked of the values
-module _ (clocks : ℕ) (t : Term) (k : clocks ≤ mostClocks) (f : leftFits clocks (t .left) ≡ true) (h : t .n < bias) where
+module _ (clocks : ℕ) (t : Term) (k : clocks ≤ mostClocks) (f : leftFits clocks (t .left) ≡ true)
+    (h : t .n < bias) where
   pub word-holds : (v : ℕ → ℕ) → holdsBy (wordOf t) v ≡ termHolds t v
   unfolding packed
   word-holds v =
       let N = names clocks (t .left) k f in
       let s = cond (ltb (secondClock (t .left)) mostClocks) (v (secondClock (t .left))) 0 in
-      unpack _ (sidesOf (t .relation)) (secondClock (t .left)) (firstClock (t .left)) (sides-fit (t .relation) .1) (N .codes .1) (N .codes .0) v
+      unpack _ (sidesOf (t .relation)) (secondClock (t .left)) (firstClock (t .left)) (sides-fit (t .relation) .1)
+      (N .codes .1) (N .codes .0) v
       ∙ bounds (v (firstClock (t .left))) s (t .n) h (t .relation)
       ∙ compares-exactly (v (firstClock (t .left))) s (t .n) h (t .relation)
       ∙ ap (λ (x : ℤ). related (t .relation) x (signed (t .n))) (N .value v)
@@ -180,8 +193,10 @@ module _ (clocks : ℕ) (t : Term) (k : clocks ≤ mostClocks) (f : leftFits clo
   unfolding packed
   word-named =
       let N = names clocks (t .left) k f in
-      let p = first-of (boundBy (t .relation) (biased (t .n))) (sidesOf (t .relation)) (secondClock (t .left)) (firstClock (t .left)) (sides-fit (t .relation) .1) (N .codes .1) (N .codes .0) in
-      let q = second-of (boundBy (t .relation) (biased (t .n))) (sidesOf (t .relation)) (secondClock (t .left)) (firstClock (t .left)) (sides-fit (t .relation) .1) (N .codes .1) (N .codes .0) in
+      let p = first-of (boundBy (t .relation) (biased (t .n))) (sidesOf (t .relation)) (secondClock (t .left))
+      (firstClock (t .left)) (sides-fit (t .relation) .1) (N .codes .1) (N .codes .0) in
+      let q = second-of (boundBy (t .relation) (biased (t .n))) (sidesOf (t .relation)) (secondClock (t .left))
+      (firstClock (t .left)) (sides-fit (t .relation) .1) (N .codes .1) (N .codes .0) in
       record { first = rw p (N .first); second = rw q (N .second) }
 
 -- the word without a term
@@ -205,14 +220,16 @@ module _ (g : Region) (v : ℕ → ℕ) (t : ℕ → Bool) where
   all-more (suc n) zero h unused = absurd (omega arith)
   all-more n (suc m) h unused = by (ℕ-discrete n (suc m)) (all-more n m)
     where
-      by : Dec (n ≡ suc m) → (n ≤ m → ((j : ℕ) → n ≤ j → j < m → t j ≡ true) → allBelow m t ≡ allBelow n t) → allBelow (suc m) t ≡ allBelow n t
+      by : Dec (n ≡ suc m) → (n ≤ m → ((j : ℕ) → n ≤ j → j < m → t j ≡ true) → allBelow m t ≡ allBelow n t)
+          → allBelow (suc m) t ≡ allBelow n t
       by (yes e) r = ap (λ (k : ℕ). allBelow k t) (sym e)
       by (no e) r =
           let l : n ≤ m = omega (arith, e) in
           and-true (allBelow m t) (t m) (unused m l (omega arith)) ∙ r l (λ j a b. unused j a (omega arith))
 
 -- the words of a region hold if each term's does
-module _ (g : Region) (v words : ℕ → ℕ) (count : g .count ≤ mostTerms) (same : (j : ℕ) → j < mostTerms → words j ≡ wordAt g j)
+module _ (g : Region) (v words : ℕ → ℕ) (count : g .count ≤ mostTerms)
+    (same : (j : ℕ) → j < mostTerms → words j ≡ wordAt g j)
     (each : (j : ℕ) → j < g .count → holdsBy (wordOf (termAt g j)) v ≡ termHolds (termAt g j) v) where
   used : (j : ℕ) → j < g .count → holdsBy (words j) v ≡ termHolds (termAt g j) v
   used j h =

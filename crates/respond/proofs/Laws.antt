@@ -30,7 +30,8 @@ use Rattle.respond.specs.Respond.{logReport, chartReport, responseOf, bu
 abbrev pub ofAnswer : Verdict → JudgeAnswer → Report
 ofAnswer v a = logReport (record { number = judge-specs.numberOf a; offset = judge-specs.offsetOf a; verdict = v })
 
-pub log-refused : (v : Verdict) (k : LogRefusal) (offset : ℕ) → ofAnswer v (judge.Refused k offset) ≡ Refused part.Log (logRefusalNumber k) offset
+pub log-refused : (v : Verdict) (k : LogRefusal) (offset : ℕ)
+    → ofAnswer v (judge.Refused k offset) ≡ Refused part.Log (logRefusalNumber k) offset
 log-refused v (log.NoRecord bytes.CutShort) offset = refl
 log-refused v (log.NoRecord bytes.UnknownByte) offset = refl
 log-refused v log.TimeFalls offset = refl
@@ -40,7 +41,8 @@ log-refused v log.TooManyRecords offset = refl
 abbrev pub ofRead : Chart → List ℕ → ChartAnswer → Report
 ofRead c s a = chartReport (record { number = read-specs.numberOf a; offset = read-specs.offsetOf a; chart = c }) s
 
-pub chart-refused : (c : Chart) (s : List ℕ) (f : Refusal) (offset : ℕ) → ofRead c s (read.Refused f offset) ≡ Refused part.Chart (refusalNumber f) offset
+pub chart-refused : (c : Chart) (s : List ℕ) (f : Refusal) (offset : ℕ)
+    → ofRead c s (read.Refused f offset) ≡ Refused part.Chart (refusalNumber f) offset
 chart-refused c s chart.CutShort offset = refl
 chart-refused c s chart.Unknown offset = refl
 chart-refused c s chart.Misplaced offset = refl

@@ -1,4 +1,5 @@
--- What the stretches say of a monitor fixes it: the counts and the break by their equations, fired regions and clocks by the one lawful row.
+-- What the stretches say of a monitor fixes it: the counts and the break by their equations, fired regions and clocks
+-- by the one lawful row.
 -- Assumes nothing.
 use mathlib.Core.Path.{_≡_, sym, ap, subst, _∙_}
 use Prim.Native.Nat.{ℕ}
@@ -12,12 +13,16 @@ use Rattle.rounds.proofs.Rows.{one-row}
 use Rattle.rounds.proofs.Feeds.{monitor-agrees}
 
 module _ (C : Chart) (A : Accepted C) (rs : Snoc LogRecord) (es : Snoc Stretch) where
-  same-break : (last : Last) (m n : Monitor) → AtLast C last rs m → AtLast C last rs n → m .tally .broken ≡ n .tally .broken
+  same-break : (last : Last) (m n : Monitor) → AtLast C last rs m → AtLast C last rs n
+      → m .tally .broken ≡ n .tally .broken
   unfolding AtLast
   same-break (unended o s) m n G H =
       λ i. record { at = (G .no-break ∙ sym (H .no-break)) i; reason = (G .no-reason ∙ sym (H .no-reason)) i }
   same-break (afterBreak k) m n G H =
-      λ i. record { at = (G .at-last-accepted ∙ sym (H .at-last-accepted)) i; reason = (G .of-stretch ∙ sym (H .of-stretch)) i }
+      λ i. record {
+        at = (G .at-last-accepted ∙ sym (H .at-last-accepted)) i;
+        reason = (G .of-stretch ∙ sym (H .of-stretch)) i;
+      }
 
   same-tally : (last : Last) (m n : Monitor) → Agrees C rs es last m → Agrees C rs es last n → m .tally ≡ n .tally
   same-tally last m n G H =
@@ -30,11 +35,13 @@ module _ (C : Chart) (A : Accepted C) (rs : Snoc LogRecord) (es : Snoc Stretch) 
         broken = b i;
       }
 
-  same-monitor : (o : ℕ) (s : Snoc LogRecord) (m n : Monitor) → Agrees C rs es (unended o s) m → Agrees C rs es (unended o s) n → m ≡ n
+  same-monitor : (o : ℕ) (s : Snoc LogRecord) (m n : Monitor) → Agrees C rs es (unended o s) m
+      → Agrees C rs es (unended o s) n → m ≡ n
   unfolding AtLast
   same-monitor o s m n G H =
       let t = same-tally (unended o s) m n G H in
-      let w : G .at-last .row ≡ H .at-last .row = one-row C A o s (G .at-last .row) (H .at-last .row) (G .at-last .lawful) (H .at-last .lawful) in
+      let w : G .at-last .row ≡ H .at-last .row = one-row C A o s (G .at-last .row) (H .at-last .row)
+      (G .at-last .lawful) (H .at-last .lawful) in
       let f = G .at-last .has-fired ∙ ap stands w ∙ sym (H .at-last .has-fired) in
       let k = G .at-last .has-clocks ∙ ap (resetMoment C o (chartMessages C s)) w ∙ sym (H .at-last .has-clocks) in
       λ i. record { place = record { fired = f i; clocks = k i }; tally = t i }

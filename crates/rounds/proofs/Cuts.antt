@@ -6,7 +6,8 @@ use Prim.Native.Nat.{ℕ}
 use Rattle.base.specs.Lists.{Snoc, ε, _▸_}
 use Rattle.rounds.specs.Chart.{Chart, Accepted}
 use Rattle.rounds.specs.Rows.{LogRecord, Row, Lawful}
-use Rattle.rounds.specs.Feeds.{refusal, kept, dropped, broken, Stretch, Last, unended, afterBreak, lastAfter, Answer, FedOne, refuses, runs-on, ends, again, Fed, none-yet, one-more}
+use Rattle.rounds.specs.Feeds.{refusal, kept, dropped, broken, Stretch, Last, unended, afterBreak, lastAfter}
+use Rattle.rounds.specs.Feeds.{Answer, FedOne, refuses, runs-on, ends, again, Fed, none-yet, one-more}
 use Rattle.rounds.specs.Machine.{Monitor, Step, after}
 use Rattle.rounds.specs.Demand3.{Unbroken, AtLast, Agrees, Meaning, Same}
 use Rattle.base.proofs.Facts.{found, none-some}
@@ -27,7 +28,8 @@ module _ (C : Chart) (A : Accepted C) where
   extended F e h q lawful (drops E) = meant (one-more F (ends h dropped E))
   extended F e h q lawful (breaks k d E) = meant (one-more F (ends h (broken k) E))
 
-  extend : (fs : Snoc LogRecord) (e : LogRecord) (ans : Snoc Answer) (rs : Snoc LogRecord) (es : Snoc Stretch) (last : Last)
+  extend : (fs : Snoc LogRecord) (e : LogRecord) (ans : Snoc Answer) (rs : Snoc LogRecord) (es : Snoc Stretch)
+      (last : Last)
       → Fed C fs ans rs es last → Meaning C (fs ▸ e)
   unfolding AtLast
   extend fs e ans rs es (afterBreak k) F = meant (one-more F again)
@@ -46,7 +48,8 @@ module _ (C : Chart) (A : Accepted C) where
 
   -- one feed to a monitor that agrees has one meaning
   one-same : {rs rs₁ rs₂ : Snoc LogRecord} {es es₁ es₂ : Snoc Stretch} {last last₁ last₂ : Last} {e : LogRecord} {a b : Answer}
-      → (m : Monitor) → Agrees C rs es last m → FedOne C rs es e last a rs₁ es₁ last₁ → FedOne C rs es e last b rs₂ es₂ last₂
+      → (m : Monitor) → Agrees C rs es last m → FedOne C rs es e last a rs₁ es₁ last₁
+      → FedOne C rs es e last b rs₂ es₂ last₂
       → (rs₁ ≡ rs₂) × (es₁ ≡ es₂) × (last₁ ≡ last₂)
   unfolding AtLast
   one-same m G (refuses k h) (refuses k′ h′) = (refl, refl, refl)

@@ -9,9 +9,13 @@ use Prim.Native.Nat.{ℕ}
 use native.Mathlib.Omega.{arith}
 use Rattle.base.specs.Lists.{Snoc, _▸_, size}
 use Rattle.rounds.specs.Chart.{Chart, Accepted}
-use Rattle.rounds.specs.Rows.{LogRecord, Row, stands, chartMessage, chartMessages, resetMoment, Lawful, NoRow, Full, LawfulButLast, firstFailing}
-use Rattle.rounds.specs.Feeds.{noReadyRegion, conditionFails, Outcome, kept, dropped, broken, Ends, complete, unplaced-main, unplaced-prechart, fails-hot, fails-cold, Answer, entered, moved, quiet, Onward, completes-prechart, fires, stays, isKept}
-use Rattle.rounds.specs.Machine.{Place, Move, offer, Monitor, Step, prechartDone, full, goOn, keepRound, dropRound, breakRound, conclude, accept}
+use Rattle.rounds.specs.Rows.{LogRecord, Row, stands, chartMessage, chartMessages, resetMoment, Lawful, NoRow}
+use Rattle.rounds.specs.Rows.{Full, LawfulButLast, firstFailing}
+use Rattle.rounds.specs.Feeds.{noReadyRegion, conditionFails, Outcome, kept, dropped, broken, Ends, complete}
+use Rattle.rounds.specs.Feeds.{unplaced-main, unplaced-prechart, fails-hot, fails-cold, Answer, entered, moved}
+use Rattle.rounds.specs.Feeds.{quiet, Onward, completes-prechart, fires, stays, isKept}
+use Rattle.rounds.specs.Machine.{Place, Move, offer, Monitor, Step, prechartDone, full, goOn, keepRound}
+use Rattle.rounds.specs.Machine.{dropRound, breakRound, conclude, accept}
 use Rattle.base.proofs.Bools.{split}
 use Rattle.base.proofs.Facts.{none-some, some-same}
 use Rattle.rounds.proofs.Machine.{full-true, full-false, done-true, done-false, done-is, done-is-not}
@@ -39,7 +43,8 @@ module _ (C : Chart) (A : Accepted C) (o : ℕ) (s : Snoc LogRecord) (e : LogRec
   none-placed W r L = W r (lawful-waived C o s e r L)
 
   -- nor if in that row a condition fails: it would be the lawful one, in which all hold
-  pub none-holds : (r : Row) (i : ℕ) → LawfulButLast C o s e r → firstFailing C o (chartMessages C (s ▸ e)) r ≡ some i → NoRow C o (s ▸ e)
+  pub none-holds : (r : Row) (i : ℕ) → LawfulButLast C o s e r → firstFailing C o (chartMessages C (s ▸ e)) r ≡ some i
+      → NoRow C o (s ▸ e)
   unfolding NoRow Lawful
   none-holds r i W f r′ L =
       let w : r′ ≡ r = one-row-waived C A o s e r′ r (lawful-waived C o s e r′ L) W in
@@ -54,7 +59,8 @@ module _ (C : Chart) (A : Accepted C) (o : ℕ) (s : Snoc LogRecord) (e : LogRec
   unlawful (fails-cold r i W f h) k = none-holds r i W f
 
 -- the same, with the lawful row q of s
-module _ (C : Chart) (A : Accepted C) (o : ℕ) (s : Snoc LogRecord) (e : LogRecord) (q : Row) (lawful : Lawful C o s q) where
+module _ (C : Chart) (A : Accepted C) (o : ℕ) (s : Snoc LogRecord) (e : LogRecord) (q : Row)
+    (lawful : Lawful C o s q) where
   -- the three ways to end, each with its outcome
   data Way (x : Outcome) : Type 0 where
     whole : (r : Row) → Lawful C o (s ▸ e) r → Full C (stands r) → x ≡ kept → Way x
@@ -111,7 +117,9 @@ module _ (C : Chart) (A : Accepted C) (o : ℕ) (s : Snoc LogRecord) (e : LogRec
   comes-move : (m : Monitor) (v : Move) → m .place .fired ≡ stands q → Means C o s q e v → Comes m (conclude C m e v)
   unfolding conclude placeOf
   comes-move m v at (unplaced W) = elim (split (prechartDone C (stands q))) [
-    | inl t ↦ rw (ap (prechartDone C) at ∙ t) (breaks noReadyRegion (m .place) (unplaced-main q W lawful (done-true C (stands q) t)))
+    | inl t ↦
+        rw (ap (prechartDone C) at ∙ t)
+        (breaks noReadyRegion (m .place) (unplaced-main q W lawful (done-true C (stands q) t)))
     | inr t ↦ rw (ap (prechartDone C) at ∙ t) (drops (unplaced-prechart q W lawful (done-false C (stands q) t)))
   ]
   comes-move m v at (failed p i r W f) = elim (split (C .hot i)) [
@@ -121,10 +129,13 @@ module _ (C : Chart) (A : Accepted C) (o : ℕ) (s : Snoc LogRecord) (e : LogRec
   comes-move m v at (grown r L lt) = elim (split (full C (stands r))) [
     | inl t ↦ rw t (keeps (complete r L (full-true C (stands r) t)))
     | inr t ↦ elim (split (prechartDone C (stands q))) [
-      | inl u ↦ rw (t, ap (prechartDone C) at ∙ u) (on r moved L (full-false C (stands r) t) (fires lt (λ h. done-true C (stands q) u)))
+      | inl u ↦
+          rw (t, ap (prechartDone C) at ∙ u)
+          (on r moved L (full-false C (stands r) t) (fires lt (λ h. done-true C (stands q) u)))
       | inr u ↦ elim (split (prechartDone C (stands r))) [
         | inl w ↦ rw (t, ap (prechartDone C) at ∙ u, w)
-            (on r entered L (full-false C (stands r) t) (completes-prechart (done-false C (stands q) u) (done-true C (stands r) w)))
+            (on r entered L (full-false C (stands r) t)
+            (completes-prechart (done-false C (stands q) u) (done-true C (stands r) w)))
         | inr w ↦ rw (t, ap (prechartDone C) at ∙ u, w)
             (on r moved L (full-false C (stands r) t) (fires lt (λ h. absurd (done-false C (stands r) w h))))
       ]
@@ -137,7 +148,8 @@ module _ (C : Chart) (A : Accepted C) (o : ℕ) (s : Snoc LogRecord) (e : LogRec
   unfolding placeOf
   place-same m f c = λ i. record { fired = f i; clocks = c i }
 
-  pub comes : (m : Monitor) → m .place .fired ≡ stands q → m .place .clocks ≡ resetMoment C o (chartMessages C s) q → ¬ Full C (stands q)
+  pub comes : (m : Monitor) → m .place .fired ≡ stands q → m .place .clocks ≡ resetMoment C o (chartMessages C s) q
+      → ¬ Full C (stands q)
       → Comes m (accept C m e)
   unfolding accept
   comes m f c h = elim (split (chartMessage C e)) [

@@ -8,7 +8,9 @@ use native.Mathlib.Omega.{arith}
 use Rattle.base.specs.Lists.{Snoc, _▸_}
 use Rattle.rounds.specs.Chart.{Chart, Accepted}
 use Rattle.rounds.specs.Rows.{LogRecord, Row, stands, Lawful, NoRow, Full}
-use Rattle.rounds.specs.Feeds.{refusal, kept, unended, Ends, complete, Answer, refused, brokenAt, keptNow, droppedNow, entered, moved, quiet, Onward, completes-prechart, fires, stays, SaysRunsOn, SaysDroppedOrBroken, Exactly}
+use Rattle.rounds.specs.Feeds.{refusal, kept, unended, Ends, complete, Answer, refused, brokenAt, keptNow}
+use Rattle.rounds.specs.Feeds.{droppedNow, entered, moved, quiet, Onward, completes-prechart, fires, stays}
+use Rattle.rounds.specs.Feeds.{SaysRunsOn, SaysDroppedOrBroken, Exactly}
 use Rattle.rounds.specs.Machine.{Monitor, Step, goOn, keepRound, dropRound, breakRound, feed, after}
 use Rattle.rounds.specs.Demand3.{Unbroken, AtLast, Agrees, Meaning}
 use Rattle.rounds.proofs.Rows.{one-row}
@@ -66,7 +68,8 @@ module _ (C : Chart) (A : Accepted C) where
     exact : {m : Monitor} {v : Step} → Comes C A o s e q lawful m v → Exactly C o s e (v .answer)
     unfolding NoRow goOn keepRound dropRound breakRound
     exact (on r a L h O) = record {
-      kept-exactly = (λ p. on≢kept (goes-on O) p, λ t. absurd (h (rw (one-row C A o (s ▸ e) (t .0) r (t .1) L) at (t .2))));
+      kept-exactly =
+          (λ p. on≢kept (goes-on O) p, λ t. absurd (h (rw (one-row C A o (s ▸ e) (t .0) r (t .1) L) at (t .2))));
       runs-on-exactly = (λ p. (r, L, h), λ t. goes-on O);
       dropped-or-broken-exactly = (λ p. on≢lost (goes-on O) p, λ N. absurd (N r L));
     }
@@ -83,7 +86,8 @@ module _ (C : Chart) (A : Accepted C) where
     exact {m} (drops E) = lost (dropRound C m e .answer) (inl refl) (unlawful C A o s e E refl)
     exact {m} (breaks k d E) = lost (breakRound C m e k d .answer) (inr (_, _, refl)) (unlawful C A o s e E refl)
 
-  pub exactly : {fs : Snoc LogRecord} (M : Meaning C fs) (o : ℕ) (s : Snoc LogRecord) (e : LogRecord) → M .last ≡ unended o s
+  pub exactly : {fs : Snoc LogRecord} (M : Meaning C fs) (o : ℕ) (s : Snoc LogRecord) (e : LogRecord)
+      → M .last ≡ unended o s
       → refusal (M .accepted) e ≡ none → Exactly C o s e (feed C (after C fs) e .answer)
   unfolding AtLast
   exactly {fs} M o s e p h =

@@ -9,9 +9,13 @@ use borrow.Author.Tests.{eq-eqb, ne-eqb}
 use Rattle.base.specs.Lists.{Snoc, ε, _▸_, size, onFound}
 use Rattle.model.specs.Answers.{mostRecords}
 use Rattle.rounds.specs.Chart.{Chart, Accepted}
-use Rattle.rounds.specs.Rows.{LogRecord, Row, stands, chartMessages, messageRegions, opened, resetMoment, Lawful, Full}
-use Rattle.rounds.specs.Feeds.{lastMoment, refusal, Outcome, Stretch, Last, unended, lastAfter, Ends, Answer, refused, brokenAt, ending, Onward, FedOne, refuses, runs-on, ends, again, Fed, none-yet, one-more}
-use Rattle.rounds.specs.Machine.{Monitor, Step, opening, goOn, keepRound, dropRound, breakRound, accept, feed, after, answers}
+use Rattle.rounds.specs.Rows.{LogRecord, Row, stands, chartMessages, messageRegions, opened, resetMoment, Lawful}
+use Rattle.rounds.specs.Rows.{Full}
+use Rattle.rounds.specs.Feeds.{lastMoment, refusal, Outcome, Stretch, Last, unended, lastAfter, Ends, Answer}
+use Rattle.rounds.specs.Feeds.{refused, brokenAt, ending, Onward, FedOne, refuses, runs-on, ends, again, Fed}
+use Rattle.rounds.specs.Feeds.{none-yet, one-more}
+use Rattle.rounds.specs.Machine.{Monitor, Step, opening, goOn, keepRound, dropRound, breakRound, accept, feed}
+use Rattle.rounds.specs.Machine.{after, answers}
 use Rattle.rounds.specs.Demand3.{Unbroken, Broken, AtLast, Agrees, Meaning}
 use Rattle.base.proofs.Bools.{split}
 use Rattle.rounds.proofs.Machine.{opening-lacks, opening-settled}
@@ -21,11 +25,13 @@ use Rattle.rounds.proofs.Endings.{onward-same, one-outcome, ended, Come
 
 module _ (C : Chart) (m : Monitor) (e : LogRecord) where
   -- feeding an unbroken monitor goes by the refusals that the accepted records give
-  pub feed-unbroken : {rs : Snoc LogRecord} {es : Snoc Stretch} {o : ℕ} {s : Snoc LogRecord} → Agrees C rs es (unended o s) m
+  pub feed-unbroken : {rs : Snoc LogRecord} {es : Snoc Stretch} {o : ℕ} {s : Snoc LogRecord}
+      → Agrees C rs es (unended o s) m
       → feed C m e ≡ onFound (refusal rs e) (accept C m e) (λ k. record { answer = refused k; next = m })
   unfolding feed refusal AtLast
   feed-unbroken {rs} G =
-      let b : not (eqb (m .tally .broken .at) 0) ≡ false = ap not (eq-eqb (m .tally .broken .at) 0 (G .at-last .no-break)) in
+      let b : not (eqb (m .tally .broken .at) 0) ≡ false = ap not
+      (eq-eqb (m .tally .broken .at) 0 (G .at-last .no-break)) in
       let n : ltb (e .time) (m .tally .now) ≡ ltb (e .time) (lastMoment rs) = ap (ltb (e .time)) (G .now) in
       let r : leb mostRecords (m .tally .records) ≡ leb mostRecords (size rs) = ap (leb mostRecords) (G .records) in
       elim (split (ltb (e .time) (lastMoment rs))) [
@@ -36,7 +42,8 @@ module _ (C : Chart) (m : Monitor) (e : LogRecord) where
         ]
       ]
 
-  feed-broken : m .tally .broken .at ≢ 0 → feed C m e ≡ record { answer = brokenAt (m .tally .broken .at) (m .tally .broken .reason); next = m }
+  feed-broken : m .tally .broken .at ≢ 0
+      → feed C m e ≡ record { answer = brokenAt (m .tally .broken .at) (m .tally .broken .reason); next = m }
   unfolding feed
   feed-broken h = rw (ap not (ne-eqb (m .tally .broken .at) 0 h))
 
@@ -46,7 +53,8 @@ module _ (C : Chart) (A : Accepted C) where
   unfolding Lawful chartMessages messageRegions
   opens t = record { one-for-one = refl; placed = tt; settled = opening-settled C A }
 
-  opens-unbroken : (t : ℕ) (m : Monitor) → m .place .fired ≡ stands ε → m .place .clocks ≡ opened C t → m .tally .broken .at ≡ 0 → m .tally .broken .reason ≡ 0
+  opens-unbroken : (t : ℕ) (m : Monitor) → m .place .fired ≡ stands ε → m .place .clocks ≡ opened C t
+      → m .tally .broken .at ≡ 0 → m .tally .broken .reason ≡ 0
       → Unbroken C t ε m
   unfolding resetMoment
   opens-unbroken t m f c b r = record {
@@ -69,9 +77,11 @@ module _ (C : Chart) (A : Accepted C) where
     next : Agrees C rs es last (v .next)
 
   -- an accepted record
-  module _ (m : Monitor) (rs : Snoc LogRecord) (es : Snoc Stretch) (o : ℕ) (s : Snoc LogRecord) (e : LogRecord) (q : Row)
+  module _ (m : Monitor) (rs : Snoc LogRecord) (es : Snoc Stretch) (o : ℕ) (s : Snoc LogRecord) (e : LogRecord)
+      (q : Row)
       (lawful : Lawful C o s q) (G : Agrees C rs es (unended o s) m) where
-    after-on : {v : Step} → Comes C A o s e q lawful m v → (p r : Row) (a : Answer) → Lawful C o s p → Lawful C o (s ▸ e) r
+    after-on : {v : Step} → Comes C A o s e q lawful m v → (p r : Row) (a : Answer) → Lawful C o s p
+        → Lawful C o (s ▸ e) r
         → ¬ Full C (stands r) → Onward C p r a → StepAgrees a (rs ▸ e) es (unended o (s ▸ e)) v
     unfolding goOn placeOf AtLast
     after-on (on r′ b L′ h′ O′) p r a M L h O =
@@ -128,7 +138,8 @@ module _ (C : Chart) (A : Accepted C) where
             at-last = opens-unbroken (e .time) (dropRound C m e .next) refl refl refl refl;
           };
         })
-    after-ends (breaks k d E′) x E = subst (λ (y : Outcome). Ended y (breakRound C m e k d)) (one-outcome C A o s e q lawful E′ E)
+    after-ends (breaks k d E′) x E =
+        subst (λ (y : Outcome). Ended y (breakRound C m e k d)) (one-outcome C A o s e q lawful E′ E)
         (record {
           answer = ap (λ (n : ℕ). brokenAt (suc n) k) (G .records);
           next = record {
@@ -141,19 +152,22 @@ module _ (C : Chart) (A : Accepted C) where
         })
 
   -- one feed to a monitor that agrees
-  feed-agrees : {rs rs′ : Snoc LogRecord} {es es′ : Snoc Stretch} {last last′ : Last} {e : LogRecord} {a : Answer} (m : Monitor)
+  feed-agrees : {rs rs′ : Snoc LogRecord} {es es′ : Snoc Stretch} {last last′ : Last} {e : LogRecord} {a : Answer}
+      (m : Monitor)
       → Agrees C rs es last m → FedOne C rs es e last a rs′ es′ last′ → StepAgrees a rs′ es′ last′ (feed C m e)
   unfolding AtLast
   feed-agrees {e} m G (refuses k h) = rw (feed-unbroken C m e G, h) (record { answer = refl; next = G })
   feed-agrees {rs} {es} {e} m G (runs-on {o} {s} h p r a M L nf O) =
       let T : Unbroken C o s m = G .at-last in
-      rw (feed-unbroken C m e G, h) (after-on m rs es o s e (T .row) (T .lawful) G (comes-unbroken e m T) p r a M L nf O)
+      rw (feed-unbroken C m e G, h)
+      (after-on m rs es o s e (T .row) (T .lawful) G (comes-unbroken e m T) p r a M L nf O)
   feed-agrees {rs} {es} {e} m G (ends {o} {s} h x E) =
       let T : Unbroken C o s m = G .at-last in
       rw (feed-unbroken C m e G, h) (after-ends m rs es o s e (T .row) (T .lawful) G (comes-unbroken e m T) x E)
   feed-agrees {rs} {e} m G (again {k}) =
       let T : Broken k rs m = G .at-last in
-      rw (feed-broken C m e (T .not-zero)) (record { answer = ap₂ brokenAt (T .at-last-accepted) (T .of-stretch); next = G })
+      rw (feed-broken C m e (T .not-zero))
+      (record { answer = ap₂ brokenAt (T .at-last-accepted) (T .of-stretch); next = G })
 
   starts : (answers C ε ≡ ε) × Agrees C ε ε (unended 0 ε) (after C ε)
   unfolding answers after AtLast opened

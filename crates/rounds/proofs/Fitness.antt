@@ -12,10 +12,13 @@ use Rattle.rounds.specs.Chart.{Chart, Accepted}
 use Rattle.rounds.specs.Rows.{LogRecord, chartMessage, plain, Ready, values, opened, Full}
 use Rattle.rounds.specs.Tally.{noBreak, countedAs}
 use Rattle.rounds.specs.Feeds.{noReadyRegion, conditionFails}
-use Rattle.rounds.specs.Machine.{Place, Monitor, fresh, Move, stuck, fails, rests, readyPlain, readyFor, fire, unfired, settle, offer, opening, full, prechartDone, goOn, keepRound, dropRound, breakRound, conclude, accept, feed, after, Fit}
+use Rattle.rounds.specs.Machine.{Place, Monitor, fresh, Move, stuck, fails, rests, readyPlain, readyFor, fire}
+use Rattle.rounds.specs.Machine.{unfired, settle, offer, opening, full, prechartDone, goOn, keepRound, dropRound}
+use Rattle.rounds.specs.Machine.{breakRound, conclude, accept, feed, after, Fit}
 use Rattle.base.proofs.Bools.{split, or-right, either}
 use Rattle.base.proofs.Facts.{found}
-use Rattle.rounds.proofs.Machine.{full-false, ready-lacks, unfired-falls, opening-lacks, opening-settled, plain-some, plain-none, for-some, offer-stuck, offer-fails, offer-fires}
+use Rattle.rounds.proofs.Machine.{full-false, ready-lacks, unfired-falls, opening-lacks, opening-settled}
+use Rattle.rounds.proofs.Machine.{plain-some, plain-none, for-some, offer-stuck, offer-fails, offer-fires}
 
 module _ (C : Chart) (A : Accepted C) where
   record FitPlace (t : ℕ) (p : Place) : Type 0 where
@@ -34,9 +37,11 @@ module _ (C : Chart) (A : Accepted C) where
       | inl q ↦ or-right (eqb a i) (R .under a (rw (eqb-true j i q) at b))
       | inr q ↦ or-right (eqb a i) (F .closed j a q b)
     ];
-    within = λ j h. elim (either (eqb j i) (p .fired j) h) [ inl q ↦ rw (eqb-true j i q) (R .region) | inr q ↦ F .within j q ];
+    within = λ j h. elim
+        (either (eqb j i) (p .fired j) h) [ inl q ↦ rw (eqb-true j i q) (R .region) | inr q ↦ F .within j q ];
     moments = λ c. elim (split (C .resets i c)) [ inl q ↦ rw q (omega arith) | inr q ↦ rw q (F .moments c) ];
-    unused = λ c h. elim (split (C .resets i c)) [ inl q ↦ absurd (omega (arith, A .own-clocks i c q)) | inr q ↦ rw q (F .unused c h) ];
+    unused = λ c h. elim
+        (split (C .resets i c)) [ inl q ↦ absurd (omega (arith, A .own-clocks i c q)) | inr q ↦ rw q (F .unused c h) ];
   }
 
   opening-fits : (t : ℕ) → FitPlace t (opening C t)
@@ -45,7 +50,8 @@ module _ (C : Chart) (A : Accepted C) where
     closed = λ i a h b. h;
     within = λ i h. absurd (false≢true h);
     moments = λ c. elim (split (ltb c (C .clocks))) [ inl q ↦ rw q (omega arith) | inr q ↦ rw q (omega arith) ];
-    unused = λ c h. elim (split (ltb c (C .clocks))) [ inl q ↦ absurd (omega (arith, ltb-true c (C .clocks) q)) | inr q ↦ rw q ];
+    unused = λ c h. elim
+        (split (ltb c (C .clocks))) [ inl q ↦ absurd (omega (arith, ltb-true c (C .clocks) q)) | inr q ↦ rw q ];
   }
 
   -- what steps 3 and 4 come to is fit
@@ -66,7 +72,8 @@ module _ (C : Chart) (A : Accepted C) where
         let R : Ready C (p .fired) (f .0) = plain-some C A (p .fired) (f .0) (f .1) .is-ready in
         elim (split (C .condition (f .0) (values C t (p .clocks)))) [
           | inl q ↦ rw (f .1, q)
-              (settle-fits t k (fire C t p (f .0)) (fire-fits t p (f .0) F R) (omega (arith, unfired-falls C t p (f .0) R)))
+              (settle-fits t k (fire C t p (f .0)) (fire-fits t p (f .0) F R)
+              (omega (arith, unfired-falls C t p (f .0) R)))
           | inr q ↦ rw (f .1, q) (F, ready-lacks C (p .fired) (f .0) R)
         ]
   ]
@@ -86,16 +93,23 @@ module _ (C : Chart) (A : Accepted C) where
   ]
 
   -- an accepted record, counted
-  module _ (m : Monitor) (e : LogRecord) (F : Fit C m) (later : m .tally .now ≤ e .time) (room : m .tally .records < mostRecords)
+  module _ (m : Monitor) (e : LogRecord) (F : Fit C m) (later : m .tally .now ≤ e .time)
+      (room : m .tally .records < mostRecords)
       (unbroken : m .tally .broken .at ≡ 0) where
     at-now : FitPlace (e .time) (m .place)
-    at-now = record { closed = F .closed; within = F .within; moments = λ c. omega (arith, F .moments c, later); unused = F .unused }
+    at-now = record {
+      closed = F .closed;
+      within = F .within;
+      moments = λ c. omega (arith, F .moments c, later);
+      unused = F .unused;
+    }
 
     -- at offer p, with k kept and d dropped rounds and no break
     abbrev unbrokenAt : Place → ℕ → ℕ → Monitor
     unbrokenAt p k d = record { place = p; tally = countedAs (m .tally) (e .time) k d noBreak }
 
-    unbroken-fits : (p : Place) (k d : ℕ) → FitPlace (e .time) p → ¬ Full C (p .fired) → Settled p → k + d ≤ suc (m .tally .records)
+    unbroken-fits : (p : Place) (k d : ℕ) → FitPlace (e .time) p → ¬ Full C (p .fired) → Settled p
+        → k + d ≤ suc (m .tally .records)
         → Fit C (unbrokenAt p k d)
     unfolding Settled
     unbroken-fits p k d P n r h = record {
@@ -112,7 +126,8 @@ module _ (C : Chart) (A : Accepted C) where
 
     opening-fit : (k d : ℕ) → k + d ≤ suc (m .tally .records) → Fit C (unbrokenAt (opening C (e .time)) k d)
     unfolding opening Settled
-    opening-fit k d h = unbroken-fits (opening C (e .time)) k d (opening-fits (e .time)) (opening-lacks C A) (opening-settled C A) h
+    opening-fit k d h =
+        unbroken-fits (opening C (e .time)) k d (opening-fits (e .time)) (opening-lacks C A) (opening-settled C A) h
 
     drop-fit : Fit C (dropRound C m e .next)
     unfolding dropRound
@@ -122,7 +137,8 @@ module _ (C : Chart) (A : Accepted C) where
     unfolding keepRound
     keep-fit = opening-fit (suc (m .tally .kept)) (m .tally .dropped) (omega (arith, F .counts))
 
-    break-fit : (k : ℕ) (p : Place) → (k ≡ noReadyRegion) ⊎ (k ≡ conditionFails) → FitPlace (e .time) p → ¬ Full C (p .fired)
+    break-fit : (k : ℕ) (p : Place) → (k ≡ noReadyRegion) ⊎ (k ≡ conditionFails) → FitPlace (e .time) p
+        → ¬ Full C (p .fired)
         → Fit C (breakRound C m e k p .next)
     unfolding breakRound
     break-fit k p h P n = record {
@@ -149,14 +165,18 @@ module _ (C : Chart) (A : Accepted C) where
     ]
     conclude-fit (rests p) S = elim (split (full C (p .fired))) [
       | inl q ↦ rw q keep-fit
-      | inr q ↦ rw q (unbroken-fits p (m .tally .kept) (m .tally .dropped) (S .0) (full-false C (p .fired) q) (S .1) (omega (arith, F .counts)))
+      | inr q ↦
+          rw q (unbroken-fits p (m .tally .kept) (m .tally .dropped) (S .0) (full-false C (p .fired) q) (S .1)
+          (omega (arith, F .counts)))
     ]
 
     accept-fit : Fit C (accept C m e .next)
     unfolding accept goOn Settled
     accept-fit = elim (split (chartMessage C e)) [
       | inl q ↦ rw q (conclude-fit (offer C (m .place) e) (offer-fits (m .place) e at-now))
-      | inr q ↦ rw q (unbroken-fits (m .place) (m .tally .kept) (m .tally .dropped) at-now (F .unfinished) (F .settled unbroken) (omega (arith, F .counts)))
+      | inr q ↦
+          rw q (unbroken-fits (m .place) (m .tally .kept) (m .tally .dropped) at-now (F .unfinished)
+          (F .settled unbroken) (omega (arith, F .counts)))
     ]
 
   pub feed-fit : (m : Monitor) (e : LogRecord) → Fit C m → Fit C (feed C m e .next)
@@ -167,7 +187,9 @@ module _ (C : Chart) (A : Accepted C) where
       | inl t ↦ rw (b, t) F
       | inr t ↦ elim (split (leb mostRecords (m .tally .records))) [
         | inl r ↦ rw (b, t, r) F
-        | inr r ↦ rw (b, t, r) (accept-fit m e F (ltb-false (e .time) (m .tally .now) t) (leb-false mostRecords (m .tally .records) r)
+        | inr r ↦
+            rw (b, t, r)
+            (accept-fit m e F (ltb-false (e .time) (m .tally .now) t) (leb-false mostRecords (m .tally .records) r)
             (eqb-true (m .tally .broken .at) 0 (not-false (eqb (m .tally .broken .at) 0) b)))
       ]
     ]

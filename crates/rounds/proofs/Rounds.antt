@@ -11,13 +11,18 @@ use lib.Dec.{ltb}
 use borrow.Author.Tests.{lt-ltb}
 use Rattle.base.specs.Lists.{Snoc, ε, _▸_, size, each, EachIn}
 use Rattle.rounds.specs.Chart.{Chart, Accepted}
-use Rattle.rounds.specs.Rows.{LogRecord, Row, stands, chartMessage, chartMessages, messageRegions, Ready, values, momentOf, resetMoment, holds, Placed, Lawful, waived, LawfulButLast, firstFailing}
-use Rattle.rounds.specs.Machine.{Place, Move, stuck, fails, rests, readyPlain, readyFor, unfired, fire, settle, offer}
+use Rattle.rounds.specs.Rows.{LogRecord, Row, stands, chartMessage, chartMessages, messageRegions, Ready, values}
+use Rattle.rounds.specs.Rows.{momentOf, resetMoment, holds, Placed, Lawful, waived, LawfulButLast, firstFailing}
+use Rattle.rounds.specs.Machine.{Place, Move, stuck, fails, rests, readyPlain, readyFor, unfired, fire, settle}
+use Rattle.rounds.specs.Machine.{offer}
 use Rattle.base.proofs.Bools.{split, clash, or-left}
 use Rattle.base.proofs.Facts.{found, none-some}
-use Rattle.rounds.proofs.Machine.{plain-some, plain-none, for-some, has-message, offer-stuck, offer-fails, offer-fires}
-use Rattle.rounds.proofs.Moments.{chartMessages-take, messageRegions-take, messageRegions-skip, momentOf-last, resetMoment-earlier, holds-earlier, retest}
-use Rattle.rounds.proofs.Settling.{RowMove, failsAt, restsAt, settleRow, Plains, stop, more, Result, resting, failing, free, placed-plain, settling, plains-placed, plains-messages}
+use Rattle.rounds.proofs.Machine.{plain-some, plain-none, for-some, has-message, offer-stuck, offer-fails}
+use Rattle.rounds.proofs.Machine.{offer-fires}
+use Rattle.rounds.proofs.Moments.{chartMessages-take, messageRegions-take, messageRegions-skip, momentOf-last}
+use Rattle.rounds.proofs.Moments.{resetMoment-earlier, holds-earlier, retest}
+use Rattle.rounds.proofs.Settling.{RowMove, failsAt, restsAt, settleRow, Plains, stop, more, Result, resting}
+use Rattle.rounds.proofs.Settling.{failing, free, placed-plain, settling, plains-placed, plains-messages}
 use Rattle.rounds.proofs.Rows.{codes, as-many, placed-waived, waived-early, through, one-row}
 
 -- the offer that a row shows
@@ -34,9 +39,11 @@ module _ (C : Chart) (o : ℕ) (l : Snoc LogRecord) (t : ℕ) where
   fire-is : (q : Row) (i : ℕ) → momentOf C o l (q ▸ i) ≡ t → fire C t (placeOf C o l q) i ≡ placeOf C o l (q ▸ i)
   unfolding fire placeOf resetMoment
   fire-is q i h = ap {B = Place}
-      (λ (u : ℕ). record { fired = stands (q ▸ i); clocks = λ c. cond (C .resets i c) u (resetMoment C o l q c) }) (sym h)
+      (λ (u : ℕ). record { fired = stands (q ▸ i); clocks = λ c. cond (C .resets i c) u (resetMoment C o l q c) })
+      (sym h)
 
-  tests-same : (q : Row) (i : ℕ) → momentOf C o l (q ▸ i) ≡ t → holds C o l q i ≡ C .condition i (values C t (placeOf C o l q .clocks))
+  tests-same : (q : Row) (i : ℕ) → momentOf C o l (q ▸ i) ≡ t
+      → holds C o l q i ≡ C .condition i (values C t (placeOf C o l q .clocks))
   unfolding holds placeOf
   tests-same q i h = ap (λ (u : ℕ). C .condition i (values C u (resetMoment C o l q))) h
 
@@ -45,7 +52,8 @@ module _ (C : Chart) (o : ℕ) (l : Snoc LogRecord) (t : ℕ) where
     unfolding momentOf
     plain-moment q i f = rw (messageRegions-skip C q i (plain-some C A (stands q) i f .is-plain))
 
-    settle-is : (k : ℕ) (q : Row) → momentOf C o l q ≡ t → settle C t k (placeOf C o l q) ≡ asMove C o l (settleRow C (holds C o l) k q)
+    settle-is : (k : ℕ) (q : Row) → momentOf C o l q ≡ t
+        → settle C t k (placeOf C o l q) ≡ asMove C o l (settleRow C (holds C o l) k q)
     unfolding settle settleRow asMove placeOf
     settle-is zero q h = refl
     settle-is (suc k) q h = elim (found (readyPlain C (stands q))) [
@@ -66,11 +74,13 @@ module _ (C : Chart) (o : ℕ) (l : Snoc LogRecord) where
   all-hold ε P = refl
   all-hold (p ▸ i) P = rw (all-hold p (P .0), P .1 .condition)
 
-  fails-last : (p : Row) (i : ℕ) → firstFailing C o l p ≡ none → holds C o l p i ≡ false → firstFailing C o l (p ▸ i) ≡ some i
+  fails-last : (p : Row) (i : ℕ) → firstFailing C o l p ≡ none → holds C o l p i ≡ false
+      → firstFailing C o l (p ▸ i) ≡ some i
   unfolding firstFailing
   fails-last p i h t = rw (h, t)
 
-  fails-still : (ok : Row → ℕ → Bool) {b r : Row} {i : ℕ} → Plains C ok b r → firstFailing C o l b ≡ some i → firstFailing C o l r ≡ some i
+  fails-still : (ok : Row → ℕ → Bool) {b r : Row} {i : ℕ} → Plains C ok b r → firstFailing C o l b ≡ some i
+      → firstFailing C o l r ≡ some i
   unfolding firstFailing
   fails-still ok stop h = h
   fails-still ok (more w e t) h = rw (fails-still ok w h)
@@ -86,10 +96,12 @@ pub data Means (C : Chart) (o : ℕ) (s : Snoc LogRecord) (q : Row) (e : LogReco
   failed : (p : Row) (i : ℕ) (r : Row) → LawfulButLast C o s e r
       → firstFailing C o (chartMessages C (s ▸ e)) r ≡ some i
       → Means C o s q e (fails i (placeOf C o (chartMessages C (s ▸ e)) p))
-  grown : (r : Row) → Lawful C o (s ▸ e) r → size q < size r → Means C o s q e (rests (placeOf C o (chartMessages C (s ▸ e)) r))
+  grown : (r : Row) → Lawful C o (s ▸ e) r → size q < size r
+      → Means C o s q e (rests (placeOf C o (chartMessages C (s ▸ e)) r))
 
 -- one more chart message e, and the lawful row q of the stretch s before it
-module _ (C : Chart) (A : Accepted C) (o : ℕ) (s : Snoc LogRecord) (e : LogRecord) (chart : So (chartMessage C e)) (q : Row)
+module _ (C : Chart) (A : Accepted C) (o : ℕ) (s : Snoc LogRecord) (e : LogRecord) (chart : So (chartMessage C e))
+    (q : Row)
     (lawful : Lawful C o s q) where
   abbrev l : Snoc LogRecord
   l = chartMessages C (s ▸ e)
@@ -133,9 +145,11 @@ module _ (C : Chart) (A : Accepted C) (o : ℕ) (s : Snoc LogRecord) (e : LogRec
       (lt-ltb (size (chartMessages C s)) (size (messageRegions C (p ▸ i))) (omega arith))
 
   -- the next plain region belongs to e too
-  plain-last : {ok : Row → ℕ → Bool} {b r : Row} {i : ℕ} → OfLast b → Plains C ok b r → readyPlain C (stands r) ≡ some i → OfLast (r ▸ i)
+  plain-last : {ok : Row → ℕ → Bool} {b r : Row} {i : ℕ} → OfLast b → Plains C ok b r → readyPlain C (stands r) ≡ some i
+      → OfLast (r ▸ i)
   unfolding OfLast
-  plain-last {ok} {b} {r} {i} h w f = rw (messageRegions-skip C r i (plain-some C A (stands r) i f .is-plain), plains-messages C A ok w) h
+  plain-last {ok} {b} {r} {i} h w f =
+      rw (messageRegions-skip C r i (plain-some C A (stands r) i f .is-plain), plains-messages C A ok w) h
 
   rests-loose : (b : Row) {v : RowMove} → OfLast b → Result C loose b v
       → (r : Row) × Plains C loose b r × (readyPlain C (stands r) ≡ none)
@@ -167,7 +181,13 @@ module _ (C : Chart) (A : Accepted C) (o : ℕ) (s : Snoc LogRecord) (e : LogRec
     unfolding Lawful
     placed-m ok t =
         let R : Ready C (stands q) m = for-some C A (stands q) e m fits .0 in
-        record { region = R .region; once = R .unfired; order = R .under; prompt = λ j p S. absurd (lawful .settled j p S); condition = t }
+        record {
+          region = R .region;
+          once = R .unfired;
+          order = R .under;
+          prompt = λ j p S. absurd (lawful .settled j p S);
+          condition = t;
+        }
 
     last-m : OfLast (q ▸ m)
     unfolding OfLast
@@ -175,7 +195,13 @@ module _ (C : Chart) (A : Accepted C) (o : ℕ) (s : Snoc LogRecord) (e : LogRec
 
     codes-m : each (C .key) (messageRegions C (q ▸ m)) ≡ codes l
     unfolding Lawful
-    codes-m = rw (messageRegions-take C q m (has-message C e m chart key-m), chartMessages-take C s e chart, key-m, lawful .one-for-one)
+    codes-m =
+        rw (
+          messageRegions-take C q m (has-message C e m chart key-m),
+          chartMessages-take C s e chart,
+          key-m,
+          lawful .one-for-one,
+        )
 
     means-settled : (v : RowMove) → So (strict q m) → Result C strict (q ▸ m) v → Means C o s q e (asMove C o l v)
     unfolding asMove Lawful
@@ -192,17 +218,23 @@ module _ (C : Chart) (A : Accepted C) (o : ℕ) (s : Snoc LogRecord) (e : LogRec
         (rw (messageRegions-skip C r i (plain-some C A (stands r) i f .is-plain), plains-messages C A strict w) codes-m)
         (plain-last last-m w f)
 
-    place-settles : So (strict q m) → offer C (placeOf C o l q) e ≡ asMove C o l (settleRow C strict (free C (q ▸ m)) (q ▸ m))
+    place-settles : So (strict q m) → offer C (placeOf C o l q) e ≡ asMove C o l
+        (settleRow C strict (free C (q ▸ m)) (q ▸ m))
     unfolding free placeOf
-    place-settles t = offer-fires C (placeOf C o l q) e m fits (sym (tests-same C o l (e .time) q m (now (q ▸ m) last-m)) ∙ t)
-        ∙ ap (λ (p : Place). settle C (e .time) (unfired C (p .fired)) p) (fire-is C o l (e .time) q m (now (q ▸ m) last-m))
+    place-settles t =
+        offer-fires C (placeOf C o l q) e m fits (sym (tests-same C o l (e .time) q m (now (q ▸ m) last-m)) ∙ t)
+        ∙ ap (λ (p : Place). settle C (e .time) (unfired C (p .fired)) p)
+        (fire-is C o l (e .time) q m (now (q ▸ m) last-m))
         ∙ settle-is C o l (e .time) A (unfired C (stands (q ▸ m))) (q ▸ m) (now (q ▸ m) last-m)
 
     means-for : Means C o s q e (offer C (placeOf C o l q) e)
     unfolding placeOf
     means-for = elim (split (strict q m)) [
-      | inl t ↦ rw (place-settles t) (means-settled (settleRow C strict (free C (q ▸ m)) (q ▸ m)) t (settling C A strict (q ▸ m)))
-      | inr t ↦ rw (offer-fails C (placeOf C o l q) e m fits (sym (tests-same C o l (e .time) q m (now (q ▸ m) last-m)) ∙ t))
+      | inl t ↦
+          rw (place-settles t)
+          (means-settled (settleRow C strict (free C (q ▸ m)) (q ▸ m)) t (settling C A strict (q ▸ m)))
+      | inr t ↦
+          rw (offer-fails C (placeOf C o l q) e m fits (sym (tests-same C o l (e .time) q m (now (q ▸ m) last-m)) ∙ t))
           (fails-here q m placed-q (placed-m loose (waived-last q m last-m)) t codes-m last-m)
     ]
 

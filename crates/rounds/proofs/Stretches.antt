@@ -5,7 +5,8 @@ use Prim.Native.Nat.{ℕ}
 use Rattle.base.specs.Lists.{Snoc, ε, _▸_, EachIn, all-of-it, shorter}
 use Rattle.rounds.specs.Chart.{Chart, Accepted}
 use Rattle.rounds.specs.Rows.{LogRecord, Row, stands, Lawful, Full}
-use Rattle.rounds.specs.Feeds.{Outcome, kept, dropped, broken, Stretch, Last, unended, afterBreak, lastAfter, Answer, FedOne, refuses, runs-on, ends, again, Fed, none-yet, one-more}
+use Rattle.rounds.specs.Feeds.{Outcome, kept, dropped, broken, Stretch, Last, unended, afterBreak, lastAfter}
+use Rattle.rounds.specs.Feeds.{Answer, FedOne, refuses, runs-on, ends, again, Fed, none-yet, one-more}
 use Rattle.rounds.specs.Demand3.{RunsOn, Ended, Meaning}
 use Rattle.rounds.proofs.Machine.{opening-lacks}
 use Rattle.rounds.proofs.Feeds.{opens}
@@ -16,7 +17,8 @@ module _ (C : Chart) (A : Accepted C) where
   unfolding RunsOn
   opened o p all-of-it = (ε, opens C A o, opening-lacks C A)
 
-  longer : (o : ℕ) (s : Snoc LogRecord) (e : LogRecord) → RunsOn C o s → (r : Row) → Lawful C o (s ▸ e) r → ¬ Full C (stands r)
+  longer : (o : ℕ) (s : Snoc LogRecord) (e : LogRecord) → RunsOn C o s → (r : Row) → Lawful C o (s ▸ e) r
+      → ¬ Full C (stands r)
       → RunsOn C o (s ▸ e)
   unfolding RunsOn
   longer o s e R r L f p all-of-it = (r, L, f)
@@ -27,10 +29,10 @@ module _ (C : Chart) (A : Accepted C) where
   AtLast (unended o s) = RunsOn C o s
   AtLast (afterBreak k) = Unit {0}
 
-  behind-it : (x : Outcome) (t : ℕ) → AtLast (lastAfter x t)
-  behind-it kept t = opened t
-  behind-it dropped t = opened t
-  behind-it (broken k) t = tt
+  after-it : (x : Outcome) (t : ℕ) → AtLast (lastAfter x t)
+  after-it kept t = opened t
+  after-it dropped t = opened t
+  after-it (broken k) t = tt
 
   record Cut (es : Snoc Stretch) (last : Last) : Type 0 where
     ended : EachIn (λ before x. Ended C x) es
@@ -42,16 +44,18 @@ module _ (C : Chart) (A : Accepted C) where
   one {e} K (runs-on {o} {s} h q r a M L f O) = record { ended = K .ended; running = longer o s e (K .running) r L f }
   one {e} K (ends {o} {s} h x E) = record {
     ended = (K .ended, record { before = s; last = e; parts = refl; ran-on = K .running; ends = E });
-    running = behind-it x (e .time);
+    running = after-it x (e .time);
   }
   one K again = K
 
-  cuts : {fs : Snoc LogRecord} {ans : Snoc Answer} {rs : Snoc LogRecord} {es : Snoc Stretch} {last : Last} → Fed C fs ans rs es last → Cut es last
+  cuts : {fs : Snoc LogRecord} {ans : Snoc Answer} {rs : Snoc LogRecord} {es : Snoc Stretch} {last : Last}
+      → Fed C fs ans rs es last → Cut es last
   cuts none-yet = record { ended = tt; running = opened 0 }
   cuts (one-more F N) = one (cuts F) N
 
   pub each-stretch : {fs : Snoc LogRecord} (M : Meaning C fs) → EachIn (λ before x. Ended C x) (M .stretches)
   each-stretch M = cuts (M .fed) .ended
 
-  pub last-stretch : {fs : Snoc LogRecord} (M : Meaning C fs) (o : ℕ) (s : Snoc LogRecord) → M .last ≡ unended o s → RunsOn C o s
+  pub last-stretch : {fs : Snoc LogRecord} (M : Meaning C fs) (o : ℕ) (s : Snoc LogRecord) → M .last ≡ unended o s
+      → RunsOn C o s
   last-stretch M o s q = subst AtLast q (cuts (M .fed) .running)

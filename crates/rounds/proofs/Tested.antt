@@ -11,7 +11,8 @@ use lib.Dec.{ltb, leb}
 use borrow.Author.Tests.{ltb-true, leb-true}
 use Rattle.base.specs.Lists.{Snoc, ε, _▸_, each, EachIn, onFound}
 use Rattle.rounds.specs.Chart.{Chart, Accepted}
-use Rattle.rounds.specs.Rows.{LogRecord, Row, stands, chartMessage, chartMessages, plain, messageRegions, Ready, holds, Placed, LawfulIf, Lawful, waived, LawfulButLast}
+use Rattle.rounds.specs.Rows.{LogRecord, Row, stands, chartMessage, chartMessages, plain, messageRegions, Ready}
+use Rattle.rounds.specs.Rows.{holds, Placed, LawfulIf, Lawful, waived, LawfulButLast}
 use Rattle.rounds.specs.Machine.{Move, stuck, ready, readyPlain, offer}
 use Rattle.base.proofs.Bools.{and-left, and-right}
 use Rattle.base.proofs.Facts.{found}

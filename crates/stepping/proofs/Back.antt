@@ -6,7 +6,8 @@ use Rattle.model.specs.declared.Answer.{Answer}
 use Rattle.rounds.specs.Chart.{Chart}
 use Rattle.rounds.specs.Rows.{LogRecord, chartMessage}
 use Rattle.rounds.specs.Feeds.{Answer as AbstractAnswer, refused, brokenAt, keptNow, droppedNow, entered, moved, quiet}
-use Rattle.rounds.specs.Machine.{Monitor as AbstractMonitor, Step as AbstractStep, Move, stuck, fails, rests, offer, full, prechartDone, goOn, keepRound, dropRound, breakRound, conclude, accept}
+use Rattle.rounds.specs.Machine.{Monitor as AbstractMonitor, Step as AbstractStep, Move, stuck, fails, rests, offer}
+use Rattle.rounds.specs.Machine.{full, prechartDone, goOn, keepRound, dropRound, breakRound, conclude, accept}
 use Rattle.stepping.specs.declared.Step.{Step}
 use Rattle.stepping.specs.Answers.{answerOf, HandsBack}
 
@@ -19,16 +20,20 @@ NotRefused entered = Unit {0}
 NotRefused moved = Unit {0}
 NotRefused quiet = Unit {0}
 
-either-taken : (b : Bool) (x y : AbstractStep) → NotRefused (x .answer) → NotRefused (y .answer) → NotRefused (cond b x y .answer)
+either-taken : (b : Bool) (x y : AbstractStep) → NotRefused (x .answer) → NotRefused (y .answer)
+    → NotRefused (cond b x y .answer)
 either-taken true x y p q = p
 either-taken false x y p q = q
 
 module _ (C : Chart) (m : AbstractMonitor) (e : LogRecord) where
   conclude-taken : (v : Move) → NotRefused (conclude C m e v .answer)
   unfolding conclude goOn keepRound dropRound breakRound NotRefused
-  conclude-taken stuck = either-taken (prechartDone C (m .place .fired)) (breakRound C m e _ (m .place)) (dropRound C m e) tt tt
+  conclude-taken stuck =
+      either-taken (prechartDone C (m .place .fired)) (breakRound C m e _ (m .place)) (dropRound C m e) tt tt
   conclude-taken (fails i p) = either-taken (C .hot i) (breakRound C m e _ p) (dropRound C m e) tt tt
-  conclude-taken (rests p) = either-taken (full C (p .fired)) (keepRound C m e) _ tt (on (not (prechartDone C (m .place .fired)) && prechartDone C (p .fired)))
+  conclude-taken (rests p) =
+      either-taken (full C (p .fired)) (keepRound C m e) _ tt
+      (on (not (prechartDone C (m .place .fired)) && prechartDone C (p .fired)))
     where
       on : (b : Bool) → NotRefused (cond b entered moved)
       on true = tt
@@ -36,13 +41,17 @@ module _ (C : Chart) (m : AbstractMonitor) (e : LogRecord) where
 
   pub accept-taken : NotRefused (accept C m e .answer)
   unfolding accept goOn NotRefused
-  accept-taken = either-taken (chartMessage C e) (conclude C m e (offer C (m .place) e)) (goOn C m e quiet (m .place)) (conclude-taken (offer C (m .place) e)) tt
+  accept-taken =
+      either-taken (chartMessage C e) (conclude C m e (offer C (m .place) e)) (goOn C m e quiet (m .place))
+      (conclude-taken (offer C (m .place) e)) tt
 
-pub taken-back : (C : Chart) (v : AbstractMonitor) (e : LogRecord) (m : Monitor) (r : Step) → answerOf (r .answer) ≡ accept C v e .answer
+pub taken-back : (C : Chart) (v : AbstractMonitor) (e : LogRecord) (m : Monitor) (r : Step)
+    → answerOf (r .answer) ≡ accept C v e .answer
     → m .tally .broken .at ≡ 0 → HandsBack m r
 unfolding NotRefused
 taken-back C v e m r q z = record {
-  refused = λ k p. absurd (subst (λ (a : Answer). NotRefused (answerOf a)) p (subst NotRefused (sym q) (accept-taken C v e)));
+  refused =
+      λ k p. absurd (subst (λ (a : Answer). NotRefused (answerOf a)) p (subst NotRefused (sym q) (accept-taken C v e)));
   broken = λ n. absurd (n z);
 }
 

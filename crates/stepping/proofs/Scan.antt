@@ -45,15 +45,19 @@ module _ (C : Chart) (m : AbstractMonitor) (e : LogRecord) where
   afterScan Unready = conclude C m e stuck
   afterScan Foreign = goOn C m e quiet (m .place)
 
-module _ {h : Head} {keys above resets terms : List ℕ} (K : Compiled h keys above resets terms) (m : Monitor) (code t : ℕ) where
+module _ {h : Head} {keys above resets terms : List ℕ} (K : Compiled h keys above resets terms) (m : Monitor)
+    (code t : ℕ) where
   ready-for : readyFor (planChart h keys above resets terms) (contains (m .place .fired)) (recordOf code t)
       ≡ theReady keys above (h .count) (m .place .fired) code
   unfolding readyFor
-  ready-for = sym (first-same (h .count) _ _ (λ i l. ap (λ (b : Bool). eqb (getD keys i 0) code && b) (ready-same K (m .place .fired) i l)))
+  ready-for =
+      sym (first-same (h .count) _ _
+      (λ i l. ap (λ (b : Bool). eqb (getD keys i 0) code && b) (ready-same K (m .place .fired) i l)))
 
   pub accept-scan : eqb code 0 ≡ false
       → accept (planChart h keys above resets terms) (monitorAt m) (recordOf code t)
-      ≡ afterScan (planChart h keys above resets terms) (monitorAt m) (recordOf code t) (soughtBy keys above (h .count) (m .place .fired) code)
+      ≡ afterScan (planChart h keys above resets terms) (monitorAt m) (recordOf code t)
+      (soughtBy keys above (h .count) (m .place .fired) code)
   unfolding accept offer chartMessage soughtBy afterScan
   accept-scan z = elim (found (theReady keys above (h .count) (m .place .fired) code)) [
     | inl n ↦ elim (split (someHas keys (h .count) code)) [
@@ -65,7 +69,8 @@ module _ {h : Head} {keys above resets terms : List ℕ} (K : Compiled h keys ab
     where
       has : (i : ℕ) → theReady keys above (h .count) (m .place .fired) code ≡ some i
           → someHas keys (h .count) code ≡ true
-      has i f = let L = first-some (h .count) _ i f in one-passes (λ i. eqb (getD keys i 0) code) i (h .count) (L .below) (and-left _ _ (L .passes))
+      has i f = let L = first-some (h .count) _ i f in
+          one-passes (λ i. eqb (getD keys i 0) code) i (h .count) (L .below) (and-left _ _ (L .passes))
 
   pub sought-ready : {o : Sought} {i : ℕ} → o ≡ soughtBy keys above (h .count) (m .place .fired) code → o ≡ ReadyAt i
       → Ready (planChart h keys above resets terms) (contains (m .place .fired)) i

@@ -22,7 +22,8 @@ zero-moments k = by (decLt k mostClocks)
     by : Dec (k < mostClocks) → momentsOf (zeroMonitor .place .resets) k ≡ 0
     by (yes h) = ap (λ (x : Moment). x .0) (getD-replicate mostClocks k (record { 0 = 0 }) (record { 0 = 0 }) h)
     by (no h) =
-        let l : length (replicate {A = Moment} mostClocks (record { 0 = 0 })) ≤ k = simp length-replicate (omega arith) in
+        let l : length (replicate {A = Moment} mostClocks (record { 0 = 0 })) ≤ k = simp length-replicate
+        (omega arith) in
         ap (λ (x : Moment). x .0) (List·getD-eq-default (replicate mostClocks (record { 0 = 0 })) (record { 0 = 0 }) l)
 
 pub zero-fresh : monitorAt zeroMonitor ≡ fresh

@@ -15,7 +15,8 @@ unfolding digitsOf
 digits-length zero n = omega arith
 digits-length (suc k) n = by (ltb n 10) (digits-length k (n / 10))
   where
-    by : (b : Bool) → length (digitsOf k (n / 10)) ≤ k → length (cond b ((48 + n) ∷ []) (digitsOf k (n / 10) ++ ((48 + n % 10) ∷ []))) ≤ suc k
+    by : (b : Bool) → length (digitsOf k (n / 10)) ≤ k
+        → length (cond b ((48 + n) ∷ []) (digitsOf k (n / 10) ++ ((48 + n % 10) ∷ []))) ≤ suc k
     by true h = omega arith
     by false h = omega (arith, length-append (digitsOf k (n / 10)) ((48 + n % 10) ∷ []))
 
@@ -97,7 +98,8 @@ digits-are (suc k) n = by (ltb n 10) refl (digits-are k (n / 10))
         → Digits (cond b ((48 + n) ∷ []) (digitsOf k (n / 10) ++ ((48 + n % 10) ∷ [])))
     by true e d = digit-alone (48 + n) (omega arith) (omega (arith, ltb-true n 10 e))
     by false e d =
-        digits-append (digitsOf k (n / 10)) ((48 + n % 10) ∷ []) d (digit-alone (48 + n % 10) (omega arith) (omega arith))
+        digits-append (digitsOf k (n / 10)) ((48 + n % 10) ∷ []) d
+        (digit-alone (48 + n % 10) (omega arith) (omega arith))
 
 digits-some : (k n : ℕ) → 0 < length (digitsOf (suc k) n)
 unfolding digitsOf

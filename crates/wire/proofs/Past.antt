@@ -1,10 +1,8 @@
--- Past the end every number reads as 0, so what does not is before it. Assumes nothing.
+-- Past the end every number reads as 0. Assumes nothing.
 use mathlib.Core.Path.{_≡_}
-use mathlib.Core.Logic.{_≢_}
 use mathlib.Core.List.{List}
-use Prim.Native.Nat.{ℕ, _+_, _*_, _≤_, _<_}
+use Prim.Native.Nat.{ℕ, _+_, _*_, _≤_}
 use native.Mathlib.Omega.{arith}
-use native.Mathlib.Decide.{decLt}
 use lib.ListN.{length, getD, List·getD-eq-default}
 use Rattle.wire.specs.Bytes.{word16, word32, word64}
 
@@ -23,9 +21,3 @@ past32 = halves word16 65536 2 past16
 
 pub past64 : Past word64
 past64 = halves word32 0x1_0000_0000 4 past32
-
-pub inside : (s : List ℕ) (i : ℕ) → getD s i 0 ≢ 0 → i < length s
-inside s i h = elim (decLt i (length s)) [
-  | yes l ↦ l
-  | no l ↦ let k : length s ≤ i = omega arith in absurd (h (List·getD-eq-default s 0 k))
-]

@@ -4,10 +4,13 @@ use Rattle.bitset.specs.Set.{contains, single, inserted, union, isSubset, withi
 use Rattle.order.specs.Order.{isOver, gathered, aboveSets}
 use Rattle.condition.specs.Condition.{termsHold}
 use Rattle.chart_reader.specs.Read.{readChart, readFrom, advanceOf}
-use Rattle.chart_value.specs.WellFormed.{isZeroTerm, termPlaced, termsFit, regionFits, isZeroRegion, touchedBefore, regionPlaced, wellFormed}
-use Rattle.rounds.specs.Rows.{momentAt, chartMessage, chartMessages, plain, messageRegions, momentOf, values, opened, resetMoment, holds, waived, firstFailing}
+use Rattle.chart_value.specs.WellFormed.{isZeroTerm, termPlaced, termsFit, regionFits, isZeroRegion, touchedBefore}
+use Rattle.chart_value.specs.WellFormed.{regionPlaced, wellFormed}
+use Rattle.rounds.specs.Rows.{momentAt, chartMessage, chartMessages, plain, messageRegions, momentOf, values, opened}
+use Rattle.rounds.specs.Rows.{resetMoment, holds, waived, firstFailing}
 use Rattle.rounds.specs.Feeds.{refusal}
-use Rattle.rounds.specs.Machine.{ready, readyFor, readyPlain, fire, unfired, settle, offer, opening, full, prechartDone, goOn, keepRound, dropRound, breakRound, conclude, accept, feed, after}
+use Rattle.rounds.specs.Machine.{ready, readyFor, readyPlain, fire, unfired, settle, offer, opening, full, prechartDone}
+use Rattle.rounds.specs.Machine.{goOn, keepRound, dropRound, breakRound, conclude, accept, feed, after}
 use Rattle.rounds.proofs.Tested.{promptTest, placedTest, rowTest}
 use Rattle.rounds.proofs.Rounds.{placeOf}
 use Rattle.paper.specs.Runs.{add, reset, shift, configAt}

@@ -1,4 +1,5 @@
--- Every case has its instance: charts and monitors by computing their tests, logs by walking their records. Assumes nothing.
+-- Every case has its instance: charts and monitors by computing their tests, logs by walking their records. Assumes
+-- nothing.
 use mathlib.Core.Path.{_≡_, refl, sym, ap, subst, _∙_}
 use mathlib.Core.Bool.{Bool, true, _&&_}
 use mathlib.Core.List.{List, [], _∷_}
@@ -86,11 +87,17 @@ takes =
     let L : monitorAt (X .monitor) ≡ feed U (monitorAt zeroMonitor) (logRecord (undo 100)) .next
     = G .leads (X .run) ∙ ap (λ (m : AbstractMonitor). feed U m (logRecord (undo 100)) .next) (sym z) in
     let P : Acceptable U (monitorAt zeroMonitor) (logRecord (undo 100))
-    = record { fit = subst (Fit U) (sym z) (after-fit U accepted-u ε); unbroken = refl; forward = omega arith; room = omega arith } in
+    = record {
+      fit = subst (Fit U) (sym z) (after-fit U accepted-u ε);
+      unbroken = refl;
+      forward = omega arith;
+      room = omega arith;
+    } in
     let D = demand-2 U accepted-u in (
       X .monitor,
       cases.takes given-u P entered (X .monitor)
-          (subst (λ (m : AbstractMonitor). Taken U (statusOf U (monitorAt zeroMonitor)) (logRecord (undo 100)) (statusOf U m) entered) (sym L)
+          (subst (λ (m : AbstractMonitor). Taken U (statusOf U (monitorAt zeroMonitor)) (logRecord (undo 100))
+          (statusOf U m) entered) (sym L)
           (D .given (monitorAt zeroMonitor) (logRecord (undo 100)) P))
           (subst (Fit U) (sym L) (D .stays-fit (monitorAt zeroMonitor) (logRecord (undo 100)) P)),
     )
@@ -100,7 +107,8 @@ message = cases.message refl (omega arith)
 
 two : Walk (written (ε ▸ undo 100 ▸ passed 110) []) (ε ▸ undo 100 ▸ passed 110) 14 110
 two =
-    cases.step (cases.step cases.start (undo 100) 9 (cases.message refl (omega arith)) (omega arith) (omega arith)) (passed 110) 14
+    cases.step (cases.step cases.start (undo 100) 9 (cases.message refl (omega arith)) (omega arith) (omega arith))
+    (passed 110) 14
     (cases.time refl (omega arith)) (omega arith) (omega arith)
 
 -- a log of n records of time 0: the byte at each offer, and a walk over the first k of them
@@ -133,7 +141,8 @@ module _ where
   zero-at (suc n) (suc k) (suc (suc zero)) h a b = absurd (omega arith)
   zero-at (suc n) (suc k) (suc (suc (suc zero))) h a b = absurd (omega arith)
   zero-at (suc n) (suc k) (suc (suc (suc (suc zero)))) h a b = absurd (omega arith)
-  zero-at (suc n) (suc k) (suc (suc (suc (suc (suc i))))) h a b = zero-at n k i (omega arith) (omega arith) (omega arith)
+  zero-at (suc n) (suc k) (suc (suc (suc (suc (suc i))))) h a b =
+      zero-at n k i (omega arith) (omega arith) (omega arith)
 
   time-at : (n k : ℕ) → k < n → found.timeAt (ticks n) (5 * k) ≡ passed 0
   time-at n k h =
@@ -163,20 +172,25 @@ module _ where
       let s : size (copies k) ≡ k = copies-size k in
       let q : 5 * k + 5 ≡ 5 * suc k = omega arith in
       subst (λ (p : ℕ). Walk (ticks n) (copies k ▸ passed 0) p 0) q
-      (cases.step (walk n k (omega arith) (omega arith)) (passed 0) (5 * k + 5) (tick n k (omega arith)) (omega arith) (omega arith))
+      (cases.step (walk n k (omega arith) (omega arith)) (passed 0) (5 * k + 5) (tick n k (omega arith)) (omega arith)
+      (omega arith))
 
 overflow : (k : ℕ) → k ≡ 1000000 → JudgesAs valueU (ticks (suc k)) (refusedLog 23 (5 * k))
 overflow k q =
     let s : size (copies k) ≡ k = copies-size k in
-    cases.overflows given-u (walk (suc k) k (omega arith) (omega arith)) (passed 0) (5 * k + 5) (tick (suc k) k (omega arith)) (omega arith)
+    cases.overflows given-u (walk (suc k) k (omega arith) (omega arith)) (passed 0) (5 * k + 5)
+    (tick (suc k) k (omega arith)) (omega arith)
     (omega arith)
 
-judges : JudgesAs valueU (written (ε ▸ undo 100 ▸ references 120 ▸ headings 140) []) (record { number = 0; offset = 0; verdict = verdictAs 0 1 0 3 0 0 })
+judges : JudgesAs valueU (written (ε ▸ undo 100 ▸ references 120 ▸ headings 140) [])
+    (record { number = 0; offset = 0; verdict = verdictAs 0 1 0 3 0 0 })
 unfolding computing
 judges =
     cases.judges given-u
-    (cases.step (cases.step (cases.step cases.start (undo 100) 9 (cases.message refl (omega arith)) (omega arith) (omega arith))
-    (references 120) 18 (cases.message refl (omega arith)) (omega arith) (omega arith)) (headings 140) 27 (cases.message refl (omega arith)) (omega arith) (omega arith))
+    (cases.step
+    (cases.step (cases.step cases.start (undo 100) 9 (cases.message refl (omega arith)) (omega arith) (omega arith))
+    (references 120) 18 (cases.message refl (omega arith)) (omega arith) (omega arith)) (headings 140) 27
+    (cases.message refl (omega arith)) (omega arith) (omega arith))
     (cases.ends (omega arith))
 
 pub each-case : Cases
@@ -205,7 +219,8 @@ each-case = record {
       (cases.step cases.start (passed 7) 5 (cases.time refl (omega arith)) (omega arith) (omega arith)) 31
       (cases.unknown (omega arith) (λ z. omega (arith, z)) (λ z. omega (arith, z)));
   falls = cases.falls given-u
-      (cases.step cases.start (undo 100) 9 (cases.message refl (omega arith)) (omega arith) (omega arith)) (headings 99) 18
+      (cases.step cases.start (undo 100) 9 (cases.message refl (omega arith)) (omega arith) (omega arith))
+      (headings 99) 18
       (cases.message refl (omega arith)) (omega arith);
   overflows = overflow 1000000 refl;
   judges = judges;

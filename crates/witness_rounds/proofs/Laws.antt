@@ -82,7 +82,9 @@ module _ (C : Chart) where
 
 -- a monitor's status, with its configuration written out
 abbrev pub statusWith : Config → Monitor → Status
-statusWith z m = statusAs z (m .tally .now) (m .tally .records) (m .tally .kept) (m .tally .dropped) (m .tally .broken .at) (m .tally .broken .reason)
+statusWith z m =
+    statusAs z (m .tally .now) (m .tally .records) (m .tally .kept) (m .tally .dropped) (m .tally .broken .at)
+    (m .tally .broken .reason)
 
 -- one more record, after the records fs
 module _ (C : Chart) (A : Accepted C) (fs : Snoc LogRecord) (e : LogRecord) where
@@ -96,13 +98,18 @@ module _ (C : Chart) (A : Accepted C) (fs : Snoc LogRecord) (e : LogRecord) wher
   acceptable : So accepts → Acceptable C m e
   unfolding accepts
   acceptable h =
-      let b = and-left (eqb (m .tally .broken .at) 0) (leb (m .tally .now) (e .time) && ltb (m .tally .records) mostRecords) h in
-      let k = and-right (eqb (m .tally .broken .at) 0) (leb (m .tally .now) (e .time) && ltb (m .tally .records) mostRecords) h in
+      let b = and-left (eqb (m .tally .broken .at) 0)
+      (leb (m .tally .now) (e .time) && ltb (m .tally .records) mostRecords) h in
+      let k = and-right (eqb (m .tally .broken .at) 0)
+      (leb (m .tally .now) (e .time) && ltb (m .tally .records) mostRecords) h in
       record {
         fit = after-fit C A fs;
         unbroken = eqb-true (m .tally .broken .at) 0 b;
-        forward = leb-true (m .tally .now) (e .time) (and-left (leb (m .tally .now) (e .time)) (ltb (m .tally .records) mostRecords) k);
-        room = ltb-true (m .tally .records) mostRecords (and-right (leb (m .tally .now) (e .time)) (ltb (m .tally .records) mostRecords) k);
+        forward =
+            leb-true (m .tally .now) (e .time)
+            (and-left (leb (m .tally .now) (e .time)) (ltb (m .tally .records) mostRecords) k);
+        room = ltb-true (m .tally .records) mostRecords
+            (and-right (leb (m .tally .now) (e .time)) (ltb (m .tally .records) mostRecords) k);
       }
 
   module _ (P : Acceptable C m e) where
@@ -114,7 +121,8 @@ module _ (C : Chart) (A : Accepted C) (fs : Snoc LogRecord) (e : LogRecord) wher
         → Turn C (statusOf C m) e i (configAt C (e .time) p)
     unfolding configAt
     turn-failing i p c q =
-        turn-of C (statusOf C m) e at-rest (failure-of C A (m .place) e (m .tally .now) (P .fit .moments) (P .forward) c i p q)
+        turn-of C (statusOf C m) e at-rest
+        (failure-of C A (m .place) e (m .tally .now) (P .fit .moments) (P .forward) c i p q)
 
   -- taken by this case, with the machine's status, whose configuration is z
   abbrev TakenSo : ℕ → Config → Answer → Type 0
@@ -147,7 +155,8 @@ module _ (C : Chart) (A : Accepted C) (fs : Snoc LogRecord) (e : LogRecord) wher
   pub taken-at : (n : ℕ) (r : Row) (l : List ℕ) (a : Answer) → So accepts → v .next .place .fired ≡ stands r
       → table (C .clocks) (values C (v .next .tally .now) (v .next .place .clocks)) ≡ l → v .answer ≡ a → Case a ≡ n
       → TakenSo n (configOf r l) a
-  taken-at n r l a h f k q c = taken-by n (configOf r l) a h (config-at C (v .next .tally .now) (v .next .place) r l f k) q c
+  taken-at n r l a h f k q c =
+      taken-by n (configOf r l) a h (config-at C (v .next .tally .now) (v .next .place) r l f k) q c
 
   -- the condition of region i fails when it is its turn
   pub turn-at : (i : ℕ) (p : Place) (r : Row) (l : List ℕ) → So accepts → So (chartMessage C e)

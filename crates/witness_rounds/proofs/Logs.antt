@@ -10,7 +10,8 @@ use Rattle.chart_value.proofs.Shown.{shown-of}
 use Rattle.base.specs.Lists.{Snoc, ε, _▸_}
 use Rattle.rounds.specs.Chart.{Accepted}
 use Rattle.rounds.specs.Rows.{LogRecord, stands, chartMessages, Lawful, Full, LawfulButLast, firstFailing}
-use Rattle.rounds.specs.Feeds.{conditionFails, isKept, Ends, complete, fails-cold, fails-hot, keptNow, droppedNow, brokenAt}
+use Rattle.rounds.specs.Feeds.{conditionFails, isKept, Ends, complete, fails-cold, fails-hot, keptNow, droppedNow}
+use Rattle.rounds.specs.Feeds.{brokenAt}
 use Rattle.rounds.proofs.Endings.{unlawful}
 use Rattle.rounds.proofs.Tested.{lawful-tested, waived-tested}
 use Rattle.rounds.proofs.Machine.{full-true}
@@ -19,7 +20,8 @@ use Rattle.log_reader.specs.Records.{recordsIn}
 use Rattle.judge.specs.Judge.{judgeOf}
 use Rattle.claims.specs.Examples.{chartU}
 use Rattle.witness_rounds.specs.Charts.{chartA, chartB, written}
-use Rattle.witness_rounds.specs.Rounds.{valueOf, theory, U, A, B, TakenBy, Round, RoundShown, roundU, keptA, droppedA, brokenA, keptB, droppedB, brokenB}
+use Rattle.witness_rounds.specs.Rounds.{valueOf, theory, U, A, B, TakenBy, Round, RoundShown, roundU, keptA}
+use Rattle.witness_rounds.specs.Rounds.{droppedA, brokenA, keptB, droppedB, brokenB}
 use Rattle.witness_rounds.proofs.Computing.{computing}
 use Rattle.paper.proofs.Taking.{unplaceable, caseFor}
 use Rattle.witness_rounds.proofs.Laws.{accepts, taken-anew, taken-at}
@@ -46,12 +48,16 @@ pub accepted-b : Accepted B
 accepted-b = shown-of chartB (valueOf chartB) read-b .accepted
 
 -- a round that ends where a condition fails, from the tests of its row
-failing : (g : Round) (A : Accepted (theory (g .chart))) (i : ℕ) → readChart (g .chart) ≡ acceptedAs (valueOf (g .chart))
+failing : (g : Round) (A : Accepted (theory (g .chart))) (i : ℕ)
+    → readChart (g .chart) ≡ acceptedAs (valueOf (g .chart))
     → recordsIn (written (g .before ▸ g .last) []) ≡ g .before ▸ g .last
-    → judgeOf (valueOf (g .chart)) (written (g .before ▸ g .last) []) ≡ record { number = 0; offset = 0; verdict = g .verdict }
+    → judgeOf (valueOf (g .chart))
+    (written (g .before ▸ g .last) []) ≡ record { number = 0; offset = 0; verdict = g .verdict }
     → Lawful (theory (g .chart)) 0 (logged (g .before)) (g .row)
-    → (W : LawfulButLast (theory (g .chart)) 0 (logged (g .before)) (logRecord (g .last)) (g .whole)) → g .failing ≡ some i
-    → firstFailing (theory (g .chart)) 0 (chartMessages (theory (g .chart)) (logged (g .before) ▸ logRecord (g .last))) (g .whole) ≡ some i
+    → (W : LawfulButLast (theory (g .chart)) 0 (logged (g .before)) (logRecord (g .last)) (g .whole))
+    → g .failing ≡ some i
+    → firstFailing (theory (g .chart)) 0 (chartMessages (theory (g .chart)) (logged (g .before) ▸ logRecord (g .last)))
+    (g .whole) ≡ some i
     → Ends (theory (g .chart)) 0 (logged (g .before)) (logRecord (g .last)) (g .outcome) → isKept (g .outcome) ≡ false
     → TakenBy (g .case) (theory (g .chart)) (g .before) (g .last) (g .status) (g .ans) → RoundShown g
 failing g A i c l j Q W f h E k T = record {
@@ -103,8 +109,10 @@ unfolding computing unplaceable caseFor accepts
 dropped-a =
     let s : Snoc LogRecord = logged (droppedA .before) in
     let e : LogRecord = logRecord (droppedA .last) in
-    let W : LawfulButLast A 0 s e (droppedA .whole) = waived-tested A accepted-a 0 s e (droppedA .whole) refl refl refl in
-    failing droppedA accepted-a 2 refl refl refl (lawful-tested A accepted-a 0 s (droppedA .row) refl refl refl) W refl refl
+    let W : LawfulButLast A 0 s e (droppedA .whole) = waived-tested A accepted-a 0 s e
+    (droppedA .whole) refl refl refl in
+    failing droppedA accepted-a 2 refl refl refl
+    (lawful-tested A accepted-a 0 s (droppedA .row) refl refl refl) W refl refl
     (fails-cold (droppedA .whole) 2 W refl refl) refl
     (taken-anew A accepted-a s e 4 droppedNow refl refl refl refl)
 
@@ -114,9 +122,11 @@ broken-a =
     let s : Snoc LogRecord = logged (brokenA .before) in
     let e : LogRecord = logRecord (brokenA .last) in
     let W : LawfulButLast A 0 s e (brokenA .whole) = waived-tested A accepted-a 0 s e (brokenA .whole) refl refl refl in
-    failing brokenA accepted-a 4 refl refl refl (lawful-tested A accepted-a 0 s (brokenA .row) refl refl refl) W refl refl
+    failing brokenA accepted-a 4 refl refl refl
+    (lawful-tested A accepted-a 0 s (brokenA .row) refl refl refl) W refl refl
     (fails-hot (brokenA .whole) 4 W refl refl) refl
-    (taken-at A accepted-a s e 5 (ε ▸ 0 ▸ 1 ▸ 2 ▸ 3) (31 ∷ 21 ∷ []) (brokenAt 3 conditionFails) refl refl refl refl refl)
+    (taken-at A accepted-a s e 5 (ε ▸ 0 ▸ 1 ▸ 2 ▸ 3) (31 ∷ 21 ∷ [])
+    (brokenAt 3 conditionFails) refl refl refl refl refl)
 
 pub kept-b : RoundShown keptB
 unfolding computing unplaceable caseFor accepts
@@ -140,8 +150,10 @@ unfolding computing unplaceable caseFor accepts
 dropped-b =
     let s : Snoc LogRecord = logged (droppedB .before) in
     let e : LogRecord = logRecord (droppedB .last) in
-    let W : LawfulButLast B 0 s e (droppedB .whole) = waived-tested B accepted-b 0 s e (droppedB .whole) refl refl refl in
-    failing droppedB accepted-b 2 refl refl refl (lawful-tested B accepted-b 0 s (droppedB .row) refl refl refl) W refl refl
+    let W : LawfulButLast B 0 s e (droppedB .whole) = waived-tested B accepted-b 0 s e
+    (droppedB .whole) refl refl refl in
+    failing droppedB accepted-b 2 refl refl refl
+    (lawful-tested B accepted-b 0 s (droppedB .row) refl refl refl) W refl refl
     (fails-cold (droppedB .whole) 2 W refl refl) refl
     (taken-anew B accepted-b s e 4 droppedNow refl refl refl refl)
 
@@ -151,6 +163,7 @@ broken-b =
     let s : Snoc LogRecord = logged (brokenB .before) in
     let e : LogRecord = logRecord (brokenB .last) in
     let W : LawfulButLast B 0 s e (brokenB .whole) = waived-tested B accepted-b 0 s e (brokenB .whole) refl refl refl in
-    failing brokenB accepted-b 3 refl refl refl (lawful-tested B accepted-b 0 s (brokenB .row) refl refl refl) W refl refl
+    failing brokenB accepted-b 3 refl refl refl
+    (lawful-tested B accepted-b 0 s (brokenB .row) refl refl refl) W refl refl
     (fails-hot (brokenB .whole) 3 W refl refl) refl
     (taken-at B accepted-b s e 5 (ε ▸ 0 ▸ 2 ▸ 1) (20 ∷ []) (brokenAt 2 conditionFails) refl refl refl refl refl)

@@ -8,12 +8,15 @@ use native.Mathlib.Omega.{arith}
 use Rattle.base.specs.Lists.{Snoc, ε, _▸_}
 use Rattle.model.specs.Answers.{timeFalls}
 use Rattle.rounds.specs.Rows.{LogRecord, Row, stands, plain, Lawful, LawfulButLast, PrechartDone}
-use Rattle.rounds.specs.Feeds.{noReadyRegion, dropped, broken, Ends, unplaced-main, unplaced-prechart, droppedNow, brokenAt, entered, moved, quiet, Onward, completes-prechart, fires, stays, refuses, runs-on, ends, again, none-yet, one-more}
+use Rattle.rounds.specs.Feeds.{noReadyRegion, dropped, broken, Ends, unplaced-main, unplaced-prechart, droppedNow}
+use Rattle.rounds.specs.Feeds.{brokenAt, entered, moved, quiet, Onward, completes-prechart, fires, stays, refuses}
+use Rattle.rounds.specs.Feeds.{runs-on, ends, again, none-yet, one-more}
 use Rattle.rounds.specs.Machine.{after}
 use Rattle.rounds.proofs.Endings.{unlawful}
 use Rattle.rounds.proofs.Tested.{lawful-tested, no-region}
 use Rattle.rounds.proofs.Machine.{full-false, done-true, done-false}
-use Rattle.paper.specs.Runs.{Config, Letter, message, silent, delay, initial, Advance, wait, successor, Prompt, begins, settles, Over, spelled}
+use Rattle.paper.specs.Runs.{Config, Letter, message, silent, delay, initial, Advance, wait, successor, Prompt, begins}
+use Rattle.paper.specs.Runs.{settles, Over, spelled}
 use Rattle.paper.proofs.Prompts.{synchronizes, advances, terminates, delays, goes-on}
 use Rattle.chart_value.specs.Records.{logRecord, logged}
 use Rattle.witnesses.specs.Feeds.{passes as passed, undo, headings, references}
@@ -22,7 +25,8 @@ use Rattle.witness_rounds.specs.Rounds.{U, A, configOf, statusAs, TakenB
 use Rattle.witness_rounds.specs.Witnesses.{Unplaced, StepBy, TurnOf, FiveFed}
 use Rattle.witness_rounds.proofs.Computing.{computing}
 use Rattle.paper.proofs.Taking.{unplaceable, caseFor}
-use Rattle.witness_rounds.proofs.Laws.{wait-is, successor-is, ready-at, rests-at, next-at, accepts, taken-anew, taken-at, turn-at}
+use Rattle.witness_rounds.proofs.Laws.{wait-is, successor-is, ready-at, rests-at, next-at, accepts, taken-anew}
+use Rattle.witness_rounds.proofs.Laws.{taken-at, turn-at}
 use Rattle.witness_rounds.proofs.Logs.{accepted-u, accepted-a}
 
 -- after an opening of chart U: nothing, undo at 100, and undo again at 110
@@ -185,8 +189,11 @@ pub turn-plain : (plain A 4 ≡ true)
 unfolding computing accepts
 turn-plain =
     let s : Snoc LogRecord = logged (ε ▸ ask 10 ▸ pass 20) in
-    let e : LogRecord = logRecord (answer 41) in
-    (refl, turn-at A accepted-a s e 4 (after A (s ▸ e) .place) (ε ▸ 0 ▸ 1 ▸ 2 ▸ 3) (31 ∷ 21 ∷ []) refl refl refl refl refl)
+    let e : LogRecord = logRecord (answer 41) in (
+      refl,
+      turn-at A accepted-a s e 4 (after A (s ▸ e) .place) (ε ▸ 0 ▸ 1 ▸ 2 ▸ 3)
+          (31 ∷ 21 ∷ []) refl refl refl refl refl,
+    )
 
 pub passes-by : TakenBy 0 U (ε ▸ undo 100) (passed 110) (statusAs (configOf (ε ▸ 0) (10 ∷ [])) 110 2 0 0 0 0) quiet
 unfolding computing accepts caseFor unplaceable

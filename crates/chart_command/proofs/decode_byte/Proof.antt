@@ -77,34 +77,93 @@ with-operands-requires-9 : tie.Need-with-operands-requires-9
 with-operands-requires-9 c κs = search needs
 
 returns : tie.Need-returns
-returns c = rw (← (c .before .before .before .before .byte-at .ensures .0), c .before .match .keys1, ← (c .before .before .before .byte-at2 .ensures .0), ← (c .before .before .byte-at3 .ensures .0)) (c .with-operands .ensures)
+returns c =
+    rw (
+      ← (c .before .before .before .before .byte-at .ensures .0),
+      c .before .match .keys1,
+      ← (c .before .before .before .byte-at2 .ensures .0),
+      ← (c .before .before .byte-at3 .ensures .0),
+    )
+    (c .with-operands .ensures)
 
 returns-2 : tie.Need-returns-2
-returns-2 c = rw (← (c .before .before .before .before .before .byte-at .ensures .0), c .before .before .match .keys2, ← (c .before .before .before .before .byte-at2 .ensures .0), ← (c .before .before .before .byte-at3 .ensures .0), ← (c .before .word16-at .ensures .0)) (c .with-operands2 .ensures)
+returns-2 c =
+    rw (
+      ← (c .before .before .before .before .before .byte-at .ensures .0),
+      c .before .before .match .keys2,
+      ← (c .before .before .before .before .byte-at2 .ensures .0),
+      ← (c .before .before .before .byte-at3 .ensures .0),
+      ← (c .before .word16-at .ensures .0),
+    )
+    (c .with-operands2 .ensures)
 
 returns-3 : tie.Need-returns-3
-returns-3 c = rw (← (c .before .before .before .before .before .byte-at .ensures .0), c .before .before .match .keys3, ← (c .before .word16-at2 .ensures .0)) (c .with-operands3 .ensures)
+returns-3 c =
+    rw (
+      ← (c .before .before .before .before .before .byte-at .ensures .0),
+      c .before .before .match .keys3,
+      ← (c .before .word16-at2 .ensures .0),
+    ) (c .with-operands3 .ensures)
 
 returns-4 : tie.Need-returns-4
-returns-4 c = rw (← (c .before .before .before .before .before .byte-at .ensures .0), c .before .before .match .keys4, ← (c .before .before .before .before .byte-at2 .ensures .0), ← (c .before .before .before .byte-at3 .ensures .0), ← (c .before .word32-at .ensures .0)) (c .with-operands4 .ensures)
+returns-4 c =
+    rw (
+      ← (c .before .before .before .before .before .byte-at .ensures .0),
+      c .before .before .match .keys4,
+      ← (c .before .before .before .before .byte-at2 .ensures .0),
+      ← (c .before .before .before .byte-at3 .ensures .0),
+      ← (c .before .word32-at .ensures .0),
+    )
+    (c .with-operands4 .ensures)
 
 returns-5 : tie.Need-returns-5
-returns-5 c = rw (← (c .before .before .before .before .before .before .byte-at .ensures .0), c .before .before .before .match .keys5, ← (c .before .before .before .before .before .byte-at2 .ensures .0), ← (c .before .before .before .before .byte-at3 .ensures .0), ← (c .before .before .byte-at4 .ensures .0), ← (c .before .word32-at2 .ensures .0)) (c .with-operands5 .ensures)
+returns-5 c =
+    rw (
+      ← (c .before .before .before .before .before .before .byte-at .ensures .0),
+      c .before .before .before .match .keys5,
+      ← (c .before .before .before .before .before .byte-at2 .ensures .0),
+      ← (c .before .before .before .before .byte-at3 .ensures .0),
+      ← (c .before .before .byte-at4 .ensures .0),
+      ← (c .before .word32-at2 .ensures .0),
+    ) (c .with-operands5 .ensures)
 
 returns-6 : tie.Need-returns-6
-returns-6 c = rw (← (c .before .before .before .before .byte-at .ensures .0), c .before .match .keys6) (c .with-operands6 .ensures)
+returns-6 c =
+    rw (← (c .before .before .before .before .byte-at .ensures .0), c .before .match .keys6)
+    (c .with-operands6 .ensures)
 
 returns-7 : tie.Need-returns-7
-returns-7 c = rw (← (c .before .before .before .before .byte-at .ensures .0), c .before .match .keys7, ← (c .before .before .before .byte-at2 .ensures .0)) (c .with-operands7 .ensures)
+returns-7 c =
+    rw (
+      ← (c .before .before .before .before .byte-at .ensures .0),
+      c .before .match .keys7,
+      ← (c .before .before .before .byte-at2 .ensures .0),
+    ) (c .with-operands7 .ensures)
 
 returns-8 : tie.Need-returns-8
-returns-8 c = rw (← (c .before .before .before .before .byte-at .ensures .0), c .before .match .keys8) (c .with-operands8 .ensures)
+returns-8 c =
+    rw (← (c .before .before .before .before .byte-at .ensures .0), c .before .match .keys8)
+    (c .with-operands8 .ensures)
 
 returns-9 : tie.Need-returns-9
-returns-9 c = rw (← (c .before .before .before .before .byte-at .ensures .0), c .before .match .keys9) (c .with-operands9 .ensures)
+returns-9 c =
+    rw (← (c .before .before .before .before .byte-at .ensures .0), c .before .match .keys9)
+    (c .with-operands9 .ensures)
 
 returns-10 : tie.Need-returns-10
-returns-10 c = let r = c .match .rest in rw (← (c .before .before .before .byte-at .ensures .0)) (simp (ne-eqb _ _ (r .0 .0 .0 .0 .0 .0 .0 .0 .1), ne-eqb _ _ (r .0 .0 .0 .0 .0 .0 .0 .1), ne-eqb _ _ (r .0 .0 .0 .0 .0 .0 .1), ne-eqb _ _ (r .0 .0 .0 .0 .0 .1), ne-eqb _ _ (r .0 .0 .0 .0 .1), ne-eqb _ _ (r .0 .0 .0 .1), ne-eqb _ _ (r .0 .0 .1), ne-eqb _ _ (r .0 .1), ne-eqb _ _ (r .1)))
+returns-10 c = let r = c .match .rest in
+    rw (← (c .before .before .before .byte-at .ensures .0))
+    (simp (
+      ne-eqb _ _ (r .0 .0 .0 .0 .0 .0 .0 .0 .1),
+      ne-eqb _ _ (r .0 .0 .0 .0 .0 .0 .0 .1),
+      ne-eqb _ _ (r .0 .0 .0 .0 .0 .0 .1),
+      ne-eqb _ _ (r .0 .0 .0 .0 .0 .1),
+      ne-eqb _ _ (r .0 .0 .0 .0 .1),
+      ne-eqb _ _ (r .0 .0 .0 .1),
+      ne-eqb _ _ (r .0 .0 .1),
+      ne-eqb _ _ (r .0 .1),
+      ne-eqb _ _ (r .1),
+    ))
 
 pub decode-byte-spec : {M : Type 1} → statement M
 decode-byte-spec =

@@ -34,10 +34,19 @@ byte-at-requires-4 c κs = search needs
 
 returns-2 : tie.Need-returns-2
 unfolding chartValue
-returns-2 c = let e = sym (c .before .before .before .before .before .before .is-image .ensures) ∙ not-false _ (c .before .before .before .before .before .if1 .left) in (
-  rw (e, c .byte-at4 .ensures .0, c .before .byte-at3 .ensures .0, c .before .before .byte-at2 .ensures .0, c .before .before .before .byte-at .ensures .0, c .before .before .before .before .regions-at .ensures),
-  refl,
-)
+returns-2 c =
+    let e = sym (c .before .before .before .before .before .before .is-image .ensures)
+    ∙ not-false _ (c .before .before .before .before .before .if1 .left) in (
+      rw (
+        e,
+        c .byte-at4 .ensures .0,
+        c .before .byte-at3 .ensures .0,
+        c .before .before .byte-at2 .ensures .0,
+        c .before .before .before .byte-at .ensures .0,
+        c .before .before .before .before .regions-at .ensures,
+      ),
+      refl,
+    )
 
 pub chart-at-spec : {M : Type 1} → statement M
 chart-at-spec =

@@ -35,7 +35,14 @@ word16-at-requires-2 : tie.Need-word16-at-requires-2
 word16-at-requires-2 c κs = search needs
 
 returns-2 : tie.Need-returns-2
-returns-2 c = rw (← c .before .before .before .before .byte-at .ensures .0, ne-eqb _ _ (c .before .before .before .if1 .left), c .word16-at2 .ensures .0, c .before .byte-at3 .ensures .0, c .before .before .byte-at2 .ensures .0)
+returns-2 c =
+    rw (
+      ← c .before .before .before .before .byte-at .ensures .0,
+      ne-eqb _ _ (c .before .before .before .if1 .left),
+      c .word16-at2 .ensures .0,
+      c .before .byte-at3 .ensures .0,
+      c .before .before .byte-at2 .ensures .0,
+    )
 
 pub event-at-spec : {M : Type 1} → statement M
 event-at-spec =

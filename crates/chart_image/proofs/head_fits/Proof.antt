@@ -25,7 +25,13 @@ byte-at-requires-2 : tie.Need-byte-at-requires-2
 byte-at-requires-2 c κs = search needs
 
 returns : tie.Need-returns
-returns c = rw (c .byte-at2 .ensures .0, c .before .word16-at2 .ensures .0, c .before .before .word16-at .ensures .0, c .before .before .before .byte-at .ensures .0)
+returns c =
+    rw (
+      c .byte-at2 .ensures .0,
+      c .before .word16-at2 .ensures .0,
+      c .before .before .word16-at .ensures .0,
+      c .before .before .before .byte-at .ensures .0,
+    )
 
 pub head-fits-spec : {M : Type 1} → statement M
 head-fits-spec =

@@ -1,4 +1,5 @@
--- `chart_image::is_image` meets its contract: of the right length, the regions before i fit; at the end these are all. Assumes nothing.
+-- `chart_image::is_image` meets its contract: of the right length, the regions before i fit; at the end these are all.
+-- Assumes nothing.
 use Prim.Native.Nat.{_≤_, _-_}
 use mathlib.Core.Path.{_≡_}
 use native.Mathlib.Omega.{arith}

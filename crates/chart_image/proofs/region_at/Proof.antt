@@ -49,7 +49,17 @@ byte-at-requires-3 : tie.Need-byte-at-requires-3
 byte-at-requires-3 c κs = search needs
 
 returns : tie.Need-returns
-returns c = rw (c .byte-at3 .ensures .0, c .before .byte-at2 .ensures .0, c .before .before .byte-at .ensures .0, c .before .before .before .term-at4 .ensures, c .before .before .before .before .term-at3 .ensures, c .before .before .before .before .before .term-at2 .ensures, c .before .before .before .before .before .before .term-at .ensures, c .before .before .before .before .before .before .before .event-at .ensures)
+returns c =
+    rw (
+      c .byte-at3 .ensures .0,
+      c .before .byte-at2 .ensures .0,
+      c .before .before .byte-at .ensures .0,
+      c .before .before .before .term-at4 .ensures,
+      c .before .before .before .before .term-at3 .ensures,
+      c .before .before .before .before .before .term-at2 .ensures,
+      c .before .before .before .before .before .before .term-at .ensures,
+      c .before .before .before .before .before .before .before .event-at .ensures,
+    )
 
 pub region-at-spec : {M : Type 1} → statement M
 region-at-spec =

@@ -31,7 +31,14 @@ head-fits-requires : tie.Need-head-fits-requires
 head-fits-requires c κs = search needs
 
 returns : tie.Need-returns
-returns c = rw (c .head-fits .ensures, c .before .term-fits4 .ensures, c .before .before .term-fits3 .ensures, c .before .before .before .term-fits2 .ensures, c .before .before .before .before .term-fits .ensures)
+returns c =
+    rw (
+      c .head-fits .ensures,
+      c .before .term-fits4 .ensures,
+      c .before .before .term-fits3 .ensures,
+      c .before .before .before .term-fits2 .ensures,
+      c .before .before .before .before .term-fits .ensures,
+    )
 
 pub region-fits-spec : {M : Type 1} → statement M
 region-fits-spec =

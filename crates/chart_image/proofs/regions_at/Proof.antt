@@ -45,8 +45,12 @@ loop-less : tie.Need-loop-less Inv-loop μ-loop
 loop-less c = omega arith
 
 loop-again : tie.Need-loop-again Inv-loop μ-loop
-loop-again c = let I = c .before .before .loop .inv in
-    (omega arith, simp length-set (I .1), filled-next (c .region-at .result) (I .2) (omega arith) (c .region-at .ensures))
+loop-again c = let I = c .before .before .loop .inv in (
+  omega arith,
+  simp length-set (I .1),
+  filled-next (c .region-at .result) (I .2) (omega arith)
+      (c .region-at .ensures),
+)
 
 returns : tie.Need-returns Inv-loop μ-loop
 unfolding regionsIn

@@ -37,7 +37,16 @@ word32-at-requires : tie.Need-word32-at-requires
 word32-at-requires c κs = search needs
 
 returns : tie.Need-returns
-returns c = rw (c .word32-at .ensures .0, c .before .relation-of .ensures, c .before .before .byte-at4 .ensures .0, c .before .before .before .left-of .ensures, c .before .before .before .before .byte-at3 .ensures .0, c .before .before .before .before .before .byte-at2 .ensures .0, c .before .before .before .before .before .before .byte-at .ensures .0)
+returns c =
+    rw (
+      c .word32-at .ensures .0,
+      c .before .relation-of .ensures,
+      c .before .before .byte-at4 .ensures .0,
+      c .before .before .before .left-of .ensures,
+      c .before .before .before .before .byte-at3 .ensures .0,
+      c .before .before .before .before .before .byte-at2 .ensures .0,
+      c .before .before .before .before .before .before .byte-at .ensures .0,
+    )
 
 pub term-at-spec : {M : Type 1} → statement M
 term-at-spec =

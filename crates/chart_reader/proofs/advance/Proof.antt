@@ -27,7 +27,8 @@ returns-2 c = advance-decoded _ _ _ _ (sym (c .before .before .decode .ensures .
 
 returns-3 : tie.Need-returns-3
 returns-3 c =
-    c .take .ensures ∙ advance-decoded _ _ _ _ (sym (c .before .before .before .before .decode .ensures .0) ∙ c .before .before .d .given .1)
+    c .take .ensures ∙ advance-decoded _ _ _ _
+    (sym (c .before .before .before .before .decode .ensures .0) ∙ c .before .before .d .given .1)
 
 pub advance-spec : {M : Type 1} → statement M
 advance-spec =

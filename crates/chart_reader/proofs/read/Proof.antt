@@ -1,4 +1,5 @@
--- `chart_reader::read` meets its contract: what is left to read from the place gives what the whole gives. Assumes nothing.
+-- `chart_reader::read` meets its contract: what is left to read from the place gives what the whole gives. Assumes
+-- nothing.
 use native.Mathlib.Omega.{arith}
 use lib.ListN.{length}
 use Prim.Native.Nat.{_+_}
@@ -26,7 +27,8 @@ add-left c = search needs
 
 loop-holds : tie.Need-loop-holds Inv-loop μ-loop
 unfolding readChart
-loop-holds c = let s = c .before .before .args .bytes .now in ap (λ (r : Reading). readFrom (length s + 1) s 0 r) (c .start .ensures)
+loop-holds c = let s = c .before .before .args .bytes .now in
+    ap (λ (r : Reading). readFrom (length s + 1) s 0 r) (c .start .ensures)
 
 advance-requires : tie.Need-advance-requires Inv-loop μ-loop
 advance-requires c κs = search needs
@@ -42,7 +44,8 @@ loop-less c = search needs
 
 loop-again : tie.Need-loop-again Inv-loop μ-loop
 loop-again c = let a = c .before .before .before .before in
-    sym (read-step _ _ _ _ _ _ (a .before .loop-test .taken) (a .advance .ensures) (c .before .before .o .given .1)) ∙ a .before .before .loop .inv
+    sym (read-step _ _ _ _ _ _ (a .before .loop-test .taken) (a .advance .ensures) (c .before .before .o .given .1))
+    ∙ a .before .before .loop .inv
 
 enum-told : tie.Need-enum-told Inv-loop μ-loop
 enum-told c = search needs
@@ -54,7 +57,8 @@ returns : tie.Need-returns Inv-loop μ-loop
 returns c =
     let a = c .before .before .before in
     let e : said (c .accepted .result) ≡ readChart (a .before .before .before .before .before .args .bytes .now) =
-    c .accepted .ensures ∙ sym (read-step _ _ _ _ _ _ (a .before .loop-test .taken) (a .advance .ensures) (c .before .enum-told .given .1))
+    c .accepted .ensures ∙ sym
+    (read-step _ _ _ _ _ _ (a .before .loop-test .taken) (a .advance .ensures) (c .before .enum-told .given .1))
     ∙ a .before .before .loop .inv in
     (e, (any-count _ _ e, refl))
 
@@ -68,7 +72,8 @@ returns-2 : tie.Need-returns-2 Inv-loop μ-loop
 returns-2 c =
     let a = c .before .before .before .before in
     let e : said (c .refused .result) ≡ readChart (a .before .before .before .before .before .args .bytes .now) =
-    c .refused .ensures ∙ sym (read-step _ _ _ _ _ _ (a .before .loop-test .taken) (a .advance .ensures) (c .before .before .o2 .given .1))
+    c .refused .ensures ∙ sym
+    (read-step _ _ _ _ _ _ (a .before .loop-test .taken) (a .advance .ensures) (c .before .before .o2 .given .1))
     ∙ a .before .before .loop .inv in
     (e, (any-count _ _ e, refl))
 

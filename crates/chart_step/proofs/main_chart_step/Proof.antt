@@ -24,4 +24,5 @@ returns c =
     )
 
 pub main-chart-step-spec : {M : Type 1} → statement M
-main-chart-step-spec = tie.close (tie.spec no-fault-requires closing-fault-requires with-main-requires answer-requires returns)
+main-chart-step-spec =
+    tie.close (tie.spec no-fault-requires closing-fault-requires with-main-requires answer-requires returns)

@@ -31,4 +31,6 @@ returns c =
     )
 
 pub region-step-spec : {M : Type 1} → statement M
-region-step-spec = tie.close (tie.spec close-requires no-fault-requires cast-k closing-fault-requires begun-requires answer-requires returns)
+region-step-spec =
+    tie.close
+    (tie.spec close-requires no-fault-requires cast-k closing-fault-requires begun-requires answer-requires returns)

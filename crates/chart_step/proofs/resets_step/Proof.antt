@@ -27,4 +27,5 @@ returns c =
     )
 
 pub resets-step-spec : {M : Type 1} → statement M
-resets-step-spec = tie.close (tie.spec no-fault-requires cast-within within-requires with-resets-requires answer-requires returns)
+resets-step-spec =
+    tie.close (tie.spec no-fault-requires cast-within within-requires with-resets-requires answer-requires returns)

@@ -35,7 +35,11 @@ returns : tie.Need-returns
 unfolding isZeroRegion
 returns c =
     let g = c .before .before .before .before .before .args .g in
-    rw (c .before .before .before .before .is-zero-event .ensures, c .before .before .before .terms-zero .ensures, where-zero (g .count) (not (g .hot)) (eqb (g .resets) 0) _ _ (none-used g))
+    rw (
+      c .before .before .before .before .is-zero-event .ensures,
+      c .before .before .before .terms-zero .ensures,
+      where-zero (g .count) (not (g .hot)) (eqb (g .resets) 0) _ _ (none-used g),
+    )
 
 pub is-zero-region-spec : {M : Type 1} → statement M
 is-zero-region-spec = tie.close (tie.spec is-zero-event-requires terms-zero-requires returns)

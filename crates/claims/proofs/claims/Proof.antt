@@ -22,7 +22,16 @@ returns c =
       demands = demands-read;
       judged = judged-walk;
       walked = walk-records;
-      views = λ m. record { fired = λ i. refl; clocks = λ k. refl; now = refl; records = refl; kept = refl; dropped = refl; break = refl; reason = refl };
+      views = λ m. record {
+        fired = λ i. refl;
+        clocks = λ k. refl;
+        now = refl;
+        records = refl;
+        kept = refl;
+        dropped = refl;
+        break = refl;
+        reason = refl;
+      };
       steps = λ r. (refl, refl);
       view-tells = view-tells;
       examples-said = examples-said;

@@ -24,7 +24,8 @@ enum-told c = search needs
 returns : tie.Need-returns Inv-loop μ-loop
 returns c =
     let r = c .before .before in
-    fed-none (r .before .before .loop .inv) (r .before .loop-test .taken) (sym (r .read-record .ensures .0) ∙ c .enum-told .given .1)
+    fed-none (r .before .before .loop .inv) (r .before .loop-test .taken)
+    (sym (r .read-record .ensures .0) ∙ c .enum-told .given .1)
 
 enum-told-2 : tie.Need-enum-told-2 Inv-loop μ-loop
 enum-told-2 c = search needs
@@ -32,7 +33,8 @@ enum-told-2 c = search needs
 returns-2 : tie.Need-returns-2 Inv-loop μ-loop
 returns-2 c =
     let r = c .before .before in
-    fed-bad (r .before .before .loop .inv) (r .before .loop-test .taken) _ (sym (r .read-record .ensures .0) ∙ c .enum-told2 .given .1)
+    fed-bad (r .before .before .loop .inv) (r .before .loop-test .taken) _
+    (sym (r .read-record .ensures .0) ∙ c .enum-told2 .given .1)
 
 enum-known-n : tie.Need-enum-known-n Inv-loop μ-loop
 enum-known-n c = search needs
@@ -49,7 +51,8 @@ loop-less c = search needs
 loop-again : tie.Need-loop-again Inv-loop μ-loop
 loop-again c =
     let r = c .before .before .before .before .before in
-    fed-one (r .before .before .loop .inv) (r .before .loop-test .taken) _ _ (sym (r .read-record .ensures .0) ∙ c .before .before .before .n .given .1) (c .before .feed .result)
+    fed-one (r .before .before .loop .inv) (r .before .loop-test .taken) _ _
+    (sym (r .read-record .ensures .0) ∙ c .before .before .before .n .given .1) (c .before .feed .result)
     (c .before .feed .ensures .0)
 
 returns-3 : tie.Need-returns-3 Inv-loop μ-loop

@@ -20,7 +20,10 @@ places : (m : Monitor) (vs : List Val) → Is (row monitor.the-type) m vs → le
 places m vs p = sym (length-map (m .place .resets) _) ∙ p .1 .1 .0 .1 .1 .1 .0 .1 .0 .1
 
 returns : tie.Need-returns
-returns c = feeds-just (c .before .args .chart) (exact-test (c .before .args .chart) _ (c .before .good .0) _ refl .1) _ _ _ (places (c .before .args .m) _ (c .before .good .1 .0)) (c .feed .ensures .0) (c .feed .ensures .1) (c .feed .ensures .2)
+returns c =
+    feeds-just (c .before .args .chart) (exact-test (c .before .args .chart) _ (c .before .good .0) _ refl .1) _ _ _
+    (places (c .before .args .m) _ (c .before .good .1 .0)) (c .feed .ensures .0) (c .feed .ensures .1)
+    (c .feed .ensures .2)
 
 pub feed-record-spec : {M : Type 1} → statement M
 feed-record-spec = tie.close (tie.spec feed-requires returns)

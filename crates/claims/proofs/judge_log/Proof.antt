@@ -9,7 +9,12 @@ judge-requires : tie.Need-judge-requires
 judge-requires c κs = search needs
 
 returns : tie.Need-returns
-returns c = (judges-just (c .before .before .args .chart) (exact-test (c .before .before .args .chart) _ (c .before .before .good .0) _ refl .1) _ _ (c .judge .ensures .0), c .judge .ensures .1)
+returns c = (
+  judges-just (c .before .before .args .chart)
+      (exact-test (c .before .before .args .chart) _ (c .before .before .good .0) _ refl .1) _ _
+      (c .judge .ensures .0),
+  c .judge .ensures .1,
+)
 
 pub judge-log-spec : {M : Type 1} → statement M
 judge-log-spec = tie.close (tie.spec judge-requires returns)

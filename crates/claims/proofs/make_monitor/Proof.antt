@@ -9,7 +9,9 @@ new-requires : tie.Need-new-requires
 new-requires c κs = search needs
 
 returns : tie.Need-returns
-returns c = makes-just (c .before .args .chart) (exact-test (c .before .args .chart) _ (c .before .good .0) _ refl .1) _ (c .new .ensures)
+returns c =
+    makes-just (c .before .args .chart) (exact-test (c .before .args .chart) _ (c .before .good .0) _ refl .1) _
+    (c .new .ensures)
 
 pub make-monitor-spec : {M : Type 1} → statement M
 make-monitor-spec = tie.close (tie.spec new-requires returns)

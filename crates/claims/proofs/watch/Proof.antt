@@ -26,7 +26,8 @@ returns : tie.Need-returns
 returns c =
     let x = c .before .before .before .before .before .before .read in (
       watched _ _ (x .result) _ (x .ensures .0) refl
-          (λ n. absurd (n (sym (ap (λ (s : Said). s .number) (x .ensures .0)) ∙ ap numberOf (c .before .enum-told .given .1))))
+          (λ n. absurd
+          (n (sym (ap (λ (s : Said). s .number) (x .ensures .0)) ∙ ap numberOf (c .before .enum-told .given .1))))
           (λ z. c .feed-all .ensures),
       (refl, refl),
     )
@@ -34,8 +35,10 @@ returns c =
 returns-2 : tie.Need-returns-2
 returns-2 c =
     let x = c .before .before .before .before .before .before .read in (
-      watched _ _ (x .result) _ (x .ensures .0) (sym (c .before .answer .given .1)) (λ n. c .before .before .before .before .new .ensures .monitor)
-          (λ z. absurd (refusal-nonzero (c .before .answer .given .0 .0) (sym (ap numberOf (c .before .answer .given .1)) ∙ z))),
+      watched _ _ (x .result) _ (x .ensures .0) (sym (c .before .answer .given .1))
+          (λ n. c .before .before .before .before .new .ensures .monitor)
+          (λ z. absurd
+          (refusal-nonzero (c .before .answer .given .0 .0) (sym (ap numberOf (c .before .answer .given .1)) ∙ z))),
       (refl, refl),
     )
 

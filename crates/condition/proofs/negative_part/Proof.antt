@@ -16,7 +16,8 @@ sub-result : tie.Need-sub-result
 sub-result c = search needs
 
 returns-2 : tie.Need-returns-2
-returns-2 c = (rw (le-ltb _ _ (c .before .if1 .left)) (ap (λ (x : ℕ). 0x1_0000_0000 - x) (c .wide .ensures)), omega arith)
+returns-2 c =
+    (rw (le-ltb _ _ (c .before .if1 .left)) (ap (λ (x : ℕ). 0x1_0000_0000 - x) (c .wide .ensures)), omega arith)
 
 pub negative-part-spec : {M : Type 1} → statement M
 negative-part-spec = tie.close (tie.spec returns wide-requires sub-result returns-2)

@@ -37,7 +37,8 @@ returns c =
     let s = p .before .before .args in
     c .compares .ensures
     ∙ ap (λ (x : ℤ). related (s .t .relation) x (signed (s .t .n)))
-    (ap (λ (x : ℕ). pos x -ℤ pos 0) (c .before .value-in .ensures) ∙ one-clock _ ∙ sym (ap (λ (l : Left). leftOf l (valueIn (s .values))) (p .left .given .1)))
+    (ap (λ (x : ℕ). pos x -ℤ pos 0) (c .before .value-in .ensures) ∙ one-clock _
+    ∙ sym (ap (λ (l : Left). leftOf l (valueIn (s .values))) (p .left .given .1)))
 
 returns-2 : tie.Need-returns-2
 returns-2 c =

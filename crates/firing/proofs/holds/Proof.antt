@@ -13,7 +13,8 @@ use Rattle.firing.proofs.holds.Statement.{statement}
 use Rattle.firing.proofs.holds.Tie as tie
 
 abbrev Inv-loop : tie.InvT-loop
-Inv-loop terms i t resets j₀ j = (j ≤ mostTerms) × SoFar (λ k. heldAt (getD terms (i * mostTerms + k) 0) (t .0) resets) true j
+Inv-loop terms i t resets j₀ j =
+    (j ≤ mostTerms) × SoFar (λ k. heldAt (getD terms (i * mostTerms + k) 0) (t .0) resets) true j
 
 abbrev μ-loop : tie.MeasureT-loop
 μ-loop terms i t resets j₀ j = mostTerms - j
@@ -37,7 +38,8 @@ returns : tie.Need-returns Inv-loop μ-loop
 returns c = λ clocks T.
     let a = c .before .before .before .before .args in
     let L = c .before .before .before .loop in
-    sym (rest-pass mostTerms (L .inv .1) (terms-end T (a .t .0) (a .t2) (a .i) (L .j) (c .if1 .taken))) ∙ condition-tested T (a .t .0) (a .t2) (a .i)
+    sym (rest-pass mostTerms (L .inv .1) (terms-end T (a .t .0) (a .t2) (a .i) (L .j) (c .if1 .taken)))
+    ∙ condition-tested T (a .t .0) (a .t2) (a .i)
 
 mul-since : tie.Need-mul-since Inv-loop μ-loop
 mul-since c = search needs
@@ -64,9 +66,12 @@ returns-2 : tie.Need-returns-2 Inv-loop μ-loop
 returns-2 c = λ clocks T.
     let a = c .before .before .before .before .before .before .before .before .before .before .args in
     let j = c .before .before .before .before .before .before .before .before .before .loop .j in
-    let e = term-held (getD (a .terms .now) (a .i * mostTerms + j) 0) (a .t .0) (a .t2) _ _ _ (c .before .before .before .before .since .ensures) (c .before .before .second-value .ensures) (c .before .word-holds .ensures)
+    let e = term-held (getD (a .terms .now) (a .i * mostTerms + j) 0) (a .t .0) (a .t2) _ _ _
+    (c .before .before .before .before .since .ensures) (c .before .before .second-value .ensures)
+    (c .before .word-holds .ensures)
     ∙ not-true _ (c .if2 .taken) in
-    sym (one-fails (λ k. heldAt (getD (a .terms .now) (a .i * mostTerms + k) 0) (a .t .0) (a .t2)) j mostTerms (omega arith) e) ∙ condition-tested T (a .t .0) (a .t2) (a .i)
+    sym (one-fails (λ k. heldAt (getD (a .terms .now) (a .i * mostTerms + k) 0) (a .t .0) (a .t2)) j mostTerms
+    (omega arith) e) ∙ condition-tested T (a .t .0) (a .t2) (a .i)
 
 add-j : tie.Need-add-j Inv-loop μ-loop
 add-j c = omega arith
@@ -80,7 +85,9 @@ loop-again c =
     let L = c .before .before .before .before .before .before .before .before .before .loop in (
       omega arith,
       one-more (L .inv .1)
-          (term-held (getD (a .terms .now) (a .i * mostTerms + L .j) 0) (a .t .0) (a .t2) _ _ _ (c .before .before .before .before .since .ensures) (c .before .before .second-value .ensures) (c .before .word-holds .ensures)
+          (term-held (getD (a .terms .now) (a .i * mostTerms + L .j) 0) (a .t .0) (a .t2) _ _ _
+          (c .before .before .before .before .since .ensures) (c .before .before .second-value .ensures)
+          (c .before .word-holds .ensures)
           ∙ not-false _ (c .if2 .left)),
     )
 

@@ -54,7 +54,8 @@ loop-again c =
     let I = c .before .before .before .before .loop .inv in (
       omega arith,
       simp length-set (I .1),
-      reset-next _ _ _ (c .pick .result) (I .2) (omega arith) (rw (← c .before .before .member .ensures) (c .pick .ensures)),
+      reset-next _ _ _ (c .pick .result) (I .2) (omega arith)
+          (rw (← c .before .before .member .ensures) (c .pick .ensures)),
     )
 
 returns-2 : tie.Need-returns-2 Inv-loop μ-loop

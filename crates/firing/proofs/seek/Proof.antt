@@ -21,13 +21,19 @@ returns : tie.Need-returns
 unfolding soughtBy
 returns c = λ n W.
     let r = c .before .before .before .before in
-    rw (sym (r .ready-for .ensures n W) ∙ ap foundOf (c .before .before .enum-told .given .1), sym (c .before .is-known .ensures n W) ∙ c .if1 .taken)
+    rw (
+      sym (r .ready-for .ensures n W) ∙ ap foundOf (c .before .before .enum-told .given .1),
+      sym (c .before .is-known .ensures n W) ∙ c .if1 .taken,
+    )
 
 returns-2 : tie.Need-returns-2
 unfolding soughtBy
 returns-2 c = λ n W.
     let r = c .before .before .before .before in
-    rw (sym (r .ready-for .ensures n W) ∙ ap foundOf (c .before .before .enum-told .given .1), sym (c .before .is-known .ensures n W) ∙ c .if1 .left)
+    rw (
+      sym (r .ready-for .ensures n W) ∙ ap foundOf (c .before .before .enum-told .given .1),
+      sym (c .before .is-known .ensures n W) ∙ c .if1 .left,
+    )
 
 returns-3 : tie.Need-returns-3
 unfolding soughtBy

@@ -1,4 +1,5 @@
--- The loop's invariant: from where it stands, steps 3 and 4 come to the same as from the start, the region at hand is ready, and no reset
+-- The loop's invariant: from where it stands, steps 3 and 4 come to the same as from the start, the region at hand is
+-- ready, and no reset
 -- moment is to come. The measure: the unfired regions. Assumes nothing.
 use mathlib.Core.Path.{_≡_}
 use Prim.Native.Nat.{ℕ, _≤_}
@@ -18,7 +19,8 @@ use Rattle.firing.proofs.take_region.Tie as tie
 
 abbrev Inv-loop : tie.InvT-loop
 Inv-loop h keys above resets terms i t q₀ k₀ q k =
-    OnTheWay (planChart h keys above resets terms) (t .0) (placeAt q₀) i (placeAt q) k × ((x : ℕ) → momentsOf (q .resets) x ≤ t .0)
+    OnTheWay (planChart h keys above resets terms) (t .0) (placeAt q₀) i (placeAt q) k
+    × ((x : ℕ) → momentsOf (q .resets) x ≤ t .0)
 
 abbrev μ-loop : tie.MeasureT-loop
 μ-loop h keys above resets terms i t q₀ k₀ q k = unfired (planChart h keys above resets terms) (contains (q .fired))
@@ -43,8 +45,10 @@ returns c =
 
 fire-requires : tie.Need-fire-requires Inv-loop μ-loop
 fire-requires c κs =
-    let K = c .before .before .before .before .pre .0 in
-    (omega (arith, K .regions, c .before .before .before .loop .inv .0 .ready .region), λ x s. omega (arith, K .clocks, K .accepted .own-clocks _ x s))
+    let K = c .before .before .before .before .pre .0 in (
+      omega (arith, K .regions, c .before .before .before .loop .inv .0 .ready .region),
+      λ x s. omega (arith, K .clocks, K .accepted .own-clocks _ x s),
+    )
 
 ready-plain-requires : tie.Need-ready-plain-requires Inv-loop μ-loop
 ready-plain-requires c κs = search needs
@@ -60,8 +64,11 @@ unfolding values fire
 returns-2 c =
     let F = c .before .before .before in
     let K = c .before .before .before .before .before .before .before .before .pre .0 in
-    let f = found-plain K (F .fire .result .fired) _ (c .enum-told .given .1) (c .before .before .ready-plain .ensures _ (K .within)) in (
-      way-rests (c .before .before .before .before .before .before .before .loop .inv .0) (c .before .before .before .before .before .holds .ensures _ (testable K)) (c .before .before .before .before .if1 .left) (F .fire .ensures) f,
+    let f = found-plain K (F .fire .result .fired) _ (c .enum-told .given .1)
+    (c .before .before .ready-plain .ensures _ (K .within)) in (
+      way-rests (c .before .before .before .before .before .before .before .loop .inv .0)
+          (c .before .before .before .before .before .holds .ensures _ (testable K))
+          (c .before .before .before .before .if1 .left) (F .fire .ensures) f,
       λ j e. absurd (let z : _≡_ {A = ℕ} 0 1 = cc in omega arith),
     )
 
@@ -69,7 +76,9 @@ loop-less : tie.Need-loop-less Inv-loop μ-loop
 unfolding values fire
 loop-less c =
     let T = testable (c .before .before .before .before .before .before .before .before .before .pre .0) in
-    way-less (c .before .before .before .before .before .before .before .before .loop .inv .0) (c .before .before .before .before .before .before .holds .ensures _ T) (c .before .before .before .before .before .if1 .left) (c .before .before .before .before .fire .ensures)
+    way-less (c .before .before .before .before .before .before .before .before .loop .inv .0)
+    (c .before .before .before .before .before .before .holds .ensures _ T)
+    (c .before .before .before .before .before .if1 .left) (c .before .before .before .before .fire .ensures)
 
 loop-again : tie.Need-loop-again Inv-loop μ-loop
 unfolding values fire
@@ -77,9 +86,12 @@ loop-again c =
     let F = c .before .before .before .before in
     let W = c .before .before .before .before .before .before .before .before .loop in
     let K = c .before .before .before .before .before .before .before .before .before .pre .0 in
-    let f = found-plain K (F .fire .result .fired) _ (c .before .f .given .1) (c .before .before .before .ready-plain .ensures _ (K .within)) in (
-      way-on (W .inv .0) (c .before .before .before .before .before .before .holds .ensures _ (testable K)) (c .before .before .before .before .before .if1 .left) (F .fire .ensures) (K .accepted) f,
-      fired-early (c .before .before .before .before .before .before .before .before .before .args .resets .now) _ (W .q) (F .fire .result) (W .k) (F .fire .ensures) (W .inv .1),
+    let f = found-plain K (F .fire .result .fired) _ (c .before .f .given .1)
+    (c .before .before .before .ready-plain .ensures _ (K .within)) in (
+      way-on (W .inv .0) (c .before .before .before .before .before .before .holds .ensures _ (testable K))
+          (c .before .before .before .before .before .if1 .left) (F .fire .ensures) (K .accepted) f,
+      fired-early (c .before .before .before .before .before .before .before .before .before .args .resets .now) _
+          (W .q) (F .fire .result) (W .k) (F .fire .ensures) (W .inv .1),
     )
 
 pub take-region-spec : {M : Type 1} → statement M

@@ -34,7 +34,11 @@ enum-known-step-2 c = search needs
 loop-less : tie.Need-loop-less Inv-loop μ-loop
 loop-less c =
     let a = c .before .before .before in
-    omega (arith, a .before .loop-test .taken, going-past _ _ _ _ _ _ _ (sym (a .step-at .ensures) ∙ c .before .step2 .given .1))
+    omega (
+      arith,
+      a .before .loop-test .taken,
+      going-past _ _ _ _ _ _ _ (sym (a .step-at .ensures) ∙ c .before .step2 .given .1),
+    )
 
 loop-again : tie.Need-loop-again Inv-loop μ-loop
 loop-again c =

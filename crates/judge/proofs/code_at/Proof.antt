@@ -39,8 +39,14 @@ returns c =
     let s = c .before .before .before .before .before .args .log .now in
     let i = c .before .before .before .before .before .args .at in
     let z : i + 1 + 2 ≡ i + 3 = omega arith in
-    let t = turned (c .before .word32-at .result) (word16 s (i + 1)) (word16 s (i + 1 + 2)) (c .before .word32-at .ensures .0) (c .before .word32-at .ensures .1 .1) in
-    rw (eq-eqb _ _ (sym (c .before .before .before .byte-at .ensures .0) ∙ c .before .before .if1 .taken), c .wide64 .ensures .0, t, z)
+    let t = turned (c .before .word32-at .result) (word16 s (i + 1)) (word16 s (i + 1 + 2))
+    (c .before .word32-at .ensures .0) (c .before .word32-at .ensures .1 .1) in
+    rw (
+      eq-eqb _ _ (sym (c .before .before .before .byte-at .ensures .0) ∙ c .before .before .if1 .taken),
+      c .wide64 .ensures .0,
+      t,
+      z,
+    )
 
 returns-2 : tie.Need-returns-2
 returns-2 c = rw (ne-eqb _ _ (λ e. c .if1 .left (c .before .byte-at .ensures .0 ∙ e)))

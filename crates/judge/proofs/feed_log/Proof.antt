@@ -8,7 +8,8 @@ use Rattle.model.specs.declared.Moment.{Moment}
 use Rattle.layout.specs.View.{planChart}
 use Rattle.log_reader.proofs.Places.{taken-past}
 use Rattle.judge.proofs.Fed.{code-of, fit-here, fed-none, fed-bad, fed-broken}
-use Rattle.judge.proofs.Going.{slot-covers, Going, going-start, some-left, going-end, taken-later, taken-few, taken-one, going-on}
+use Rattle.judge.proofs.Going.{slot-covers, Going, going-start, some-left, going-end, taken-later, taken-few}
+use Rattle.judge.proofs.Going.{taken-one, going-on}
 use Rattle.judge.proofs.feed_log.Statement.{statement}
 use Rattle.judge.proofs.feed_log.Tie as tie
 
@@ -39,7 +40,10 @@ enum-told c = search needs
 returns : tie.Need-returns Inv-loop μ-loop
 returns c =
     let G = c .before .before .before .before .loop .inv in
-    fed-none (G .taken) _ (c .before .before .before .before .before .before .before .before .before .before .compile .ensures .shows) (some-left G (c .before .before .before .loop-test .taken)) (sym (c .before .before .read-record .ensures .0) ∙ c .enum-told .given .1)
+    fed-none (G .taken) _
+    (c .before .before .before .before .before .before .before .before .before .before .compile .ensures .shows)
+    (some-left G (c .before .before .before .loop-test .taken))
+    (sym (c .before .before .read-record .ensures .0) ∙ c .enum-told .given .1)
 
 enum-told-2 : tie.Need-enum-told-2 Inv-loop μ-loop
 enum-told-2 c = search needs
@@ -47,7 +51,10 @@ enum-told-2 c = search needs
 returns-2 : tie.Need-returns-2 Inv-loop μ-loop
 returns-2 c =
     let G = c .before .before .before .before .loop .inv in
-    fed-bad (G .taken) _ (c .before .before .before .before .before .before .before .before .before .before .compile .ensures .shows) (some-left G (c .before .before .before .loop-test .taken)) _ (sym (c .before .before .read-record .ensures .0) ∙ c .enum-told2 .given .1)
+    fed-bad (G .taken) _
+    (c .before .before .before .before .before .before .before .before .before .before .compile .ensures .shows)
+    (some-left G (c .before .before .before .loop-test .taken)) _
+    (sym (c .before .before .read-record .ensures .0) ∙ c .enum-told2 .given .1)
 
 enum-known-next : tie.Need-enum-known-next Inv-loop μ-loop
 enum-known-next c = search needs
@@ -72,36 +79,64 @@ accept-requires c κs =
     let K = c .before .before .before .before .before .before .before .before .before .before .before .before .before .before .before .before .before .before .before .compile .ensures .compiled in
     let G = c .before .before .before .before .before .before .before .before .before .before .before .before .before .loop .inv in
     let F = fit-here (G .taken) (K .accepted) in
-    let e = sym (c .before .before .before .before .before .before .before .before .before .before .before .read-record .ensures .0) ∙ c .before .before .before .before .before .before .before .before .before .next .given .1 in
+    let e = sym
+    (c .before .before .before .before .before .before .before .before .before .before .before .read-record .ensures .0) ∙ c .before .before .before .before .before .before .before .before .before .next .given .1 in
     let f = c .before .before .before .before .before .before .before .before .before .before .before .before .before .before .before .before .before .before .before .before .before .pre .1 in
-    let u = ap (λ (x : Moment). x .0) (c .time-of .ensures) in
-    (K, ((taken-few G f _ _ e, F .counts), ((λ x. omega (arith, F .moments x, taken-later G f _ _ e, u)), rw (c .before .before .before .slot-of .ensures .0) (slot-covers (c .before .before .before .before .before .before .before .before .before .before .before .before .before .before .before .slots-of .ensures) (K .regions) (c .before .before .before .before .before .before .before .code-at .result)))))
+    let u = ap (λ (x : Moment). x .0) (c .time-of .ensures) in (
+      K,
+      (
+        (taken-few G f _ _ e, F .counts),
+        (
+          (λ x. omega (arith, F .moments x, taken-later G f _ _ e, u)),
+          rw (c .before .before .before .slot-of .ensures .0)
+              (slot-covers
+              (c .before .before .before .before .before .before .before .before .before .before .before .before .before .before .before .slots-of .ensures) (K .regions) (c .before .before .before .before .before .before .before .code-at .result)),
+        ),
+      ),
+    )
 
 returns-3 : tie.Need-returns-3 Inv-loop μ-loop
 returns-3 c =
     let L = c .before .before .before .before .before .before .before .before .before .before .before .before .before .before .before .before .before .loop in
-    let e = sym (c .before .before .before .before .before .before .before .before .before .before .before .before .before .before .before .read-record .ensures .0) ∙ c .before .before .before .before .before .before .before .before .before .before .before .before .before .next .given .1 in
+    let e = sym
+    (c .before .before .before .before .before .before .before .before .before .before .before .before .before .before .before .read-record .ensures .0) ∙ c .before .before .before .before .before .before .before .before .before .before .before .before .before .next .given .1 in
     let f = c .before .before .before .before .before .before .before .before .before .before .before .before .before .before .before .before .before .before .before .before .before .before .before .before .before .pre .1 in
-    let k = c .before .before .before .before .before .before .before .before .before .before .before .code-at .ensures ∙ code-of (c .before .before .before .before .before .before .before .before .before .before .before .before .before .before .before .before .before .before .before .before .before .before .before .before .before .args .log .now) (L .at) _ _ e in
+    let k = c .before .before .before .before .before .before .before .before .before .before .before .code-at .ensures
+    ∙ code-of
+    (c .before .before .before .before .before .before .before .before .before .before .before .before .before .before .before .before .before .before .before .before .before .before .before .before .before .args .log .now) (L .at) _ _ e in
     let u = ap (λ (x : Moment). x .0) (c .before .before .before .before .time-of .ensures) in
-    fed-broken (taken-one (L .inv) f _ _ e (c .before .before .before .accept .result) _ _ k u (c .before .before .before .accept .ensures)) _ (c .before .before .before .before .before .before .before .before .before .before .before .before .before .before .before .before .before .before .before .before .before .before .before .compile .ensures .shows) (c .if1 .taken)
+    fed-broken
+    (taken-one (L .inv) f _ _ e (c .before .before .before .accept .result) _ _ k u
+    (c .before .before .before .accept .ensures)) _
+    (c .before .before .before .before .before .before .before .before .before .before .before .before .before .before .before .before .before .before .before .before .before .before .before .compile .ensures .shows) (c .if1 .taken)
 
 loop-less : tie.Need-loop-less Inv-loop μ-loop
 loop-less c =
-    let e = sym (c .before .before .before .before .before .before .before .before .before .before .before .before .before .before .before .read-record .ensures .0) ∙ c .before .before .before .before .before .before .before .before .before .before .before .before .before .next .given .1 in
-    omega (arith, c .before .before .before .before .before .before .before .before .before .before .before .before .before .before .before .before .loop-test .taken, taken-past (c .before .before .before .before .before .before .before .before .before .before .before .before .before .before .before .before .before .before .before .before .before .before .before .before .before .args .log .now) (c .before .before .before .before .before .before .before .before .before .before .before .before .before .before .before .before .before .loop .at) _ _ e)
+    let e = sym
+    (c .before .before .before .before .before .before .before .before .before .before .before .before .before .before .before .read-record .ensures .0) ∙ c .before .before .before .before .before .before .before .before .before .before .before .before .before .next .given .1 in
+    omega (
+      arith,
+      c .before .before .before .before .before .before .before .before .before .before .before .before .before .before .before .before .loop-test .taken,
+      taken-past (c .before .before .before .before .before .before .before .before .before .before .before .before .before .before .before .before .before .before .before .before .before .before .before .before .before .args .log .now) (c .before .before .before .before .before .before .before .before .before .before .before .before .before .before .before .before .before .loop .at) _ _ e,
+    )
 
 loop-again : tie.Need-loop-again Inv-loop μ-loop
 loop-again c =
     let L = c .before .before .before .before .before .before .before .before .before .before .before .before .before .before .before .before .before .loop in
-    let e = sym (c .before .before .before .before .before .before .before .before .before .before .before .before .before .before .before .read-record .ensures .0) ∙ c .before .before .before .before .before .before .before .before .before .before .before .before .before .next .given .1 in
+    let e = sym
+    (c .before .before .before .before .before .before .before .before .before .before .before .before .before .before .before .read-record .ensures .0) ∙ c .before .before .before .before .before .before .before .before .before .before .before .before .before .next .given .1 in
     let f = c .before .before .before .before .before .before .before .before .before .before .before .before .before .before .before .before .before .before .before .before .before .before .before .before .before .pre .1 in
-    let k = c .before .before .before .before .before .before .before .before .before .before .before .code-at .ensures ∙ code-of (c .before .before .before .before .before .before .before .before .before .before .before .before .before .before .before .before .before .before .before .before .before .before .before .before .before .args .log .now) (L .at) _ _ e in
+    let k = c .before .before .before .before .before .before .before .before .before .before .before .code-at .ensures
+    ∙ code-of
+    (c .before .before .before .before .before .before .before .before .before .before .before .before .before .before .before .before .before .before .before .before .before .before .before .before .before .args .log .now) (L .at) _ _ e in
     let u = ap (λ (x : Moment). x .0) (c .before .before .before .before .time-of .ensures) in
-    going-on (L .inv) f _ _ e (c .before .before .before .accept .result) _ _ k u (c .before .before .before .accept .ensures) (c .if1 .left)
+    going-on (L .inv) f _ _ e (c .before .before .before .accept .result) _ _ k u
+    (c .before .before .before .accept .ensures) (c .if1 .left)
 
 returns-4 : tie.Need-returns-4 Inv-loop μ-loop
-returns-4 c = going-end (c .before .loop .inv) _ (c .before .before .before .before .before .before .before .compile .ensures .shows) (c .loop-test .left)
+returns-4 c =
+    going-end (c .before .loop .inv) _
+    (c .before .before .before .before .before .before .before .compile .ensures .shows) (c .loop-test .left)
 
 pub feed-log-spec : {M : Type 1} → statement M
 feed-log-spec =

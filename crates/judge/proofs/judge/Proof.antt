@@ -14,7 +14,11 @@ refused-requires : tie.Need-refused-requires
 refused-requires c κs = search needs
 
 returns : tie.Need-returns
-returns c = (judged-no-chart _ _ _ (sym (c .before .before .well-formed .ensures .0) ∙ not-true _ (c .before .if1 .taken)) (c .refused .ensures), refl)
+returns c = (
+  judged-no-chart _ _ _ (sym (c .before .before .well-formed .ensures .0) ∙ not-true _ (c .before .if1 .taken))
+      (c .refused .ensures),
+  refl,
+)
 
 check-log-requires : tie.Need-check-log-requires
 check-log-requires c κs = search needs
@@ -38,18 +42,31 @@ cast-verdict-of : tie.Need-cast-verdict-of
 cast-verdict-of c = search needs
 
 verdict-of-requires : tie.Need-verdict-of-requires
-verdict-of-requires c κs = half-fits (c .before .before .before .before .before .before .before .before .args .chart) (sym (c .before .before .before .before .before .before .well-formed .ensures .0) ∙ not-false _ (c .before .before .before .before .before .if1 .left))
+verdict-of-requires c κs =
+    half-fits (c .before .before .before .before .before .before .before .before .args .chart)
+    (sym (c .before .before .before .before .before .before .well-formed .ensures .0)
+    ∙ not-false _ (c .before .before .before .before .before .if1 .left))
 
 returns-2 : tie.Need-returns-2
 returns-2 c = (
-  judged-refused _ _ _ _ _ (sym (c .before .before .before .before .before .before .well-formed .ensures .0) ∙ not-false _ (c .before .before .before .before .before .if1 .left)) (sym (c .before .before .before .before .check-log .ensures .0) ∙ c .before .before .checked .given .1) (c .refused2 .ensures),
+  judged-refused _ _ _ _ _
+      (sym (c .before .before .before .before .before .before .well-formed .ensures .0)
+      ∙ not-false _ (c .before .before .before .before .before .if1 .left))
+      (sym (c .before .before .before .before .check-log .ensures .0) ∙ c .before .before .checked .given .1)
+      (c .refused2 .ensures),
   refl,
 )
 
 returns-3 : tie.Need-returns-3
 returns-3 c = (
-  judged-fine _ _ _ _ _ (sym (c .before .before .before .before .before .before .before .well-formed .ensures .0) ∙ not-false _ (c .before .before .before .before .before .before .if1 .left)) (c .before .before .before .before .before .before .before .well-formed .ensures .1 .0 (not-false _ (c .before .before .before .before .before .before .if1 .left)))
-      (sym (c .before .before .before .before .before .check-log .ensures .0) ∙ c .before .before .before .enum-told .given .1) (c .before .before .feed-log .ensures) (c .verdict-of .ensures),
+  judged-fine _ _ _ _ _
+      (sym (c .before .before .before .before .before .before .before .well-formed .ensures .0)
+      ∙ not-false _ (c .before .before .before .before .before .before .if1 .left))
+      (c .before .before .before .before .before .before .before .well-formed .ensures .1 .0
+      (not-false _ (c .before .before .before .before .before .before .if1 .left)))
+      (sym (c .before .before .before .before .before .check-log .ensures .0)
+      ∙ c .before .before .before .enum-told .given .1) (c .before .before .feed-log .ensures)
+      (c .verdict-of .ensures),
   refl,
 )
 

@@ -18,12 +18,22 @@ all-fired-requires c κs = search needs
 returns-3 : tie.Need-returns-3
 unfolding standingBy
 returns-3 c =
-    rw (eq-eqb _ _ (c .before .before .before .before .if1 .left), ne-eqb _ _ (c .before .before .if2 .left), ← (c .before .all-fired .ensures), c .if3 .taken)
+    rw (
+      eq-eqb _ _ (c .before .before .before .before .if1 .left),
+      ne-eqb _ _ (c .before .before .if2 .left),
+      ← (c .before .all-fired .ensures),
+      c .if3 .taken,
+    )
 
 returns-4 : tie.Need-returns-4
 unfolding standingBy
 returns-4 c =
-    rw (eq-eqb _ _ (c .before .before .before .before .if1 .left), ne-eqb _ _ (c .before .before .if2 .left), ← (c .before .all-fired .ensures), c .if3 .left)
+    rw (
+      eq-eqb _ _ (c .before .before .before .before .if1 .left),
+      ne-eqb _ _ (c .before .before .if2 .left),
+      ← (c .before .all-fired .ensures),
+      c .if3 .left,
+    )
 
 pub standing-spec : {M : Type 1} → statement M
 standing-spec = tie.close (tie.spec returns returns-2 all-fired-requires returns-3 returns-4)

@@ -32,7 +32,11 @@ returns-2 c = rw (← (c .before .before .before .read-record .ensures .0), c .b
 returns-3 : tie.Need-returns-3
 unfolding stepAt
 returns-3 c =
-    rw (← (c .before .before .before .before .before .read-record .ensures .0), c .before .before .before .next2 .given .1, ← (c .before .time-of .ensures))
+    rw (
+      ← (c .before .before .before .before .before .read-record .ensures .0),
+      c .before .before .before .next2 .given .1,
+      ← (c .before .time-of .ensures),
+    )
     (c .take-record .ensures)
 
 pub step-at-spec : {M : Type 1} → statement M

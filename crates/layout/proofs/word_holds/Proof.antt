@@ -17,10 +17,14 @@ add-y : tie.Need-add-y
 add-y c = search needs
 
 returns : tie.Need-returns
-returns c = below-bound (c .before .before .before .args .word) _ _ (rw (c .before .ticks2 .ensures .0, c .before .before .ticks .ensures .0) at (c .if1 .taken))
+returns c =
+    below-bound (c .before .before .before .args .word) _ _
+    (rw (c .before .ticks2 .ensures .0, c .before .before .ticks .ensures .0) at (c .if1 .taken))
 
 returns-2 : tie.Need-returns-2
-returns-2 c = above-bound (c .before .before .before .before .args .word) _ _ (rw (c .before .before .ticks2 .ensures .0, c .before .before .before .ticks .ensures .0) at (c .if2 .taken))
+returns-2 c =
+    above-bound (c .before .before .before .before .args .word) _ _
+    (rw (c .before .before .ticks2 .ensures .0, c .before .before .before .ticks .ensures .0) at (c .if2 .taken))
 
 returns-3 : tie.Need-returns-3
 returns-3 c = at-bound (c .before .before .before .before .args .word) _ _

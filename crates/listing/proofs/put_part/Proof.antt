@@ -39,24 +39,30 @@ same-length c = search needs
 
 returns : tie.Need-returns
 unfolding bytesOf
-returns c = let h = c .before .before .put-bytes .ensures in
-    (spelled (sym (ap partText (c .before .before .before .before .before .enum-told .given .1))) h, omega (arith, h .next))
+returns c = let h = c .before .before .put-bytes .ensures in (
+  spelled (sym (ap partText (c .before .before .before .before .before .enum-told .given .1))) h,
+  omega (arith, h .next),
+)
 
 same-length-2 : tie.Need-same-length-2
 same-length-2 c = search needs
 
 returns-2 : tie.Need-returns-2
 unfolding bytesOf
-returns-2 c = let h = c .before .before .put-bytes2 .ensures in
-    (spelled (sym (ap partText (c .before .before .before .before .before .enum-told2 .given .1))) h, omega (arith, h .next))
+returns-2 c = let h = c .before .before .put-bytes2 .ensures in (
+  spelled (sym (ap partText (c .before .before .before .before .before .enum-told2 .given .1))) h,
+  omega (arith, h .next),
+)
 
 same-length-3 : tie.Need-same-length-3
 same-length-3 c = search needs
 
 returns-3 : tie.Need-returns-3
 unfolding bytesOf
-returns-3 c = let h = c .before .before .put-bytes3 .ensures in
-    (spelled (sym (ap partText (c .before .before .before .before .before .enum-told3 .given .1))) h, omega (arith, h .next))
+returns-3 c = let h = c .before .before .put-bytes3 .ensures in (
+  spelled (sym (ap partText (c .before .before .before .before .before .enum-told3 .given .1))) h,
+  omega (arith, h .next),
+)
 
 pub put-part-spec : {M : Type 1} → statement M
 put-part-spec =

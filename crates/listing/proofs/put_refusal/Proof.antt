@@ -26,11 +26,14 @@ same-length c = search needs
 
 returns : tie.Need-returns
 unfolding bytesOf
-returns c = let p = c .before .before .before .before .before .before .before .before .before .before .before .before .before .before .before .put-part .ensures in
+returns c =
+    let p = c .before .before .before .before .before .before .before .before .before .before .before .before .before .before .before .put-part .ensures in
     let n = c .before .before .before .before .before .before .before .before .before .before .before .put-field .ensures in
     let a = c .before .before .before .before .before .before .put-bytes .ensures in
-    let o = c .before .before .put-field2 .ensures in
-    (spelled (refusal-joined _ _ _) (then (then (then (p .0) (n .0)) a) (o .0)), omega (arith, p .1, n .1, a .next, o .1))
+    let o = c .before .before .put-field2 .ensures in (
+      spelled (refusal-joined _ _ _) (then (then (then (p .0) (n .0)) a) (o .0)),
+      omega (arith, p .1, n .1, a .next, o .1),
+    )
 
 pub put-refusal-spec : {M : Type 1} → statement M
 put-refusal-spec =

@@ -12,7 +12,8 @@ use Rattle.listing.proofs.put_report.Statement.{statement}
 use Rattle.listing.proofs.put_report.Tie as tie
 
 -- a text at the start of a buffer with room for it
-stands : {l t m : List ℕ} {j : ℕ} → Wrote l 0 t m j → j ≤ room → room ≤ length l → (j ≡ length t) × ((m ≡ listed l t) × (j ≤ room))
+stands : {l t m : List ℕ} {j : ℕ} → Wrote l 0 t m j → j ≤ room → room ≤ length l → (j ≡ length t)
+    × ((m ≡ listed l t) × (j ≤ room))
 stands {l} {t} {m} {j} w h k =
     let p : 0 + length t ≡ length t = omega arith in
     (w .next ∙ p, (w .bytes ∙ sets-eq t l 0 (omega (arith, w .next)) ∙ ap (λ (k : ℕ). t ++ drop k l) p, h))
@@ -34,14 +35,16 @@ same-length c = search needs
 
 returns : tie.Need-returns
 returns c = let w = c .before .before .put-verdict .ensures in
-    stands (spelled (sym (ap listingOf (c .before .before .before .before .before .report .given .1))) (w .0)) (w .1) (c .before .before .before .before .before .before .before .before .pre)
+    stands (spelled (sym (ap listingOf (c .before .before .before .before .before .report .given .1))) (w .0)) (w .1)
+    (c .before .before .before .before .before .before .before .before .pre)
 
 same-length-2 : tie.Need-same-length-2
 same-length-2 c = search needs
 
 returns-2 : tie.Need-returns-2
 returns-2 c = let w = c .before .before .put-refusal .ensures in
-    stands (spelled (sym (ap listingOf (c .before .before .before .before .before .report2 .given .1))) (w .0)) (w .1) (c .before .before .before .before .before .before .before .before .pre)
+    stands (spelled (sym (ap listingOf (c .before .before .before .before .before .report2 .given .1))) (w .0)) (w .1)
+    (c .before .before .before .before .before .before .before .before .pre)
 
 pub put-report-spec : {M : Type 1} → statement M
 put-report-spec =

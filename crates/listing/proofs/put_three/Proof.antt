@@ -17,7 +17,8 @@ same-length : tie.Need-same-length
 same-length c = search needs
 
 returns : tie.Need-returns
-returns c = let x = c .before .before .before .before .before .before .before .before .before .before .put-field .ensures in
+returns c =
+    let x = c .before .before .before .before .before .before .before .before .before .before .put-field .ensures in
     let y = c .before .before .before .before .before .before .put-field2 .ensures in
     let z = c .before .before .put-field3 .ensures in
     (then (then (x .0) (y .0)) (z .0), omega arith)

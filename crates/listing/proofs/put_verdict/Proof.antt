@@ -34,14 +34,21 @@ cast-put-three-6 : tie.Need-cast-put-three-6
 cast-put-three-6 c = search needs
 
 put-three-requires-2 : tie.Need-put-three-requires-2
-put-three-requires-2 c κs = omega (arith, c .before .before .before .before .before .before .before .before .before .before .before .before .before .before .before .before .before .pre, c .before .before .before .before .before .before .before .before .before .before .before .before .before .put-bytes .ensures, c .before .before .before .before .before .before .put-three .ensures)
+put-three-requires-2 c κs =
+    omega (
+      arith,
+      c .before .before .before .before .before .before .before .before .before .before .before .before .before .before .before .before .before .pre,
+      c .before .before .before .before .before .before .before .before .before .before .before .before .before .put-bytes .ensures,
+      c .before .before .before .before .before .before .put-three .ensures,
+    )
 
 same-length : tie.Need-same-length
 same-length c = search needs
 
 returns : tie.Need-returns
 unfolding bytesOf
-returns c = let h = c .before .before .before .before .before .before .before .before .before .before .before .before .before .before .before .before .put-bytes .ensures in
+returns c =
+    let h = c .before .before .before .before .before .before .before .before .before .before .before .before .before .before .before .before .put-bytes .ensures in
     let x = c .before .before .before .before .before .before .before .before .before .put-three .ensures in
     let y = c .before .before .put-three2 .ensures in
     (spelled (verdict-joined _) (then (then h (x .0)) (y .0)), omega (arith, h .next))

@@ -24,7 +24,8 @@ zero-chart-requires-2 c κs = search needs
 
 returns-2 : tie.Need-returns-2
 returns-2 c = let e = c .before .before .word64-at .ensures .0 in
-    c .zero-chart2 .ensures ∙ sym (beyond _ (c .before .before .before .if1 .left) (omega (arith, e, c .before .if2 .taken)))
+    c .zero-chart2 .ensures ∙ sym
+    (beyond _ (c .before .before .before .if1 .left) (omega (arith, e, c .before .if2 .taken)))
 
 add-end : tie.Need-add-end
 add-end c = search needs
@@ -42,7 +43,10 @@ read-requires : tie.Need-read-requires
 read-requires c κs = search needs
 
 returns-3 : tie.Need-returns-3
-returns-3 c = ap (λ (s : Said). s .chart) (c .before .read .ensures .0) ∙ framed _ _ (c .before .before .before .before .before .if1 .left) (c .before .before .before .before .word64-at .ensures .0) (c .before .before .before .if2 .left)
+returns-3 c =
+    ap (λ (s : Said). s .chart) (c .before .read .ensures .0)
+    ∙ framed _ _ (c .before .before .before .before .before .if1 .left)
+    (c .before .before .before .before .word64-at .ensures .0) (c .before .before .before .if2 .left)
 
 pub chart-in-spec : {M : Type 1} → statement M
 chart-in-spec =

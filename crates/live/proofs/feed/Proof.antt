@@ -1,4 +1,5 @@
--- `live::feed` meets its contract: no room for a chart, or one record fed for the chart in the bytes; either is one more
+-- `live::feed` meets its contract: no room for a chart, or one record fed for the chart in the bytes; either is one
+-- more
 -- feed of every list that led to them. Assumes nothing.
 use native.Mathlib.Omega.{arith}
 use Rattle.live.proofs.Feeding.{fed-none, fed-live}
@@ -25,7 +26,8 @@ same-length c = search needs
 returns-2 : tie.Need-returns-2
 returns-2 c =
     let b = c .before .before .before .before in
-    let F = fed-live _ (b .chart-in .ensures) (omega (arith, b .before .before .if1 .left)) (c .before .before .feed-chart .ensures) in
+    let F = fed-live _ (b .chart-in .ensures) (omega (arith, b .before .before .if1 .left))
+    (c .before .before .feed-chart .ensures) in
     (F, runs-on F)
 
 pub feed-spec : {M : Type 1} → statement M

@@ -26,8 +26,10 @@ returns : tie.Need-returns
 returns c = let a = c .before .before .before .before .before .before .before .before .before .args in
     let f = c .before .before .before .before .before .feed in
     let m = c .before .before .before .before .before .before .monitor-at in
-    stays (a .chart) (a .bytes .now) (m .result) (a .e) (f .result) (m .ensures .0) (f .ensures .0) _ (c .answer-number .ensures) (f .ensures .1)
-    (ap (λ (b : Bool). b || isBroken (m .result)) (sym (c .before .before .before .is-refused .ensures)) ∙ c .before .if1 .taken)
+    stays (a .chart) (a .bytes .now) (m .result) (a .e) (f .result) (m .ensures .0) (f .ensures .0) _
+    (c .answer-number .ensures) (f .ensures .1)
+    (ap (λ (b : Bool). b || isBroken (m .result)) (sym (c .before .before .before .is-refused .ensures))
+    ∙ c .before .if1 .taken)
 
 put-monitor-requires : tie.Need-put-monitor-requires
 put-monitor-requires c κs = search needs
@@ -39,12 +41,16 @@ same-length-2 : tie.Need-same-length-2
 same-length-2 c = search needs
 
 returns-2 : tie.Need-returns-2
-returns-2 c = let s = c .before .before .before .before .before .before .before .before .before .before .before .before .before in
+returns-2 c =
+    let s = c .before .before .before .before .before .before .before .before .before .before .before .before .before in
     let f = c .before .before .before .before .before .before .before .before .before .feed in
     let m = c .before .before .before .before .before .before .before .before .before .before .monitor-at in
     let p = c .before .before .before .put-monitor in
-    written (s .args .chart) (s .args .bytes .now) (m .result) (s .args .e) (f .result) (m .ensures .0) (f .ensures .0) _ (c .answer-number2 .ensures)
-    (ap (λ (b : Bool). b || isBroken (m .result)) (sym (c .before .before .before .before .before .before .before .is-refused .ensures)) ∙ c .before .before .before .before .before .if1 .left) (s .pre) (p .ensures .0) (p .ensures .1)
+    written (s .args .chart) (s .args .bytes .now) (m .result) (s .args .e) (f .result) (m .ensures .0)
+    (f .ensures .0) _ (c .answer-number2 .ensures)
+    (ap (λ (b : Bool). b || isBroken (m .result))
+    (sym (c .before .before .before .before .before .before .before .is-refused .ensures))
+    ∙ c .before .before .before .before .before .if1 .left) (s .pre) (p .ensures .0) (p .ensures .1)
 
 pub feed-chart-spec : {M : Type 1} → statement M
 feed-chart-spec =

@@ -1,4 +1,4 @@
--- `live::put_fresh` meets its contract: the three parts one behind the other. Assumes nothing.
+-- `live::put_fresh` meets its contract: the three parts one after the other. Assumes nothing.
 use Rattle.live.proofs.Opening.{fresh-parts}
 use Rattle.monitor_image.proofs.Laws.{monitor-length}
 use native.Mathlib.Omega.{arith}
@@ -14,18 +14,34 @@ put-monitor-requires c κs = search needs
 
 put-word64-requires : tie.Need-put-word64-requires
 put-word64-requires c κs = let p = c .before .before .before .put-monitor in
-    omega (arith, c .before .before .before .before .before .before .before .before .pre, p .ensures .0 .next, p .ensures .0 .size, monitor-length (c .before .before .before .before .zero-monitor .result))
+    omega (
+      arith,
+      c .before .before .before .before .before .before .before .before .pre,
+      p .ensures .0 .next,
+      p .ensures .0 .size,
+      monitor-length (c .before .before .before .before .zero-monitor .result),
+    )
 
 put-bytes-requires : tie.Need-put-bytes-requires
 put-bytes-requires c κs = let p = c .before .before .before .before .before .before .before .put-monitor in
     let w = c .before .before .before .put-word64 in
-    omega (arith, c .before .before .before .before .before .before .before .before .before .before .before .before .pre, p .ensures .0 .next, p .ensures .0 .size, w .ensures .next, w .ensures .size, monitor-length (c .before .before .before .before .before .before .before .before .zero-monitor .result))
+    omega (
+      arith,
+      c .before .before .before .before .before .before .before .before .before .before .before .before .pre,
+      p .ensures .0 .next,
+      p .ensures .0 .size,
+      w .ensures .next,
+      w .ensures .size,
+      monitor-length (c .before .before .before .before .before .before .before .before .zero-monitor .result),
+    )
 
 same-length : tie.Need-same-length
 same-length c = search needs
 
 returns : tie.Need-returns
-returns c = fresh-parts _ _ (c .before .before .before .before .before .before .before .before .before .before .before .zero-monitor .ensures) (c .before .before .before .before .before .before .before .before .before .before .put-monitor .ensures .0) (c .before .before .before .before .before .before .put-word64 .ensures) (c .before .before .put-bytes .ensures)
+returns c =
+    fresh-parts _ _
+    (c .before .before .before .before .before .before .before .before .before .before .before .zero-monitor .ensures) (c .before .before .before .before .before .before .before .before .before .before .put-monitor .ensures .0) (c .before .before .before .before .before .before .put-word64 .ensures) (c .before .before .put-bytes .ensures)
 
 pub put-fresh-spec : {M : Type 1} → statement M
 put-fresh-spec =

@@ -17,7 +17,8 @@ standing-of-requires c κs = search needs
 returns : tie.Need-returns
 unfolding standingIn
 returns c = (
-  c .standing-of .ensures ∙ (λ i. standingBy (c .before .before .chart-in .ensures i) (c .before .monitor-at .ensures .0 i)),
+  c .standing-of .ensures ∙
+      (λ i. standingBy (c .before .before .chart-in .ensures i) (c .before .monitor-at .ensures .0 i)),
   refl,
 )
 

@@ -14,7 +14,9 @@ refused-requires : tie.Need-refused-requires
 refused-requires c κs = search needs
 
 returns : tie.Need-returns
-returns c = stands-no-chart _ _ _ (sym (c .before .before .well-formed .ensures .0) ∙ not-true _ (c .before .if1 .taken)) (c .refused .ensures)
+returns c =
+    stands-no-chart _ _ _ (sym (c .before .before .well-formed .ensures .0) ∙ not-true _ (c .before .if1 .taken))
+    (c .refused .ensures)
 
 compile-requires : tie.Need-compile-requires
 compile-requires c κs = sym (c .before .well-formed .ensures .0) ∙ not-false _ (c .if1 .left)
@@ -26,17 +28,22 @@ refused-requires-2 : tie.Need-refused-requires-2
 refused-requires-2 c κs = search needs
 
 returns-2 : tie.Need-returns-2
-returns-2 c = stands-unfit _ _ (sym (c .before .before .before .before .before .before .before .before .before .before .before .well-formed .ensures .0) ∙ not-false _ (c .before .before .before .before .before .before .before .before .before .before .if1 .left)) _ (c .before .before .before .before .before .before .before .before .before .compile .ensures .shows) _ _ (c .before .before .is-fit .ensures .0) (not-true _ (c .before .if2 .taken)) (c .refused2 .ensures)
+returns-2 c =
+    stands-unfit _ _
+    (sym (c .before .before .before .before .before .before .before .before .before .before .before .well-formed .ensures .0) ∙ not-false _ (c .before .before .before .before .before .before .before .before .before .before .if1 .left)) _ (c .before .before .before .before .before .before .before .before .before .compile .ensures .shows) _ _ (c .before .before .is-fit .ensures .0) (not-true _ (c .before .if2 .taken)) (c .refused2 .ensures)
 
 cast-verdict-of : tie.Need-cast-verdict-of
 cast-verdict-of c = search needs
 
 verdict-of-requires : tie.Need-verdict-of-requires
-verdict-of-requires c κs = half-fits _ (sym (c .before .before .before .before .before .before .before .before .before .before .before .well-formed .ensures .0) ∙ not-false _ (c .before .before .before .before .before .before .before .before .before .before .if1 .left))
+verdict-of-requires c κs =
+    half-fits _
+    (sym (c .before .before .before .before .before .before .before .before .before .before .before .well-formed .ensures .0) ∙ not-false _ (c .before .before .before .before .before .before .before .before .before .before .if1 .left))
 
 returns-3 : tie.Need-returns-3
 returns-3 c = let t = not-false _ (c .before .before .if2 .left) in
-    stands-fit _ _ (sym (c .before .before .before .before .before .before .before .before .before .before .before .before .well-formed .ensures .0) ∙ not-false _ (c .before .before .before .before .before .before .before .before .before .before .before .if1 .left)) _ (c .before .before .before .before .before .before .before .before .before .before .compile .ensures .shows) _ _ (c .before .before .before .is-fit .ensures .0) t (c .before .before .before .is-fit .ensures .1 .0 t) (c .verdict-of .ensures)
+    stands-fit _ _
+    (sym (c .before .before .before .before .before .before .before .before .before .before .before .before .well-formed .ensures .0) ∙ not-false _ (c .before .before .before .before .before .before .before .before .before .before .before .if1 .left)) _ (c .before .before .before .before .before .before .before .before .before .before .compile .ensures .shows) _ _ (c .before .before .before .is-fit .ensures .0) t (c .before .before .before .is-fit .ensures .1 .0 t) (c .verdict-of .ensures)
 
 pub standing-of-spec : {M : Type 1} → statement M
 standing-of-spec =

@@ -27,7 +27,13 @@ word32-at-requires : tie.Need-word32-at-requires
 word32-at-requires c κs = search needs
 
 returns : tie.Need-returns
-returns c = rw (c .word32-at .ensures .0, c .before .word16-at .ensures .0, c .before .before .byte-at2 .ensures .0, c .before .before .before .byte-at .ensures .0)
+returns c =
+    rw (
+      c .word32-at .ensures .0,
+      c .before .word16-at .ensures .0,
+      c .before .before .byte-at2 .ensures .0,
+      c .before .before .before .byte-at .ensures .0,
+    )
 
 pub message-at-spec : {M : Type 1} → statement M
 message-at-spec =

@@ -145,7 +145,8 @@ module _ {M : Type 1} (𝓤 : URA M) (H : Heap 𝓤) (A : Atoms 𝓤) (W : Given
   asked : ent 𝓤 (onEntry 𝓤 H A read.signature (κ′, tt) (q′, tt) (h .log, (h .offset, tt))
       (v ∷ [], (vint w64 (h .offset) ∷ [], tt))) (ReadRecord 𝓤 H A at-mem run .pre to-read)
   asked = qed W ((‵ (flft κ′ q′) ⊛ ‵ ftrue) ∷
-      ‵ (owns (ShrSlice (named 0) κ′ u8 ∷ usize ∷ []) (h .log, (h .offset, tt)) (v ∷ [], (vint w64 (h .offset) ∷ [], tt)))
+      ‵ (owns (ShrSlice (named 0) κ′ u8 ∷ usize ∷ []) (h .log, (h .offset, tt))
+      (v ∷ [], (vint w64 (h .offset) ∷ [], tt)))
       ∷ []) ∵ join ! $ frame ! $ done !
 
   goes-read : h .offset < 2 ^ 64 → ent 𝓤 (⋆ 𝓤 H A (‵ Own ∷ (‵ (flft κ′ q′) ⊛ ‵ ftrue) ∷ []))
@@ -158,7 +159,8 @@ module _ {M : Type 1} (𝓤 : URA M) (H : Heap 𝓤) (A : Atoms 𝓤) (W : Given
       learn ! (λ _. use1 W (‵ (ownAt (D .parts) L 0 (h .log)) ⊛ ‵ (rest (D .parts) L 0 vd))
       (own-out 𝓤 H A W (D .parts) L 0 vd) $ split ! $
       -- [what log owns; what at owns; what the struct owns; the token]
-      move ! (1 ∷ []) $ drop ! $ nothing ! $ owned ! usize (Is usize) (uint-makes 𝓤 H A W w64) (h .offset) _ (refl, fits) $
+      move ! (1 ∷ []) $ drop ! $ nothing ! $ owned ! usize (Is usize) (uint-makes 𝓤 H A W w64) (h .offset) _
+      (refl, fits) $
       fjoin ! $ move ! (1 ∷ 0 ∷ []) $ fjoin ! $
       move ! (2 ∷ 0 ∷ []) $ use2 W (raw (ReadRecord 𝓤 H A at-mem run .pre to-read)) asked $ frame ! $ done !)
 
@@ -280,7 +282,8 @@ module _ {M : Type 1} (𝓤 : URA M) (H : Heap 𝓤) (A : Atoms 𝓤) (W : Given
         forget ! 14 refl $ forget ! 16 refl $
         move ! (16 ∷ 17 ∷ []) $ free1 ! $ move ! (14 ∷ 15 ∷ []) $ free1 ! $ move ! (12 ∷ 13 ∷ []) $ free1 ! $
         move ! (10 ∷ 11 ∷ []) $ free1 ! $ move ! (8 ∷ 9 ∷ []) $ free1 ! $ move ! (6 ∷ 7 ∷ []) $ free1 ! $ free0 ! $
-        keep ! (0 ∷ 1 ∷ 2 ∷ 3 ∷ 4 ∷ []) $ by ! (exits r u p (e .0) (f ∙ ap (offsetOr (h .offset)) (e .0)))))))))))))))))))
+        keep ! (0 ∷ 1 ∷ 2 ∷ 3 ∷ 4 ∷ []) $ by !
+        (exits r u p (e .0) (f ∙ ap (offsetOr (h .offset)) (e .0)))))))))))))))))))
 
 module _ {M : Type 1} (𝓤 : URA M) (H : Heap 𝓤) (A : Atoms 𝓤) (W : Given 𝓤 H A) (mem : Memory → SProp 𝓤)
     (run : Routine → Fun 𝓤) where

@@ -25,7 +25,8 @@ returns-2 : tie.Need-returns-2
 returns-2 c = let p = c .before .before .put-report in
     let a = c .before .before .before .before .before .before .before .before .before .args in
     let r = c .before .before .before .report-parts .ensures in
-    let s = judged-room _ _ (a .out .now) (p .last .0) (p .result) (c .before .before .before .before .before .if1 .left) r (p .ensures .0) (p .ensures .1) in
+    let s = judged-room _ _ (a .out .now) (p .last .0) (p .result)
+    (c .before .before .before .before .before .if1 .left) r (p .ensures .0) (p .ensures .1) in
     let n = ap isJudgedNumber (p .ensures .0 ∙ ap reportNumber r) ∙ parts-listed (a .chart .now) (a .log .now) in
     (s .0, (n, (s .1, (refl, refl))))
 

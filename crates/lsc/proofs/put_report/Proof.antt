@@ -32,15 +32,22 @@ same-length : tie.Need-same-length
 same-length c = search needs
 
 returns : tie.Need-returns
-returns c = let e = sym (c .before .before .before .before .before .report .given .1) in
-    (ap reportNumber e, c .before .before .put-verdict .ensures ∙ ap (λ (x : Report). reportNumbers x ++ drop places (c .before .before .before .before .before .before .before .before .args .out .now)) e)
+returns c = let e = sym (c .before .before .before .before .before .report .given .1) in (
+  ap reportNumber e,
+  c .before .before .put-verdict .ensures
+      ∙ ap (λ (x : Report). reportNumbers x ++ drop places
+      (c .before .before .before .before .before .before .before .before .args .out .now)) e,
+)
 
 same-length-2 : tie.Need-same-length-2
 same-length-2 c = search needs
 
 returns-2 : tie.Need-returns-2
 returns-2 c = let g = c .before .before .before .before .before .before .report2 .given in
-    put-refusal (c .before .before .before .before .before .before .before .before .before .args .report) (c .before .before .before .before .before .before .before .before .before .args .out .now) (g .0 .0) (g .0 .1 .0) (g .0 .1 .1 .0) _ (g .1) (c .before .before .before .part-number .ensures) (c .before .before .put-six .ensures)
+    put-refusal (c .before .before .before .before .before .before .before .before .before .args .report)
+    (c .before .before .before .before .before .before .before .before .before .args .out .now) (g .0 .0)
+    (g .0 .1 .0) (g .0 .1 .1 .0) _ (g .1) (c .before .before .before .part-number .ensures)
+    (c .before .before .put-six .ensures)
 
 pub put-report-spec : {M : Type 1} → statement M
 put-report-spec =

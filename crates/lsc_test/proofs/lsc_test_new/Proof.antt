@@ -28,7 +28,8 @@ returns-2 : tie.Need-returns-2
 returns-2 c = let n = c .before .before .before .before .before .before in
     let t = n .before .before in
     let a = t .before .before .before .args in
-    let s = new-made (a .chart .now) (a .monitor .now) _ (n .new .result) _ (t .if1 .left) (n .before .chart-at .ensures .0)
+    let s = new-made (a .chart .now) (a .monitor .now) _ (n .new .result) _ (t .if1 .left)
+    (n .before .chart-at .ensures .0)
     (n .new .ensures) (c .made-number .ensures) (c .before .before .before .put-monitor .ensures .0) in
     (s .0, (s .1, refl))
 

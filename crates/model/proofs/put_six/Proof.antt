@@ -29,7 +29,9 @@ same-length : tie.Need-same-length
 same-length c = search needs
 
 returns : tie.Need-returns
-returns c = sets-eq (c .args .a ∷ c .args .b ∷ c .args .c ∷ c .args .d ∷ c .args .e ∷ c .args .f ∷ []) (c .args .out .now) 0 (omega arith)
+returns c =
+    sets-eq (c .args .a ∷ c .args .b ∷ c .args .c ∷ c .args .d ∷ c .args .e ∷ c .args .f ∷ []) (c .args .out .now) 0
+    (omega arith)
 
 pub put-six-spec : {M : Type 1} → statement M
 put-six-spec =

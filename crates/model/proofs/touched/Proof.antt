@@ -20,11 +20,13 @@ enum-known-e-2 c = search needs
 returns : tie.Need-returns
 unfolding union
 returns c =
-    touches-of (c .before .before .before .before .before .args .e) (bitOr (c .before .line-set .result) (c .line-set2 .result))
+    touches-of (c .before .before .before .before .before .args .e)
+    (bitOr (c .before .line-set .result) (c .line-set2 .result))
     (rw (c .before .before .before .e .given .1, c .line-set2 .ensures, c .before .line-set .ensures))
 
 returns-2 : tie.Need-returns-2
-returns-2 c = touches-of (c .before .before .before .args .e) (c .before .e2 .given .0 .0) (rw (c .before .e2 .given .1))
+returns-2 c =
+    touches-of (c .before .before .before .args .e) (c .before .e2 .given .0 .0) (rw (c .before .e2 .given .1))
 
 pub touched-spec : {M : Type 1} → statement M
 touched-spec =

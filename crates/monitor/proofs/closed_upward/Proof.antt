@@ -9,7 +9,8 @@ use Rattle.monitor.proofs.closed_upward.Statement.{statement}
 use Rattle.monitor.proofs.closed_upward.Tie as tie
 
 abbrev Inv-loop : tie.InvT-loop
-Inv-loop above count fired ok₀ i₀ ok i = (i ≤ count) × AllSoFar (λ j. not (contains fired j) || isSubset (getD above j 0) fired) i ok
+Inv-loop above count fired ok₀ i₀ ok i =
+    (i ≤ count) × AllSoFar (λ j. not (contains fired j) || isSubset (getD above j 0) fired) i ok
 
 abbrev μ-loop : tie.MeasureT-loop
 μ-loop above count fired ok₀ i₀ ok i = count - i

@@ -15,7 +15,8 @@ refused-requires c κs = search needs
 
 returns : tie.Need-returns
 returns c = (
-  fed-no-chart _ _ _ _ (sym (c .before .before .well-formed .ensures .0) ∙ not-true _ (c .before .if1 .taken)) (c .refused .ensures .0),
+  fed-no-chart _ _ _ _ (sym (c .before .before .well-formed .ensures .0) ∙ not-true _ (c .before .if1 .taken))
+      (c .refused .ensures .0),
   c .refused .ensures .1,
   owned-step (c .refused .result) _ (c .refused .ok),
 )
@@ -31,7 +32,8 @@ refused-requires-2 c κs = search needs
 
 returns-2 : tie.Need-returns-2
 returns-2 c = (
-  fed-unfit _ _ _ _ (sym (c .before .before .before .before .before .before .before .before .before .before .before .well-formed .ensures .0) ∙ not-false _ (c .before .before .before .before .before .before .before .before .before .before .if1 .left)) _ (c .before .before .before .before .before .before .before .before .before .compile .ensures .shows)
+  fed-unfit _ _ _ _
+      (sym (c .before .before .before .before .before .before .before .before .before .before .before .well-formed .ensures .0) ∙ not-false _ (c .before .before .before .before .before .before .before .before .before .before .if1 .left)) _ (c .before .before .before .before .before .before .before .before .before .compile .ensures .shows)
       (sym (c .before .before .is-fit .ensures .0) ∙ not-true _ (c .before .if2 .taken)) (c .refused2 .ensures .0),
   c .refused2 .ensures .1,
   owned-step (c .refused2 .result) _ (c .refused2 .ok),
@@ -44,17 +46,28 @@ time-of-requires : tie.Need-time-of-requires
 time-of-requires c κs = search needs
 
 below-requires : tie.Need-below-requires
-below-requires c κs = c .before .before .before .before .before .before .before .before .before .before .before .before .before .compile .ensures .compiled .regions
+below-requires c κs =
+    c .before .before .before .before .before .before .before .before .before .before .before .before .before .compile .ensures .compiled .regions
 
 feed-fit-requires : tie.Need-feed-fit-requires
 feed-fit-requires c κs =
-    let K = c .before .before .before .before .before .before .before .before .before .before .before .before .before .before .before .before .compile .ensures .compiled in
-    (K, (c .before .before .before .before .before .before .before .before .before .is-fit .ensures .1 .0 (not-false _ (c .before .before .before .before .before .before .before .before .if2 .left)), all-covered _ _ (K .regions) (c .before .before .below .ensures)))
+    let K = c .before .before .before .before .before .before .before .before .before .before .before .before .before .before .before .before .compile .ensures .compiled in (
+      K,
+      (
+        c .before .before .before .before .before .before .before .before .before .is-fit .ensures .1 .0
+            (not-false _ (c .before .before .before .before .before .before .before .before .if2 .left)),
+        all-covered _ _ (K .regions) (c .before .before .below .ensures),
+      ),
+    )
 
 returns-3 : tie.Need-returns-3
 returns-3 c = (
-  fed-on _ _ _ _ (sym (c .before .before .before .before .before .before .before .before .before .before .before .before .before .before .before .before .before .before .before .well-formed .ensures .0) ∙ not-false _ (c .before .before .before .before .before .before .before .before .before .before .before .before .before .before .before .before .before .before .if1 .left)) _ (c .before .before .before .before .before .before .before .before .before .before .before .before .before .before .before .before .before .compile .ensures .shows)
-      (sym (c .before .before .before .before .before .before .before .before .before .before .is-fit .ensures .0) ∙ not-false _ (c .before .before .before .before .before .before .before .before .before .if2 .left)) _ _ (c .before .before .before .before .before .before .before .before .record-code .ensures) (c .before .before .before .before .before .before .before .time-of .ensures) (c .feed-fit .ensures .0),
+  fed-on _ _ _ _
+      (sym (c .before .before .before .before .before .before .before .before .before .before .before .before .before .before .before .before .before .before .before .well-formed .ensures .0) ∙ not-false _ (c .before .before .before .before .before .before .before .before .before .before .before .before .before .before .before .before .before .before .if1 .left)) _ (c .before .before .before .before .before .before .before .before .before .before .before .before .before .before .before .before .before .compile .ensures .shows)
+      (sym (c .before .before .before .before .before .before .before .before .before .before .is-fit .ensures .0)
+      ∙ not-false _ (c .before .before .before .before .before .before .before .before .before .if2 .left)) _ _
+      (c .before .before .before .before .before .before .before .before .record-code .ensures)
+      (c .before .before .before .before .before .before .before .time-of .ensures) (c .feed-fit .ensures .0),
   c .feed-fit .ensures .1,
   owned-step (c .feed-fit .result) _ (c .feed-fit .ok),
 )

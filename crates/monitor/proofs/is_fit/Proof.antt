@@ -18,7 +18,8 @@ returns c =
     let P = c .before .before in
     let S = P .before .before .before in
     let K = S .pre in
-    fit-test K (S .args .m) (P .place-fits .ensures .1) _ _ _ (P .place-fits .ensures .0 _ _ _ K) (c .before .counts-fit .ensures) (c .break-fits .ensures)
+    fit-test K (S .args .m) (P .place-fits .ensures .1) _ _ _ (P .place-fits .ensures .0 _ _ _ K)
+    (c .before .counts-fit .ensures) (c .break-fits .ensures)
 
 pub is-fit-spec : {M : Type 1} → statement M
 is-fit-spec = tie.close (tie.spec place-fits-requires counts-fit-requires break-fits-requires returns)

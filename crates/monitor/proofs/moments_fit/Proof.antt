@@ -12,7 +12,9 @@ use Rattle.monitor.proofs.moments_fit.Statement.{statement}
 use Rattle.monitor.proofs.moments_fit.Tie as tie
 
 abbrev Inv-loop : tie.InvT-loop
-Inv-loop clocks now resets ok₀ k₀ ok k = (k ≤ mostClocks) × AllSoFar (λ j. leb (momentsOf resets j) (now .0) && (ltb j clocks || eqb (momentsOf resets j) 0)) k ok
+Inv-loop clocks now resets ok₀ k₀ ok k =
+    (k ≤ mostClocks) × AllSoFar
+    (λ j. leb (momentsOf resets j) (now .0) && (ltb j clocks || eqb (momentsOf resets j) 0)) k ok
 
 abbrev μ-loop : tie.MeasureT-loop
 μ-loop clocks now resets ok₀ k₀ ok k = mostClocks - k

@@ -31,7 +31,8 @@ returns c =
     let a = R .before .before .args in (
       (λ keys resets terms K.
           tested K (a .p) (a .t .0) (a .broken) _ _ _ _ _ (R .ready-plain .result) (c .closed-upward .ensures)
-          (c .before .before .before .within .ensures) (c .before .before .all-fired .ensures) (R .ready-plain .ensures _ (K .within))
+          (c .before .before .before .within .ensures) (c .before .before .all-fired .ensures)
+          (R .ready-plain .ensures _ (K .within))
           (c .before .before .before .before .is-nothing .ensures) (c .before .moments-fit .ensures .0)),
       c .before .moments-fit .ensures .1,
     )

@@ -28,7 +28,17 @@ moment-at-requires-8 : tie.Need-moment-at-requires-8
 moment-at-requires-8 c κs = search needs
 
 returns : tie.Need-returns
-returns c = rw (c .moment-at8 .ensures, c .before .moment-at7 .ensures, c .before .before .moment-at6 .ensures, c .before .before .before .moment-at5 .ensures, c .before .before .before .before .moment-at4 .ensures, c .before .before .before .before .before .moment-at3 .ensures, c .before .before .before .before .before .before .moment-at2 .ensures, c .before .before .before .before .before .before .before .moment-at .ensures)
+returns c =
+    rw (
+      c .moment-at8 .ensures,
+      c .before .moment-at7 .ensures,
+      c .before .before .moment-at6 .ensures,
+      c .before .before .before .moment-at5 .ensures,
+      c .before .before .before .before .moment-at4 .ensures,
+      c .before .before .before .before .before .moment-at3 .ensures,
+      c .before .before .before .before .before .before .moment-at2 .ensures,
+      c .before .before .before .before .before .before .before .moment-at .ensures,
+    )
 
 pub moments-at-spec : {M : Type 1} → statement M
 moments-at-spec =

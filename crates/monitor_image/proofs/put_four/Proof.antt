@@ -20,7 +20,8 @@ same-length : tie.Need-same-length
 same-length c = search needs
 
 returns : tie.Need-returns
-returns c = let a = c .before .before .before .before .before .before .before .before .before .before .before .before .before .before .put-word32 .ensures in
+returns c =
+    let a = c .before .before .before .before .before .before .before .before .before .before .before .before .before .before .put-word32 .ensures in
     let b = c .before .before .before .before .before .before .before .before .before .before .put-word322 .ensures in
     let d = c .before .before .before .before .before .before .put-word323 .ensures in
     then (then (then a b) d) (c .before .before .put-word324 .ensures)

@@ -38,7 +38,8 @@ same-length : tie.Need-same-length
 same-length c = search needs
 
 returns : tie.Need-returns
-returns c = then (c .before .before .before .before .before .before .put-four .ensures) (c .before .before .put-four2 .ensures)
+returns c =
+    then (c .before .before .before .before .before .before .put-four .ensures) (c .before .before .put-four2 .ensures)
 
 pub put-moments-spec : {M : Type 1} → statement M
 put-moments-spec =

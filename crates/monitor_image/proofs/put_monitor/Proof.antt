@@ -1,4 +1,5 @@
--- `monitor_image::put_monitor` meets its contract: its three parts one after the other, and the image is read as the monitor.
+-- `monitor_image::put_monitor` meets its contract: its three parts one after the other, and the image is read as the
+-- monitor.
 -- Assumes nothing.
 use Rattle.monitor_image.proofs.Owned.{owned}
 use Rattle.monitor_image.proofs.Laws.{monitor-back}
@@ -23,8 +24,12 @@ same-length c = search needs
 
 returns : tie.Need-returns
 unfolding monitorBytes
-returns c = let s = c .before .before .before .before .before .before .before .before .before .before .before .before .before .before .before .before in
-    let w : Wrote _ 0 (monitorBytes (s .args .m)) _ _ = then (then (c .before .before .before .before .before .before .before .before .before .before .put-word32 .ensures) (c .before .before .before .before .before .before .put-moments .ensures)) (c .before .before .put-tally .ensures) in
+returns c =
+    let s = c .before .before .before .before .before .before .before .before .before .before .before .before .before .before .before .before in
+    let w : Wrote _ 0 (monitorBytes (s .args .m)) _ _ = then
+    (then (c .before .before .before .before .before .before .before .before .before .before .put-word32 .ensures)
+    (c .before .before .before .before .before .before .put-moments .ensures))
+    (c .before .before .put-tally .ensures) in
     (w, monitor-back (s .args .m) w (s .pre) (owned (s .args .m) _ (s .good .1 .0)))
 
 pub put-monitor-spec : {M : Type 1} → statement M

@@ -17,7 +17,9 @@ same-length : tie.Need-same-length
 same-length c = search needs
 
 returns : tie.Need-returns
-returns c = then (then (c .before .before .before .before .before .before .before .before .before .before .put-four .ensures) (c .before .before .before .before .before .before .put-word32 .ensures)) (c .before .before .put-byte .ensures)
+returns c =
+    then (then (c .before .before .before .before .before .before .before .before .before .before .put-four .ensures)
+    (c .before .before .before .before .before .before .put-word32 .ensures)) (c .before .before .put-byte .ensures)
 
 pub put-tally-spec : {M : Type 1} → statement M
 put-tally-spec =

@@ -23,7 +23,14 @@ word32-at-requires-4 c κs = search needs
 
 returns : tie.Need-returns
 returns c =
-    rw (c .word32-at4 .ensures .0, c .before .word32-at3 .ensures .0, c .before .before .word32-at2 .ensures .0, c .before .before .before .byte-at .ensures .0, c .before .before .before .before .word32-at .ensures .0, c .before .before .before .before .before .moment-at .ensures)
+    rw (
+      c .word32-at4 .ensures .0,
+      c .before .word32-at3 .ensures .0,
+      c .before .before .word32-at2 .ensures .0,
+      c .before .before .before .byte-at .ensures .0,
+      c .before .before .before .before .word32-at .ensures .0,
+      c .before .before .before .before .before .moment-at .ensures,
+    )
 
 pub tally-at-spec : {M : Type 1} → statement M
 tally-at-spec =

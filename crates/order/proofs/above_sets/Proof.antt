@@ -27,8 +27,10 @@ returns c =
     let chart = c .before .before .before .before .args .c in
     sets-decide chart (c .sets-of .result)
     (c .sets-of .ensures
-    ∙ ap (λ (n : ℕ). aboveSets (λ i. getD (c .before .before .before .lines-of .result) i 0) (chart .prechart) n) (c .before .used .ensures)
-    ∙ same-sets (λ i. getD (c .before .before .before .lines-of .result) i 0) (touchedAt chart) (chart .prechart) mostRegions
+    ∙ ap (λ (n : ℕ). aboveSets (λ i. getD (c .before .before .before .lines-of .result) i 0) (chart .prechart) n)
+    (c .before .used .ensures)
+    ∙ same-sets (λ i. getD (c .before .before .before .lines-of .result) i 0) (touchedAt chart)
+    (chart .prechart) mostRegions
     (c .before .before .before .lines-of .ensures) (min (chart .count) mostRegions) (omega arith))
 
 pub above-sets-spec : {M : Type 1} → statement M

@@ -40,8 +40,12 @@ loop-less : tie.Need-loop-less Inv-loop μ-loop
 loop-less c = omega arith
 
 loop-again : tie.Need-loop-again Inv-loop μ-loop
-loop-again c = let I = c .before .before .before .loop .inv in
-    (omega arith, simp length-set (I .1), filled-next (c .touched .result) (I .2) (omega arith) (c .touched .ensures .0))
+loop-again c = let I = c .before .before .before .loop .inv in (
+  omega arith,
+  simp length-set (I .1),
+  filled-next (c .touched .result) (I .2) (omega arith)
+      (c .touched .ensures .0),
+)
 
 returns : tie.Need-returns Inv-loop μ-loop
 returns c = λ i h. filled-below (c .before .loop .inv .2) i (omega arith)

@@ -37,7 +37,8 @@ unfolding aboveSets
 loop-again c = (omega arith, rw (add-one, c .gather .ensures, c .before .before .before .before .loop .inv .1))
 
 returns : tie.Need-returns Inv-loop μ-loop
-returns c = let e : c .before .loop .b ≡ c .before .before .args .count = omega arith in rw e at (c .before .loop .inv .1)
+returns c = let e : c .before .loop .b ≡ c .before .before .args .count = omega arith in
+    rw e at (c .before .loop .inv .1)
 
 pub sets-of-spec : {M : Type 1} → statement M
 sets-of-spec =

@@ -19,7 +19,8 @@ sub-result c = search needs
 
 returns : tie.Need-returns
 returns c = (
-  rw (c .lowered .ensures .0, c .before .raised .ensures .0) (bound-parts (c .before .before .args .e) (c .before .before .args .b)),
+  rw (c .lowered .ensures .0, c .before .raised .ensures .0)
+      (bound-parts (c .before .before .args .e) (c .before .before .args .b)),
   omega arith,
 )
 

@@ -124,10 +124,15 @@ loop-again c =
       simp length-set (I .2),
       simp length-set (I .3),
       simp length-set (I .4),
-      parts-next (I .5) (g .before .before .before .insert-if .result) (g .before .before .insert-if2 .result) (g .before .key-of .result) (g .clock-set .result)
-          (c .before .before .before .word-at .result) (c .before .before .word-at2 .result) (c .before .word-at3 .result) (c .word-at4 .result)
-          (omega arith) (omega arith) (omega arith) (rw (g .before .before .before .before .is-plain .ensures) at (g .before .before .before .insert-if .ensures))
-          (g .before .before .insert-if2 .ensures) (g .before .key-of .ensures) (g .clock-set .ensures) (c .before .before .before .word-at .ensures) (c .before .before .word-at2 .ensures)
+      parts-next (I .5) (g .before .before .before .insert-if .result) (g .before .before .insert-if2 .result)
+          (g .before .key-of .result) (g .clock-set .result)
+          (c .before .before .before .word-at .result) (c .before .before .word-at2 .result)
+          (c .before .word-at3 .result) (c .word-at4 .result)
+          (omega arith) (omega arith) (omega arith)
+          (rw (g .before .before .before .before .is-plain .ensures) at
+          (g .before .before .before .insert-if .ensures))
+          (g .before .before .insert-if2 .ensures) (g .before .key-of .ensures) (g .clock-set .ensures)
+          (c .before .before .before .word-at .ensures) (c .before .before .word-at2 .ensures)
           (c .before .word-at3 .ensures) (c .word-at4 .ensures),
     )
 
@@ -147,7 +152,8 @@ returns c =
     let e : l .i ≡ s .args .t1 .count = omega arith in
     compiles (s .args .t1) _ (wf-of (s .args .t1) (s .pre))
     (shown (s .args .t1) (exact-test (s .args .t1) _ (s .good .0) true (sym (s .pre)) .1 .0 refl) .accepted)
-    (λ i j h m. owned-at (s .args .t1) _ (s .good .0) i h .numbers j m) (refl, refl, refl) (c .above-sets .ensures .0) (rw e at (l .inv .5))
+    (λ i j h m. owned-at (s .args .t1) _ (s .good .0) i h .numbers j m) (refl, refl, refl) (c .above-sets .ensures .0)
+    (rw e at (l .inv .5))
 
 pub compile-spec : {M : Type 1} → statement M
 compile-spec =

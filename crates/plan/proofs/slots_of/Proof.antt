@@ -12,7 +12,8 @@ use Rattle.plan.proofs.slots_of.Statement.{statement}
 use Rattle.plan.proofs.slots_of.Tie as tie
 
 abbrev Inv-loop : tie.InvT-loop
-Inv-loop count keys slots₀ i₀ slots i = (i ≤ count) × (count ≤ mostRegions) × (length slots ≡ slotCount) × Slotted i keys slots
+Inv-loop count keys slots₀ i₀ slots i =
+    (i ≤ count) × (count ≤ mostRegions) × (length slots ≡ slotCount) × Slotted i keys slots
 
 abbrev μ-loop : tie.MeasureT-loop
 μ-loop count keys slots₀ i₀ slots i = count - i
@@ -64,7 +65,8 @@ loop-again c =
     )
 
 returns : tie.Need-returns Inv-loop μ-loop
-returns c = let e : c .before .loop .i ≡ c .before .before .args .count = omega arith in rw e at (c .before .loop .inv .3)
+returns c = let e : c .before .loop .i ≡ c .before .before .args .count = omega arith in
+    rw e at (c .before .loop .inv .3)
 
 pub slots-of-spec : {M : Type 1} → statement M
 slots-of-spec =

@@ -12,11 +12,13 @@ use Rattle.respond.proofs.report.Tie as tie
 
 -- the two parts of the slice, as the code lends them
 parts : (s : List ℕ) (n : ℕ)
-    → partsReport (take (2 + n - 2) (drop 2 s)) (take (length s - (2 + n)) (drop (2 + n) s)) ≡ partsReport (take n (drop 2 s)) (drop (2 + n) s)
+    → partsReport (take (2 + n - 2) (drop 2 s)) (take (length s - (2 + n)) (drop (2 + n) s)) ≡ partsReport
+    (take n (drop 2 s)) (drop (2 + n) s)
 parts s n =
     let e : 2 + n - 2 ≡ n = omega arith in
     ap (λ (k : ℕ). partsReport (take k (drop 2 s)) (take (length s - (2 + n)) (drop (2 + n) s))) e
-    ∙ ap (partsReport (take n (drop 2 s))) (take-all (length s - (2 + n)) (drop (2 + n) s) (omega (arith, length-drop (2 + n) s)))
+    ∙ ap (partsReport (take n (drop 2 s)))
+    (take-all (length s - (2 + n)) (drop (2 + n) s) (omega (arith, length-drop (2 + n) s)))
 
 returns : tie.Need-returns
 unfolding reportOf
@@ -38,7 +40,12 @@ sub-if3 c = search needs
 returns-3 : tie.Need-returns-3
 unfolding reportOf
 returns-3 c = let w = c .before .wide .ensures .0 ∙ c .before .before .word16-at .ensures .0 in
-    rw (le-ltb _ _ (c .before .before .before .before .if1 .left), le-ltb _ _ (c .before .before .before .if2 .left), ← w, lt-ltb _ _ (c .if3 .taken))
+    rw (
+      le-ltb _ _ (c .before .before .before .before .if1 .left),
+      le-ltb _ _ (c .before .before .before .if2 .left),
+      ← w,
+      lt-ltb _ _ (c .if3 .taken),
+    )
 
 add-end : tie.Need-add-end
 add-end c = search needs
@@ -66,9 +73,19 @@ report-parts-requires c κs = search needs
 
 returns-4 : tie.Need-returns-4
 unfolding reportOf
-returns-4 c = let w = c .before .before .before .before .wide .ensures .0 ∙ c .before .before .before .before .before .word16-at .ensures .0 in
+returns-4 c =
+    let w = c .before .before .before .before .wide .ensures .0
+    ∙ c .before .before .before .before .before .word16-at .ensures .0 in
     let j = c .report-parts .ensures in
-    rw (le-ltb _ _ (c .before .before .before .before .before .before .before .if1 .left), le-ltb _ _ (c .before .before .before .before .before .before .if2 .left), ← w, le-ltb _ _ (c .before .before .before .if3 .left)) (c .report-parts .ensures ∙ parts (c .before .before .before .before .before .before .before .before .before .args .input .now) (c .before .before .before .before .wide .result))
+    rw (
+      le-ltb _ _ (c .before .before .before .before .before .before .before .if1 .left),
+      le-ltb _ _ (c .before .before .before .before .before .before .if2 .left),
+      ← w,
+      le-ltb _ _ (c .before .before .before .if3 .left),
+    )
+    (c .report-parts .ensures ∙ parts
+    (c .before .before .before .before .before .before .before .before .before .args .input .now)
+    (c .before .before .before .before .wide .result))
 
 pub report-spec : {M : Type 1} → statement M
 report-spec =

@@ -29,9 +29,16 @@ returns-2 c =
     let a = c .before .before .before .before .before .before .before .before .args in
     let p = c .before .before .put-report in
     let e = c .before .before .before .report .ensures in
-    let w = written (a .out .now) (p .last .0) (textOf (a .input .now)) (p .result) (c .before .before .before .before .before .if1 .left)
-    (p .ensures .0 ∙ ap (λ (x : Report). length (listingOf x)) e) (p .ensures .1 .0 ∙ ap (λ (x : Report). listed (a .out .now) (listingOf x)) e) in
-    (w .0, (w .1, (omega (arith, p .ensures .1 .1, p .kept .0, c .before .before .before .before .before .if1 .left), refl)))
+    let w = written (a .out .now) (p .last .0) (textOf (a .input .now)) (p .result)
+    (c .before .before .before .before .before .if1 .left)
+    (p .ensures .0 ∙ ap (λ (x : Report). length (listingOf x)) e)
+    (p .ensures .1 .0 ∙ ap (λ (x : Report). listed (a .out .now) (listingOf x)) e) in (
+      w .0,
+      (
+        w .1,
+        (omega (arith, p .ensures .1 .1, p .kept .0, c .before .before .before .before .before .if1 .left), refl),
+      ),
+    )
 
 pub respond-spec : {M : Type 1} → statement M
 respond-spec =

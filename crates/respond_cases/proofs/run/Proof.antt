@@ -14,10 +14,14 @@ enum-known-response : tie.Need-enum-known-response
 enum-known-response c = search needs
 
 array-share-prefix-out : tie.Need-array-share-prefix-out
-array-share-prefix-out c = counted (c .before .before .before .before .respond .last .1 .0) (c .before .response .given .1) (c .before .before .before .before .respond .ensures .1 .1 .0)
+array-share-prefix-out c =
+    counted (c .before .before .before .before .respond .last .1 .0) (c .before .response .given .1)
+    (c .before .before .before .before .respond .ensures .1 .1 .0)
 
 slice-aggregate-compare : tie.Need-slice-aggregate-compare
-slice-aggregate-compare c = counted-size (c .before .before .before .before .before .respond .last .1 .0) (c .before .before .response .given .1) (c .before .before .before .before .before .respond .ensures .1 .1 .0)
+slice-aggregate-compare c =
+    counted-size (c .before .before .before .before .before .respond .last .1 .0)
+    (c .before .before .response .given .1) (c .before .before .before .before .before .respond .ensures .1 .1 .0)
 
 compare-requires : tie.Need-compare-requires
 compare-requires c κs = search needs

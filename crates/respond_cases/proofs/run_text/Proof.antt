@@ -1,4 +1,5 @@
--- `respond_cases::run_text` is safe and ends: each line starts within the text, and there is at most a case for each byte. Assumes nothing.
+-- `respond_cases::run_text` is safe and ends: each line starts within the text, and there is at most a case for each
+-- byte. Assumes nothing.
 use mathlib.Core.Logic.{⊎-elim}
 use native.Mathlib.Omega.{arith}
 use Prim.Native.Nat.{_≤_, _-_}
@@ -44,8 +45,11 @@ loop-less : tie.Need-loop-less Inv-loop μ-loop
 loop-less c = search needs
 
 loop-again : tie.Need-loop-again Inv-loop μ-loop
-loop-again c =
-    (omega arith, ⊎-elim (λ w. omega arith) (λ w. omega arith) (c .before .if1 .came), ⊎-elim (λ w. omega arith) (λ w. omega arith) (c .before .if1 .came))
+loop-again c = (
+  omega arith,
+  ⊎-elim (λ w. omega arith) (λ w. omega arith) (c .before .if1 .came),
+  ⊎-elim (λ w. omega arith) (λ w. omega arith) (c .before .if1 .came),
+)
 
 put-result-requires-2 : tie.Need-put-result-requires-2 Inv-loop μ-loop
 put-result-requires-2 c κs = search needs

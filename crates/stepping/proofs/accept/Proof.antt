@@ -36,14 +36,22 @@ enum-known-sought c = search needs
 take-region-requires : tie.Need-take-region-requires
 take-region-requires c κs =
     let F = c .before .before .before in
-    let S = F .before .before .before in
-    (S .pre .0, (sought-ready (S .pre .0) (S .args .m) (S .args .code) (S .args .t .0) (F .seek .ensures _ (S .pre .1 .1 .1)) (c .before .sought .given .1), S .pre .1 .1 .0))
+    let S = F .before .before .before in (
+      S .pre .0,
+      (
+        sought-ready (S .pre .0) (S .args .m) (S .args .code) (S .args .t .0) (F .seek .ensures _ (S .pre .1 .1 .1))
+            (c .before .sought .given .1),
+        S .pre .1 .1 .0,
+      ),
+    )
 
 conclude-requires : tie.Need-conclude-requires
 conclude-requires c κs =
     let S = c .before .before .before .before .before .before .before in
-    let K = S .pre .0 in
-    ((K .regions, omega (arith, K .regions, K .accepted .has-main), K .clocks), (S .pre .1 .0, c .take-region .ensures .1))
+    let K = S .pre .0 in (
+      (K .regions, omega (arith, K .regions, K .accepted .has-main), K .clocks),
+      (S .pre .1 .0, c .take-region .ensures .1),
+    )
 
 returns-2 : tie.Need-returns-2
 unfolding afterScan
@@ -51,7 +59,8 @@ returns-2 c =
     let F = c .before .before .before in
     let S = F .before .before .before in
     let e = accept-scan (S .pre .0) (S .args .m) (S .args .code) (S .args .t .0) (ne-eqb _ _ (F .before .if1 .left)) in
-    rw (e, ← F .seek .ensures _ (S .pre .1 .1 .1), c .before .enum-told .given .1) (c .go-on2 .ensures _ (S .args .code))
+    rw (e, ← F .seek .ensures _ (S .pre .1 .1 .1), c .before .enum-told .given .1)
+    (c .go-on2 .ensures _ (S .args .code))
 
 returns-3 : tie.Need-returns-3
 unfolding afterScan
@@ -60,7 +69,8 @@ returns-3 c =
     let S = F .before .before .before in
     let e = accept-scan (S .pre .0) (S .args .m) (S .args .code) (S .args .t .0) (ne-eqb _ _ (F .before .if1 .left)) in
     rw (e, ← F .seek .ensures _ (S .pre .1 .1 .1), c .before .enum-told2 .given .1)
-    (c .unplaced .ensures (S .args .keys .now) (S .args .above .now) (S .args .resets .now) (S .args .terms .now) (S .args .code))
+    (c .unplaced .ensures (S .args .keys .now) (S .args .above .now) (S .args .resets .now) (S .args .terms .now)
+    (S .args .code))
 
 returns-4 : tie.Need-returns-4
 unfolding afterScan
@@ -68,8 +78,14 @@ returns-4 c =
     let F = c .before .before .before .before .before in
     let S = F .before .before .before in
     let e = accept-scan (S .pre .0) (S .args .m) (S .args .code) (S .args .t .0) (ne-eqb _ _ (F .before .if1 .left)) in
-    rw (e, ← F .seek .ensures _ (S .pre .1 .1 .1), c .before .before .before .sought .given .1, ← c .before .take-region .ensures .0)
-    (c .conclude .ensures (S .args .keys .now) (S .args .above .now) (S .args .resets .now) (S .args .terms .now) (S .args .code))
+    rw (
+      e,
+      ← F .seek .ensures _ (S .pre .1 .1 .1),
+      c .before .before .before .sought .given .1,
+      ← c .before .take-region .ensures .0,
+    )
+    (c .conclude .ensures (S .args .keys .now) (S .args .above .now) (S .args .resets .now) (S .args .terms .now)
+    (S .args .code))
 
 pub accept-spec : {M : Type 1} → statement M
 accept-spec =

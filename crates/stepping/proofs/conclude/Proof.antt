@@ -10,7 +10,8 @@ enum-known-rest : tie.Need-enum-known-rest
 enum-known-rest c = search needs
 
 cast-member : tie.Need-cast-member
-cast-member c = let l = c .before .before .before .before .before .pre .1 .1 _ (c .before .rest .given .1) in omega arith
+cast-member c = let l = c .before .before .before .before .before .pre .1 .1 _ (c .before .rest .given .1) in
+    omega arith
 
 member-requires : tie.Need-member-requires
 member-requires c κs = c .before .before .before .before .before .pre .1 .1 _ (c .before .rest .given .1)
@@ -21,7 +22,11 @@ break-round-requires c κs = search needs
 returns : tie.Need-returns
 unfolding conclude
 returns c = λ keys above resets terms code.
-    rw (c .before .before .before .before .rest .given .1, sym (c .before .before .member .ensures) ∙ c .before .if1 .taken) (c .break-round .ensures _ code)
+    rw (
+      c .before .before .before .before .rest .given .1,
+      sym (c .before .before .member .ensures)
+          ∙ c .before .if1 .taken,
+    ) (c .break-round .ensures _ code)
 
 drop-round-requires : tie.Need-drop-round-requires
 drop-round-requires c κs = search needs
@@ -38,7 +43,11 @@ keep-round-requires c κs = search needs
 returns-2 : tie.Need-returns-2
 unfolding conclude full
 returns-2 c = λ keys above resets terms code.
-    rw (c .before .before .before .enum-told .given .1, sym (c .before .before .all-fired .ensures) ∙ c .before .if2 .taken)
+    rw (
+      c .before .before .before .enum-told .given .1,
+      sym (c .before .before .all-fired .ensures)
+          ∙ c .before .if2 .taken,
+    )
     (c .keep-round .ensures _ code refl)
 
 all-fired-requires-2 : tie.Need-all-fired-requires-2
@@ -56,7 +65,11 @@ go-on-requires c κs = search needs
 returns-3 : tie.Need-returns-3
 unfolding conclude
 returns-3 c = λ keys above resets terms code.
-    rw (c .before .before .before .before .rest .given .1, sym (c .before .before .member .ensures) ∙ c .before .if1 .left) (c .drop-round .ensures _ code refl)
+    rw (
+      c .before .before .before .before .rest .given .1,
+      sym (c .before .before .member .ensures)
+          ∙ c .before .if1 .left,
+    ) (c .drop-round .ensures _ code refl)
 
 returns-4 : tie.Need-returns-4
 unfolding conclude full prechartDone

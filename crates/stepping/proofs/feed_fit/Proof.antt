@@ -18,22 +18,36 @@ returns-2 c = (rw (eq-eqb _ _ (c .before .before .before .if1 .left), lt-ltb _ _
 returns-3 : tie.Need-returns-3
 unfolding feed
 returns-3 c = (
-  rw (eq-eqb _ _ (c .before .before .before .before .before .if1 .left), le-ltb _ _ (c .before .before .if2 .left), le-leb _ _ (c .if3 .taken)),
+  rw (
+    eq-eqb _ _ (c .before .before .before .before .before .if1 .left),
+    le-ltb _ _ (c .before .before .if2 .left),
+    le-leb _ _ (c .if3 .taken),
+  ),
   same-back _ _ refl,
 )
 
 accept-requires : tie.Need-accept-requires
 accept-requires c κs =
     let P = c .before .before .before .before .before .before .before .before .pre in
-    let F = P .1 .0 in
-    (P .0, ((omega (arith, c .if3 .left), F .counts), ((λ x. omega (arith, F .moments x, c .before .before .if2 .left)), P .1 .1)))
+    let F = P .1 .0 in (
+      P .0,
+      (
+        (omega (arith, c .if3 .left), F .counts),
+        ((λ x. omega (arith, F .moments x, c .before .before .if2 .left)), P .1 .1),
+      ),
+    )
 
 returns-4 : tie.Need-returns-4
 unfolding feed
 returns-4 c = (
-  rw (eq-eqb _ _ (c .before .before .before .before .before .before .if1 .left), le-ltb _ _ (c .before .before .before .if2 .left), lt-leb _ _ (c .before .if3 .left))
+  rw (
+    eq-eqb _ _ (c .before .before .before .before .before .before .if1 .left),
+    le-ltb _ _ (c .before .before .before .if2 .left),
+    lt-leb _ _ (c .before .if3 .left),
+  )
       (c .accept .ensures),
-  taken-back _ _ _ _ _ (ap (λ (s : Step). s .answer) (c .accept .ensures)) (c .before .before .before .before .before .before .if1 .left),
+  taken-back _ _ _ _ _ (ap (λ (s : Step). s .answer) (c .accept .ensures))
+      (c .before .before .before .before .before .before .if1 .left),
 )
 
 pub feed-fit-spec : {M : Type 1} → statement M
