@@ -1,14 +1,20 @@
 -- Records as the theory takes them.
+use Prim.Native.Nat.{ℕ}
 use Rattle.model.specs.declared.Record.{Record}
 use Rattle.model.specs.declared.Record.the-variants.{Message, Time}
+use Rattle.model.specs.Monitor.{timeOf}
 use Rattle.base.specs.Lists.{Snoc, each}
 use Rattle.rounds.specs.Rows.{LogRecord}
 use Rattle.chart_value.specs.View.{codeOf}
 
--- a record as the theory takes it: its time, and 0 or the code of its message
+-- the code of a record's message; 0 for a record of time
+abbrev pub recordCode : Record → ℕ
+recordCode (Message m t) = codeOf m
+recordCode (Time t) = 0
+
+-- a record as the theory takes it
 abbrev pub logRecord : Record → LogRecord
-logRecord (Message m t) = record { time = t .0; code = codeOf m }
-logRecord (Time t) = record { time = t .0; code = 0 }
+logRecord e = record { time = timeOf e .0; code = recordCode e }
 
 -- the records as the theory takes them
 abbrev pub logged : Snoc Record → Snoc LogRecord

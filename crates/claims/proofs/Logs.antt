@@ -40,7 +40,8 @@ use Rattle.judge.specs.declared.Checked.{Checked}
 use Rattle.judge.specs.declared.Checked.the-variants as checked
 use Rattle.judge.specs.declared.CheckStep.the-variants.{Over, Going}
 use Rattle.judge.specs.Check.{stepBy, stepAt, continueBy as checkOn, checkFrom, checkLog}
-use Rattle.judge.specs.Verdict.{timeOf, verdictOf}
+use Rattle.model.specs.Monitor.{timeOf}
+use Rattle.judge.specs.Verdict.{verdictOf}
 use Rattle.judge.specs.Verdict as judge
 use Rattle.judge.specs.Judge.{byCheck, judgeOf}
 use Rattle.judge.proofs.Laws.{Left, left-first, left-step, left-going}

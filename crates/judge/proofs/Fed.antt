@@ -32,36 +32,35 @@ use Rattle.log_reader.specs.Records.{onRecord, recordsFrom, recordsIn}
 use Rattle.log_reader.proofs.Records.{one-record}
 use Rattle.stepping.specs.declared.Step.{Step}
 use Rattle.stepping.specs.Monitors.{tallyAt, monitorAt, stepOf, recordOf}
-use Rattle.plan.specs.Plan.{recordCode}
-use Rattle.chart_value.specs.Records.{logRecord, logged}
+use Rattle.chart_value.specs.Records.{recordCode, logRecord, logged}
 use Rattle.stepping.proofs.Zeros.{zero-fresh}
-use Rattle.judge.specs.Verdict.{timeOf, standingOf, verdictWith, verdictOf}
+use Rattle.model.specs.Monitor.{timeOf}
+use Rattle.judge.specs.Verdict.{standingOf, verdictWith, verdictOf}
 use Rattle.judge.specs.Parts.{codeAt, standingBy, verdictBy}
 
 taken-record : {r e : Record} {p q : ℕ} → Handed r p ≡ Handed e q → r ≡ e
 taken-record x = cc
 
 same-record : (e : Record) (code t : ℕ) → code ≡ recordCode e → t ≡ timeOf e .0 → recordOf code t ≡ logRecord e
-same-record (Message m u) code t p q = λ i. record { time = q i; code = p i }
-same-record (Time u) code t p q = λ i. record { time = q i; code = p i }
+same-record e code t p q = λ i. record { time = q i; code = p i }
 
 -- the code in the bytes is that of the record
-pub code-of : (s : List ℕ) (at : ℕ) (e : Record) (offer : ℕ) → nextAt s at ≡ Handed e offer → codeAt s at ≡ recordCode e
-code-of s at e offer q =
+pub code-of : (s : List ℕ) (at : ℕ) (e : Record) (past : ℕ) → nextAt s at ≡ Handed e past → codeAt s at ≡ recordCode e
+code-of s at e past q =
     by (leb (length s) at) (eqb (getD s at 0) messageTag) (ltb (length s - at) messageSize) (eqb (getD s at 0) timeTag)
     (ltb (length s - at) timeSize) q
   where
     same : word16 s (at + 3) * 65536 + word16 s (at + 1) + 1 ≡ recordCode (messageAt s at)
     same = let z : at + 1 + 1 ≡ at + 2 = omega arith in rw z (omega arith)
 
-    code : {r : Record} {p : ℕ} → Handed r p ≡ Handed e offer → recordCode r ≡ recordCode e
+    code : {r : Record} {p : ℕ} → Handed r p ≡ Handed e past → recordCode r ≡ recordCode e
     code {r} x = ap recordCode (taken-record x)
 
     by : (a b c d f : Bool)
         → cond a End
         (cond b (cond c (Refused CutShort) (Handed (messageAt s at) (at + messageSize)))
         (cond d (cond f (Refused CutShort) (Handed (timeAt s at) (at + timeSize)))
-        (Refused UnknownByte))) ≡ Handed e offer
+        (Refused UnknownByte))) ≡ Handed e past
         → cond b (word16 s (at + 3) * 65536 + word16 s (at + 1) + 1) 0 ≡ recordCode e
     by true b c d f x = let z : _≡_ {A = ℕ} 0 1 = cc in absurd (omega arith)
     by false true true d f x = let z : _≡_ {A = ℕ} 0 1 = cc in absurd (omega arith)
@@ -84,14 +83,14 @@ still C (suc n) s at es b = by (nextAt s at) (λ p e c. still C n s p (es ▸ e)
     by : (x : Next) →
         ((p : ℕ) (e : Record) → after C (logged (es ▸ e)) .tally .broken .at ≢ 0
         → after C (logged (recordsFrom n s p (es ▸ e))) ≡ after C (logged (es ▸ e)))
-        → after C (logged (onRecord (λ e offer. recordsFrom n s offer (es ▸ e)) x es)) ≡ after C (logged es)
+        → after C (logged (onRecord (λ e past. recordsFrom n s past (es ▸ e)) x es)) ≡ after C (logged es)
     by End i = refl
     by (Refused f) i = refl
     by (Handed e p) i =
         let u = unmoved C (after C (logged es)) (logRecord e) b in
         i p e (λ z. b (sym (ap (λ (x : AbstractMonitor). x .tally .broken .at) u) ∙ z)) ∙ u
 
--- the records fed before a offer, and what is left gives the whole
+-- the records fed before an offset, and what is left gives the whole
 pub record SoFar (C : Abstract) (s : List ℕ) (m : Monitor) (at left : ℕ) : Type 0 where
   pub before : Snoc Record
   pub monitor : monitorAt m ≡ after C (logged before)
@@ -105,16 +104,16 @@ module _ {C : Abstract} {s : List ℕ} {m : Monitor} {at left : ℕ} (S : SoFar 
   pub fit-here : Accepted C → Fit C (monitorAt m)
   fit-here A = subst (λ (x : AbstractMonitor). Fit C x) (sym (S .monitor)) (after-fit C A (logged (S .before)))
 
-  pub fed-one : 0 < left → (e : Record) (offer : ℕ) → nextAt s at ≡ Handed e offer → (r : Step) (code t : ℕ)
+  pub fed-one : 0 < left → (e : Record) (past : ℕ) → nextAt s at ≡ Handed e past → (r : Step) (code t : ℕ)
       → code ≡ recordCode e → t ≡ timeOf e .0
-      → stepOf r ≡ feed C (monitorAt m) (recordOf code t) → SoFar C s (r .next) offer (left - 1)
+      → stepOf r ≡ feed C (monitorAt m) (recordOf code t) → SoFar C s (r .next) past (left - 1)
   unfolding after
-  fed-one h e offer q r code t p u f = record {
+  fed-one h e past q r code t p u f = record {
     before = S .before ▸ e;
     monitor =
         ap (λ (x : AbstractStep). x .next) f
         ∙ ap₂ (λ (x : AbstractMonitor) (y : LogRecord). feed C x y .next) (S .monitor) (same-record e code t p u);
-    rest = sym (one-record s at left h (S .before) (Handed e offer) q) ∙ S .rest;
+    rest = sym (one-record s at left h (S .before) (Handed e past) q) ∙ S .rest;
   }
 
   -- said of the chart that C shows

@@ -30,17 +30,16 @@ use Rattle.log_reader.proofs.Places.{at-end, taken-past}
 use Rattle.stepping.specs.declared.Step.{Step}
 use Rattle.stepping.specs.Monitors.{monitorAt, stepOf, recordOf}
 use Rattle.layout.specs.View.{Covers}
-use Rattle.plan.specs.Plan.{recordCode}
 use Rattle.plan.specs.Slots.{slotOf, Slotted}
 use Rattle.chart_value.specs.Records.{logged}
 use Rattle.judge.specs.declared.LogRefusal.the-variants.{TimeFalls, TooManyRecords}
 use Rattle.judge.specs.declared.Checked.the-variants.{Refused}
 use Rattle.judge.specs.declared.CheckStep.the-variants.{Over}
 use Rattle.judge.specs.Check.{checkLog, stepAt, stepBy, takeRecord}
-use Rattle.judge.specs.Verdict.{timeOf}
-use Rattle.judge.specs.Parts.{isFine}
+use Rattle.model.specs.Monitor.{timeOf}
+use Rattle.judge.specs.Parts.{isFine, codeAt}
 use Rattle.judge.proofs.Laws.{Left, left-first, left-step, left-going}
-use Rattle.judge.proofs.Fed.{SoFar, at-start, fed-one, fed-none, fed-end}
+use Rattle.judge.proofs.Fed.{SoFar, at-start, code-of, fed-one, fed-none, fed-end}
 
 -- every region that has a message is in its code's slot
 pub slot-covers : {count : ℕ} {keys slots : List ℕ} → Slotted count keys slots → count ≤ mostRegions → (code : ℕ)
@@ -51,26 +50,26 @@ slot-covers {slots = slots} S n code = record {
 }
 
 -- a record that the check lets pass
-record Passed (s : List ℕ) (last : Moment) (n : ℕ) (e : Record) (offer : ℕ) : Type 0 where
+record Passed (s : List ℕ) (last : Moment) (n : ℕ) (e : Record) (past : ℕ) : Type 0 where
   later : ltb (timeOf e .0) (last .0) ≡ false
   few : leb mostRecords n ≡ false
-  rest : Left s offer (timeOf e) (n + 1)
+  rest : Left s past (timeOf e) (n + 1)
 
 passed : (s : List ℕ) (at : ℕ) (last : Moment) (n : ℕ) → Left s at last n → So (isFine (checkLog s))
-    → (e : Record) (offer : ℕ) → nextAt s at ≡ Handed e offer
-    → Passed s last n e offer
+    → (e : Record) (past : ℕ) → nextAt s at ≡ Handed e past
+    → Passed s last n e past
 unfolding stepAt
-passed s at last n l f e offer q = by (ltb (timeOf e .0) (last .0)) (leb mostRecords n) refl refl
+passed s at last n l f e past q = by (ltb (timeOf e .0) (last .0)) (leb mostRecords n) refl refl
   where
-    step : stepAt s at last n ≡ takeRecord (timeOf e) offer at last n
+    step : stepAt s at last n ≡ takeRecord (timeOf e) past at last n
     step = ap (stepBy at last n) q
 
-    by : (a b : Bool) → ltb (timeOf e .0) (last .0) ≡ a → leb mostRecords n ≡ b → Passed s last n e offer
+    by : (a b : Bool) → ltb (timeOf e .0) (last .0) ≡ a → leb mostRecords n ≡ b → Passed s last n e past
     by true b x y = clash f (sym (ap isFine (left-step s at last n l (Over (Refused TimeFalls at)) (step ∙ rw x))))
     by false true x y =
         clash f (sym (ap isFine (left-step s at last n l (Over (Refused TooManyRecords at)) (step ∙ rw (x, y)))))
     by false false x y =
-        record { later = x; few = y; rest = left-going s at last n l offer (timeOf e) (n + 1) (step ∙ rw (x, y)) }
+        record { later = x; few = y; rest = left-going s at last n l past (timeOf e) (n + 1) (step ∙ rw (x, y)) }
 
 module _ (C : Abstract) (m : AbstractMonitor) (e : LogRecord) where
   -- the record is counted, and now is its time
@@ -106,7 +105,7 @@ module _ (C : Abstract) (m : AbstractMonitor) (e : LogRecord) where
   unfolding feed
   accept-fed b t n = rw (eq-eqb (m .tally .broken .at) 0 b, t, n)
 
--- the records taken before a offer, the check as far, and no break
+-- the records taken before an offset, the check as far, and no break
 pub record Going (C : Abstract) (s : List ℕ) (m : Monitor) (at : ℕ) : Type 0 where
   pub left : ℕ
   pub room : length s ≤ at + left
@@ -143,19 +142,22 @@ module _ {C : Abstract} {s : List ℕ} {m : Monitor} {at : ℕ} (G : Going C s m
     pub taken-few : m .tally .records < mostRecords
     taken-few = leb-false _ _ (here .few)
 
-    module _ (r : Step) (code t : ℕ) (p : code ≡ recordCode e) (u : t ≡ timeOf e .0)
-        (a : stepOf r ≡ accept C (monitorAt m) (recordOf code t)) where
+    module _ (r : Step) (code : ℕ) (t : Moment) (p : code ≡ codeAt s at) (u : t ≡ timeOf e)
+        (a : stepOf r ≡ accept C (monitorAt m) (recordOf code (t .0))) where
+      moment : t .0 ≡ timeOf e .0
+      moment = ap (λ (x : Moment). x .0) u
+
       pub taken-one : SoFar C s (r .next) to (G .left - 1)
       taken-one =
           let l : at < length s = omega (arith, taken-past s at e to q) in
-          let b = accept-fed C (monitorAt m) (recordOf code t) (G .whole) (rw u (here .later)) (here .few) in
-          fed-one (G .taken) (some-left l) e to q r code t p u (a ∙ b)
+          let b = accept-fed C (monitorAt m) (recordOf code (t .0)) (G .whole) (rw moment (here .later)) (here .few) in
+          fed-one (G .taken) (some-left l) e to q r code (t .0) (p ∙ code-of s at e to q) moment (a ∙ b)
 
       pub going-on : r .next .tally .broken .at ≡ 0 → Going C s (r .next) to
       going-on z =
-          let A = accept-counted C (monitorAt m) (recordOf code t) in
+          let A = accept-counted C (monitorAt m) (recordOf code (t .0)) in
           let x : r .next .tally .now .0 ≡ timeOf e .0 = ap (λ (w : AbstractStep). w .next .tally .now) a ∙ A .now
-          ∙ u in
+          ∙ moment in
           let y : r .next .tally .records ≡ m .tally .records + 1 = ap (λ (w : AbstractStep). w .next .tally .records) a
           ∙ A .records ∙ omega arith in
           let v : r .next .tally .now ≡ timeOf e = λ i. record { 0 = x i } in

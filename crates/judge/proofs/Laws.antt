@@ -17,7 +17,7 @@ use Rattle.judge.specs.declared.Checked.the-variants.{Fine, Refused}
 use Rattle.judge.specs.declared.CheckStep.{CheckStep}
 use Rattle.judge.specs.declared.CheckStep.the-variants.{Over, Going}
 use Rattle.judge.specs.Check.{checkFrom, checkLog, continueBy, stepAt, stepBy}
-use Rattle.judge.specs.Verdict.{timeOf}
+use Rattle.model.specs.Monitor.{timeOf}
 use Rattle.log_reader.proofs.Places.{at-end, taken-past}
 
 module _ (s : List ℕ) (at : ℕ) (last : Moment) (n : ℕ) where
@@ -60,7 +60,7 @@ more-fuel (suc f) (suc g) s at last n h k =
     by (Going p t j) e i =
         i p t j (omega (arith, going-past s at last n p t j e)) (omega (arith, going-past s at last n p t j e))
 
--- what is left of the check at a offer, whatever count is large enough
+-- what is left of the check at an offset, whatever count is large enough
 pub Left : List ℕ → ℕ → Moment → ℕ → Type 0
 Left s at last n = checkFrom (length s + 1) s at last n ≡ checkLog s
 

@@ -14,27 +14,27 @@ use Rattle.judge.specs.declared.Checked.{Checked}
 use Rattle.judge.specs.declared.Checked.the-variants.{Fine, Refused}
 use Rattle.judge.specs.declared.CheckStep.{CheckStep}
 use Rattle.judge.specs.declared.CheckStep.the-variants.{Over, Going}
-use Rattle.judge.specs.Verdict.{timeOf}
+use Rattle.model.specs.Monitor.{timeOf}
 
 -- a record that was read at `at`, after n records, the last of them with the time `last`
 abbrev pub takeRecord : Moment → ℕ → ℕ → Moment → ℕ → CheckStep
-takeRecord time offer at last n =
+takeRecord time past at last n =
     cond (ltb (time .0) (last .0)) (Over (Refused TimeFalls at))
-    (cond (leb mostRecords n) (Over (Refused TooManyRecords at)) (Going offer time (n + 1)))
+    (cond (leb mostRecords n) (Over (Refused TooManyRecords at)) (Going past time (n + 1)))
 
 abbrev pub stepBy : ℕ → Moment → ℕ → Next → CheckStep
 stepBy at last n next.End = Over (Fine n)
 stepBy at last n (next.Refused k) = Over (Refused (NoRecord k) at)
-stepBy at last n (next.Handed r offer) = takeRecord (timeOf r) offer at last n
+stepBy at last n (next.Handed r past) = takeRecord (timeOf r) past at last n
 
 unfoldable pub stepAt : List ℕ → ℕ → Moment → ℕ → CheckStep
 stepAt s at last n = stepBy at last n (nextAt s at)
 
 abbrev pub continueBy : (ℕ → Moment → ℕ → Checked) → CheckStep → Checked
 continueBy k (Over c) = c
-continueBy k (Going offer time n) = k offer time n
+continueBy k (Going past time n) = k past time n
 
--- at most f records from a offer on, the time before and the count given
+-- at most f records from an offset on, the time before and the count given
 unfoldable pub checkFrom : ℕ → List ℕ → ℕ → Moment → ℕ → Checked
 checkFrom zero s at last n = Fine n
 checkFrom (suc f) s at last n = continueBy (checkFrom f s) (stepAt s at last n)

@@ -2,9 +2,6 @@
 use mathlib.Core.Bool.{cond, not}
 use Prim.Native.Nat.{ℕ}
 use lib.Dec.{eqb}
-use Rattle.model.specs.declared.Moment.{Moment}
-use Rattle.model.specs.declared.Record.{Record}
-use Rattle.model.specs.declared.Record.the-variants.{Message, Time}
 use Rattle.model.specs.declared.Verdict.{Verdict}
 use Rattle.model.specs.Answers.{notAChart, timeFalls, tooManyRecords}
 use Rattle.base.specs.Lists.{allBelow}
@@ -23,10 +20,6 @@ abbrev pub logRefusalNumber : LogRefusal → ℕ
 logRefusalNumber (NoRecord k) = recordRefusalNumber k
 logRefusalNumber TimeFalls = timeFalls
 logRefusalNumber TooManyRecords = tooManyRecords
-
-abbrev pub timeOf : Record → Moment
-timeOf (Message m t) = t
-timeOf (Time t) = t
 
 -- J8: the standing
 abbrev pub broken : ℕ

@@ -24,7 +24,7 @@ ghost use Rattle.stepping.specs.Monitors.{monitorAt};
 ghost use Rattle.chart_value.specs.Records.{logged};
 ghost use Rattle.log_reader.specs.Records.{recordsIn};
 ghost use Rattle.judge.specs.Check.{takeRecord, stepAt, checkLog};
-ghost use Rattle.judge.specs.Verdict.{logRefusalNumber, timeOf, said};
+ghost use Rattle.judge.specs.Verdict.{logRefusalNumber, said};
 ghost use Rattle.judge.specs.Judge.{judgeOf};
 ghost use Rattle.judge.specs.Parts.{codeAt, isFine, standingBy, verdictBy};
 
@@ -57,15 +57,6 @@ pub enum CheckStep {
     Going(usize, Moment, u32),
 }
 
-pub fn time_of(e: Record) -> Moment
-    ensures { λ r. ⌜ r ≡ timeOf e ⌝ }
-{
-    match e {
-        Record::Message(_, t) => t,
-        Record::Time(t) => t,
-    }
-}
-
 // A record that was read: J3's 22 and 23.
 fn take_record(time: Moment, past: usize, at: usize, last: Moment, records: u32) -> CheckStep
     ensures { λ r. ⌜ r ≡ takeRecord time past at last records ⌝ }
@@ -86,7 +77,7 @@ fn step_at(log: &[u8], at: usize, last: Moment, records: u32) -> CheckStep
     match next {
         Next::End => CheckStep::Over(Checked::Fine(records)),
         Next::Refused(k) => CheckStep::Over(Checked::Refused(LogRefusal::NoRecord(k), at)),
-        Next::Handed(e, past) => take_record(time_of(e), past, at, last, records),
+        Next::Handed(e, past) => take_record(model::time_of(e), past, at, last, records),
     }
 }
 
@@ -181,7 +172,7 @@ fn feed_log(c: Chart, log: &[u8]) -> Monitor
                     &p.terms,
                     m,
                     code,
-                    time_of(e),
+                    model::time_of(e),
                 );
                 m = s.next;
                 if m.tally.broken.at != 0 {

@@ -6,7 +6,7 @@ ghost use lib.ListN.{length, drop};
 ghost use Rattle.bitset.specs.Set.{contains};
 ghost use Rattle.model.specs.Chart.{zeroTerm, zeroRegion, zeroChart, isPlain, isBare, lineSet, touched, touches};
 ghost use Rattle.model.specs.Chart.{mostLines};
-ghost use Rattle.model.specs.Monitor.{zeroMonitor};
+ghost use Rattle.model.specs.Monitor.{zeroMonitor, timeOf};
 ghost use Rattle.model.specs.Answers.{feedRefusalNumber, answerNumber, zeroVerdict};
 ghost use Rattle.model.specs.Numbers.{places, verdictNumbers};
 
@@ -168,6 +168,15 @@ pub fn touched(e: Event) -> u16
 pub enum Record {
     Message(Message, Moment),
     Time(Moment),
+}
+
+pub fn time_of(e: Record) -> Moment
+    ensures { λ r. ⌜ r ≡ timeOf e ⌝ }
+{
+    match e {
+        Record::Message(_, t) => t,
+        Record::Time(t) => t,
+    }
 }
 
 // Where a round stands: the fired regions as a set, and each clock's reset moment.

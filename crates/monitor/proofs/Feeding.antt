@@ -10,8 +10,9 @@ use Rattle.bitset.proofs.Laws.{contains-below}
 use Rattle.model.specs.declared.Chart.{Chart}
 use Rattle.model.specs.declared.Monitor.{Monitor}
 use Rattle.model.specs.declared.Record.{Record}
-use Rattle.model.specs.declared.Record.the-variants.{Message, Time}
+use Rattle.model.specs.declared.Moment.{Moment}
 use Rattle.model.specs.Chart.{mostRegions}
+use Rattle.model.specs.Monitor.{timeOf}
 use Rattle.model.specs.declared.FeedRefusal.the-variants.{NotAChart, Unfit}
 use Rattle.chart_value.specs.WellFormed.{wellFormed}
 use Rattle.chart_value.specs.View.{chartOf}
@@ -19,14 +20,9 @@ use Rattle.rounds.specs.Chart.{Chart as Abstract}
 use Rattle.rounds.specs.Machine as machine
 use Rattle.stepping.specs.Monitors.{monitorAt, recordOf}
 use Rattle.layout.specs.View.{Covers}
-use Rattle.plan.specs.Plan.{recordCode}
 use Rattle.monitor.specs.Fit.{fits}
 use Rattle.monitor.specs.Feed.{refuse, feedOf}
-use Rattle.chart_value.specs.Records.{logRecord}
-
-code-logged : (e : Record) → recordCode e ≡ logRecord e .code
-code-logged (Message m t) = λ i. logRecord (Message m t) .code
-code-logged (Time t) = λ i. 0
+use Rattle.chart_value.specs.Records.{recordCode}
 
 -- the set of all numbers below the count has every region
 pub all-covered : {count : ℕ} {keys : List ℕ} (code s : ℕ) → count ≤ mostRegions → s ≡ 2 ^ count - 1
@@ -49,9 +45,9 @@ module _ (c : Chart) (m : Monitor) (e : Record) (s : machine.Step) where
     unfolding feedOf
     fed-unfit f q = rw (w, rw (ap (λ (C : Abstract). fits C m) same) at f) q
 
-    pub fed-on : fits C m ≡ true → (code t : ℕ) → code ≡ recordCode e → t ≡ logRecord e .time
-        → s ≡ machine.feed C (monitorAt m) (recordOf code t) → s ≡ feedOf c m e
+    pub fed-on : fits C m ≡ true → (code : ℕ) (t : Moment) → code ≡ recordCode e → t ≡ timeOf e
+        → s ≡ machine.feed C (monitorAt m) (recordOf code (t .0)) → s ≡ feedOf c m e
     unfolding feedOf
     fed-on f code t p h q =
         rw (w, rw (ap (λ (C : Abstract). fits C m) same) at f)
-        (q ∙ (λ i. machine.feed (same i) (monitorAt m) (record { time = h i; code = (p ∙ code-logged e) i })))
+        (q ∙ (λ i. machine.feed (same i) (monitorAt m) (record { time = h i .0; code = p i })))

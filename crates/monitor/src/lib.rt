@@ -34,7 +34,6 @@ ghost use Rattle.stepping.specs.Answers.{HandsBack};
 ghost use Rattle.monitor.specs.Fit.{isNone, momentsFit, breakFits, countsFit, placeFits, fits};
 ghost use Rattle.monitor.specs.Feed.{MadeOf, refuse, feedOf};
 ghost use Rattle.monitor.specs.Stored.{Stored};
-ghost use Rattle.chart_value.specs.Records.{logRecord};
 
 pub enum MadeAnswer {
     Fresh,
@@ -169,15 +168,6 @@ fn refused(k: FeedRefusal, m: Monitor) -> Step
     }
 }
 
-fn time_of(e: Record) -> Moment
-    ensures { λ r. ⌜ r .0 ≡ logRecord e .time ⌝ }
-{
-    match e {
-        Record::Message(_, t) => t,
-        Record::Time(t) => t,
-    }
-}
-
 // One record: refused, or taken, with the monitor afterwards, as its type stores it.
 pub fn feed(chart: Chart, monitor: Monitor, e: Record) -> Step
     ensures { λ r. ⌜ (stepOf r ≡ feedOf chart monitor e) × HandsBack monitor r × Stored (r .next) ⌝ }
@@ -191,7 +181,7 @@ pub fn feed(chart: Chart, monitor: Monitor, e: Record) -> Step
         return refused(FeedRefusal::Unfit, monitor);
     }
     let code = plan::record_code(e);
-    let time = time_of(e);
+    let time = model::time_of(e);
     stepping::feed_fit(
         h,
         &p.keys,

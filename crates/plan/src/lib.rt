@@ -26,7 +26,8 @@ ghost use Rattle.chart_value.specs.View.{codeOf, keyOf};
 ghost use Rattle.plan.specs.Words.{sidesOf, biased, raisedBy, loweredBy, boundBy, firstClock, secondClock};
 ghost use Rattle.plan.specs.Words.{wordOf, wordAt};
 ghost use Rattle.plan.specs.Slots.{slotCount, slotOf, Slotted};
-ghost use Rattle.plan.specs.Plan.{recordCode, Compiles};
+ghost use Rattle.plan.specs.Plan.{Compiles};
+ghost use Rattle.chart_value.specs.Records.{recordCode};
 
 // A message's code: one more than label, source and destination at their places.
 pub const LABEL_PLACE: u64 = 0x1_0000;

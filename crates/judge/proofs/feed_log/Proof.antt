@@ -7,7 +7,7 @@ use lib.ListN.{length}
 use Rattle.model.specs.declared.Moment.{Moment}
 use Rattle.layout.specs.View.{planChart}
 use Rattle.log_reader.proofs.Places.{taken-past}
-use Rattle.judge.proofs.Fed.{code-of, fit-here, fed-none, fed-bad, fed-broken}
+use Rattle.judge.proofs.Fed.{fit-here, fed-none, fed-bad, fed-broken}
 use Rattle.judge.proofs.Going.{slot-covers, Going, going-start, some-left, going-end, taken-later, taken-few}
 use Rattle.judge.proofs.Going.{taken-one, going-on}
 use Rattle.judge.proofs.feed_log.Statement.{statement}
@@ -101,13 +101,10 @@ returns-3 c =
     let e = sym
     (c .before .before .before .before .before .before .before .before .before .before .before .before .before .before .before .read-record .ensures .0) ∙ c .before .before .before .before .before .before .before .before .before .before .before .before .before .next .given .1 in
     let f = c .before .before .before .before .before .before .before .before .before .before .before .before .before .before .before .before .before .before .before .before .before .before .before .before .before .pre .1 in
-    let k = c .before .before .before .before .before .before .before .before .before .before .before .code-at .ensures
-    ∙ code-of
-    (c .before .before .before .before .before .before .before .before .before .before .before .before .before .before .before .before .before .before .before .before .before .before .before .before .before .args .log .now) (L .at) _ _ e in
-    let u = ap (λ (x : Moment). x .0) (c .before .before .before .before .time-of .ensures) in
     fed-broken
-    (taken-one (L .inv) f _ _ e (c .before .before .before .accept .result) _ _ k u
-    (c .before .before .before .accept .ensures)) _
+    (taken-one (L .inv) f _ _ e (c .before .before .before .accept .result) _ _
+    (c .before .before .before .before .before .before .before .before .before .before .before .code-at .ensures)
+    (c .before .before .before .before .time-of .ensures) (c .before .before .before .accept .ensures)) _
     (c .before .before .before .before .before .before .before .before .before .before .before .before .before .before .before .before .before .before .before .before .before .before .before .compile .ensures .shows) (c .if1 .taken)
 
 loop-less : tie.Need-loop-less Inv-loop μ-loop
@@ -126,12 +123,9 @@ loop-again c =
     let e = sym
     (c .before .before .before .before .before .before .before .before .before .before .before .before .before .before .before .read-record .ensures .0) ∙ c .before .before .before .before .before .before .before .before .before .before .before .before .before .next .given .1 in
     let f = c .before .before .before .before .before .before .before .before .before .before .before .before .before .before .before .before .before .before .before .before .before .before .before .before .before .pre .1 in
-    let k = c .before .before .before .before .before .before .before .before .before .before .before .code-at .ensures
-    ∙ code-of
-    (c .before .before .before .before .before .before .before .before .before .before .before .before .before .before .before .before .before .before .before .before .before .before .before .before .before .args .log .now) (L .at) _ _ e in
-    let u = ap (λ (x : Moment). x .0) (c .before .before .before .before .time-of .ensures) in
-    going-on (L .inv) f _ _ e (c .before .before .before .accept .result) _ _ k u
-    (c .before .before .before .accept .ensures) (c .if1 .left)
+    going-on (L .inv) f _ _ e (c .before .before .before .accept .result) _ _
+    (c .before .before .before .before .before .before .before .before .before .before .before .code-at .ensures)
+    (c .before .before .before .before .time-of .ensures) (c .before .before .before .accept .ensures) (c .if1 .left)
 
 returns-4 : tie.Need-returns-4 Inv-loop μ-loop
 returns-4 c =
