@@ -10,10 +10,16 @@ use Rattle.log_reader.specs.declared.RecordRefusal.the-variants.{CutShor
 use Rattle.log_reader.specs.declared.Next.{Next}
 use Rattle.log_reader.specs.declared.Next.the-variants.{End, Refused, Handed}
 
--- N9: the refusals of a record
+-- N9: a record cut short, an unknown record byte
+abbrev pub cutShort : ℕ
+cutShort = 30
+
+abbrev pub unknownByte : ℕ
+unknownByte = 31
+
 abbrev pub recordRefusalNumber : RecordRefusal → ℕ
-recordRefusalNumber CutShort = 30
-recordRefusalNumber UnknownByte = 31
+recordRefusalNumber CutShort = cutShort
+recordRefusalNumber UnknownByte = unknownByte
 
 abbrev pub messageTag : ℕ
 messageTag = 0x01

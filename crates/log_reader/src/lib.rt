@@ -30,12 +30,16 @@ const MESSAGE_SIZE: usize = 9;
 
 const TIME_SIZE: usize = 5;
 
+const CUT_SHORT: u8 = 30;
+
+const UNKNOWN_BYTE: u8 = 31;
+
 pub fn number(k: RecordRefusal) -> u8
     ensures { λ r. ⌜ r ≡ recordRefusalNumber k ⌝ }
 {
     match k {
-        RecordRefusal::CutShort => 30,
-        RecordRefusal::UnknownByte => 31,
+        RecordRefusal::CutShort => CUT_SHORT,
+        RecordRefusal::UnknownByte => UNKNOWN_BYTE,
     }
 }
 

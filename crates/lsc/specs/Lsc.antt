@@ -6,6 +6,7 @@ use lib.Dec.{eqb, leb, ltb}
 use lib.ListN.{length, drop}
 use Rattle.model.specs.Answers.{tooShort, timeFalls, tooManyRecords}
 use Rattle.model.specs.Numbers.{places, verdictNumbers}
+use Rattle.log_reader.specs.Record.{cutShort, unknownByte}
 use Rattle.listing.specs.declared.Part.{Part}
 use Rattle.listing.specs.declared.Part.the-variants.{Input, Chart, Log}
 use Rattle.listing.specs.declared.Report.{Report}
@@ -38,7 +39,7 @@ judgedOut report out = cond (ltb (length out) places) out (reportNumbers report 
 
 -- the numbers that judging returns: 0, a chart's refusal from 1 to 11, 12, or a log's, 22, 23, 30 or 31
 abbrev pub isJudgedNumber : ℕ → Bool
-isJudgedNumber n = leb n tooShort || (eqb n timeFalls || (eqb n tooManyRecords || (eqb n 30 || eqb n 31)))
+isJudgedNumber n = leb n tooShort || (eqb n timeFalls || (eqb n tooManyRecords || (eqb n cutShort || eqb n unknownByte)))
 
 -- 0 printed, 12 where out may be too short
 abbrev pub printedNumber : Response → ℕ

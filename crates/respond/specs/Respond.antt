@@ -34,12 +34,19 @@ mostInput = 65536
 abbrev pub lengthSize : ℕ
 lengthSize = 2
 
--- P2 to P4: 40, then 41, then what the chart and the log are refused for
+-- P3, P4: the input is too long, or it is not a length with that many bytes after it
+abbrev pub tooLong : ℕ
+tooLong = 40
+
+abbrev pub noFrame : ℕ
+noFrame = 41
+
+-- P2: these two, then what the chart and the log are refused for
 unfoldable pub reportOf : List ℕ → Report
 reportOf s =
-    cond (ltb mostInput (length s)) (Refused Input 40 0)
-    (cond (ltb (length s) lengthSize) (Refused Input 41 0)
-    (cond (ltb (length s - lengthSize) (word16 s 0)) (Refused Input 41 0)
+    cond (ltb mostInput (length s)) (Refused Input tooLong 0)
+    (cond (ltb (length s) lengthSize) (Refused Input noFrame 0)
+    (cond (ltb (length s - lengthSize) (word16 s 0)) (Refused Input noFrame 0)
     (partsReport (take (word16 s 0) (drop lengthSize s)) (drop (lengthSize + word16 s 0) s))))
 
 -- what is printed for an input
