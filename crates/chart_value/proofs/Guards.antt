@@ -79,7 +79,7 @@ passes (suc n) {s} {at} {r} c q e = by (advanceOf s at r .outcome) refl e (λ m 
     by : (o : Outcome) → advanceOf s at r .outcome ≡ o → continueBy (readFrom n s) o x ≡ acceptedAs c
         → ((m : ℕ) → Reached s m x → readFrom n s m x ≡ acceptedAs c → EndsAs s c) → EndsAs s c
     by (Going m) g e k = k m (next m q g) e
-    by Ended g e k = record { place = at; reading = r; reached = q; last = g; chart = ap (λ (x : Said). x .chart) e }
+    by Ended g e k = record { offset = at; reading = r; reached = q; last = g; chart = ap (λ (x : Said). x .chart) e }
     by (Refused refusal offset) g e k = never refusal offset c e
 
 -- some commands lead from the start to a reached state, whatever count is left for the rest
@@ -105,7 +105,7 @@ accepted : (s : List ℕ) (c : Chart) → EndsAs s c → readChart s ≡ accepte
 unfolding readFrom
 accepted s c x =
     let l = led (x .reached) in
-    let q = advanceOf s (x .place) (x .reading) .reading in
+    let q = advanceOf s (x .offset) (x .reading) .reading in
     any-count s (readChart s) refl (suc (length s) + l .taken) (omega arith)
     ∙ l .same (suc (length s) + l .taken) (suc (length s)) refl
     ∙ ap (λ (o : Outcome). continueBy (readFrom (length s) s) o q) (x .last)

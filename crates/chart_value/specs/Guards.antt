@@ -15,7 +15,7 @@ use Rattle.chart_step.specs.Reading.{faultOf}
 use Rattle.chart_reader.specs.Read.{advanceOf, startReading, readChart}
 use Rattle.chart_reader.specs.Said.{acceptedAs}
 
--- the states that reading the bytes passes through, each with its place
+-- the states that reading the bytes passes through, each with its offset
 pub data Reached (s : List ℕ) : ℕ → Reading → Type 0 where
   start : Reached s 0 startReading
   next : {at : ℕ} {r : Reading} (m : ℕ) → Reached s at r → advanceOf s at r .outcome ≡ Going m
@@ -23,11 +23,11 @@ pub data Reached (s : List ℕ) : ℕ → Reading → Type 0 where
 
 -- such a state whose command ends the chart, which is then c
 pub record EndsAs (s : List ℕ) (c : Chart) : Type 0 where
-  pub place : ℕ
+  pub offset : ℕ
   pub reading : Reading
-  pub reached : Reached s place reading
-  pub last : advanceOf s place reading .outcome ≡ Ended
-  pub chart : advanceOf s place reading .reading .chart ≡ c
+  pub reached : Reached s offset reading
+  pub last : advanceOf s offset reading .outcome ≡ Ended
+  pub chart : advanceOf s offset reading .reading .chart ≡ c
 
 pub record NeverFire : Type 0 where
   -- reading passes through these states, to the end: bytes give a chart exactly if one of them ends it
