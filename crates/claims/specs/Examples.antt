@@ -2,6 +2,7 @@
 use mathlib.Core.Path.{_≡_}
 use mathlib.Core.List.{List, [], _∷_}
 use Prim.Native.Nat.{ℕ}
+use Rattle.model.specs.Answers.{verdictFrom}
 use Rattle.listing.specs.declared.Part.the-variants.{Chart, Log}
 use Rattle.listing.specs.declared.Report.{Report}
 use Rattle.listing.specs.declared.Report.the-variants.{Judged, Refused}
@@ -38,18 +39,7 @@ references time rest = message 2 3 3 time rest
 -- a log of chart U, with the numbers that are printed
 abbrev pub judgedU : List ℕ → ℕ → ℕ → ℕ → ℕ → ℕ → ℕ → Example
 judgedU log standing kept dropped records break reason =
-    record {
-      chart = chartU;
-      log = log;
-      report = Judged (record {
-        standing = standing;
-        kept = kept;
-        dropped = dropped;
-        records = records;
-        broken = break;
-        reason = reason;
-      });
-    }
+    record { chart = chartU; log = log; report = Judged (verdictFrom standing kept dropped records break reason) }
 
 -- a chart that is refused, with an empty log
 abbrev pub refusedChart : List ℕ → ℕ → ℕ → Example

@@ -3,7 +3,7 @@ use mathlib.Core.Bool.{cond, not}
 use Prim.Native.Nat.{ℕ}
 use lib.Dec.{eqb}
 use Rattle.model.specs.declared.Verdict.{Verdict}
-use Rattle.model.specs.Answers.{notAChart, timeFalls, tooManyRecords}
+use Rattle.model.specs.Answers.{notAChart, timeFalls, tooManyRecords, verdictFrom}
 use Rattle.base.specs.Lists.{allBelow}
 use Rattle.rounds.specs.Chart.{Chart as Abstract}
 use Rattle.rounds.specs.Tally.{Tally}
@@ -43,14 +43,7 @@ standingOf C m =
 -- J6: the verdict, by the standing and the counts
 abbrev pub verdictWith : ℕ → Tally → Verdict
 verdictWith standing t =
-    record {
-      standing = standing;
-      kept = t .kept;
-      dropped = t .dropped;
-      records = t .records;
-      broken = t .broken .at;
-      reason = t .broken .reason;
-    }
+    verdictFrom standing (t .kept) (t .dropped) (t .records) (t .broken .at) (t .broken .reason)
 
 abbrev pub verdictOf : Abstract → AbstractMonitor → Verdict
 verdictOf C m = verdictWith (standingOf C m) (m .tally)

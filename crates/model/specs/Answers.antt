@@ -42,6 +42,17 @@ answerNumber Entered = 4
 answerNumber Moved = 5
 answerNumber Quiet = 6
 
+-- J6: the verdict with these numbers
+abbrev pub verdictFrom : ℕ → ℕ → ℕ → ℕ → ℕ → ℕ → Verdict
+verdictFrom standing kept dropped records broken reason = record {
+  standing = standing;
+  kept = kept;
+  dropped = dropped;
+  records = records;
+  broken = broken;
+  reason = reason;
+}
+
 -- J5: the verdict of a refused log
 abbrev pub zeroVerdict : Verdict
-zeroVerdict = record { standing = 0; kept = 0; dropped = 0; records = 0; broken = 0; reason = 0 }
+zeroVerdict = verdictFrom 0 0 0 0 0 0

@@ -37,7 +37,8 @@ use Rattle.claims.specs.Demand1.{FeedsAs, FindsAs, Walk, refusedLog, JudgesAs}
 use Rattle.claims.proofs.Demand1.{reads-just}
 use Rattle.witnesses.specs.Feeds.{passes as passed, undo, headings, references, stored}
 use Rattle.witness_rounds.specs.Charts.{written}
-use Rattle.witness_rounds.specs.Rounds.{U, verdictAs}
+use Rattle.model.specs.Answers.{verdictFrom}
+use Rattle.witness_rounds.specs.Rounds.{U}
 use Rattle.witness_rounds.specs.Cases.{valueU, ticks, Cases}
 use Rattle.witness_rounds.proofs.Computing.{computing}
 use Rattle.witness_rounds.proofs.Logs.{read-u, accepted-u}
@@ -183,7 +184,7 @@ overflow k q =
     (omega arith)
 
 judges : JudgesAs valueU (written (ε ▸ undo 100 ▸ references 120 ▸ headings 140) [])
-    (record { number = 0; offset = 0; verdict = verdictAs 0 1 0 3 0 0 })
+    (record { number = 0; offset = 0; verdict = verdictFrom 0 1 0 3 0 0 })
 unfolding computing
 judges =
     cases.judges given-u

@@ -14,7 +14,8 @@ use Rattle.claims.specs.Examples.{chartU}
 use Rattle.claims.specs.Demand1.{ReadsAs, MakesAs, FeedsAs, FindsAs, Walk, refusedLog, JudgesAs}
 use Rattle.witnesses.specs.Feeds.{passes as passed, undo, headings, references, stored}
 use Rattle.witness_rounds.specs.Charts.{written}
-use Rattle.witness_rounds.specs.Rounds.{valueOf, verdictAs}
+use Rattle.model.specs.Answers.{verdictFrom}
+use Rattle.witness_rounds.specs.Rounds.{valueOf}
 
 -- chart U as a value
 abbrev pub valueU : Chart
@@ -55,4 +56,4 @@ pub record Cases : Type 0 where
   pub falls : JudgesAs valueU (written (ε ▸ undo 100 ▸ headings 99) []) (refusedLog 22 9)
   pub overflows : JudgesAs valueU (ticks 1000001) (refusedLog 23 5000000)
   pub judges : JudgesAs valueU (written (ε ▸ undo 100 ▸ references 120 ▸ headings 140) [])
-      (record { number = 0; offset = 0; verdict = verdictAs 0 1 0 3 0 0 })
+      (record { number = 0; offset = 0; verdict = verdictFrom 0 1 0 3 0 0 })

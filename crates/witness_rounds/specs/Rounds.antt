@@ -7,6 +7,7 @@ use lib.ListN.{getD}
 use Rattle.model.specs.declared.Chart.{Chart}
 use Rattle.model.specs.declared.Record.{Record}
 use Rattle.model.specs.declared.Verdict.{Verdict}
+use Rattle.model.specs.Answers.{verdictFrom}
 use Rattle.chart_reader.specs.Read.{readChart}
 use Rattle.chart_reader.specs.Said.{acceptedAs}
 use Rattle.chart_value.specs.View.{chartOf}
@@ -52,10 +53,6 @@ statusAs config now n k d break reason =
       config = config;
       tally = record { now = now; records = n; kept = k; dropped = d; broken = record { at = break; reason = reason } };
     }
-
-abbrev pub verdictAs : ℕ → ℕ → ℕ → ℕ → ℕ → ℕ → Verdict
-verdictAs standing k d n break reason =
-    record { standing = standing; kept = k; dropped = d; records = n; broken = break; reason = reason }
 
 -- After the records s, record e is taken by the case of this number, with this status after it and this answer. The
 -- cases: 0 passes, 1 moves, 2 enters, 3 keeps, 4 fails cold, 5 fails hot, 6 unmatched in the prechart, 7 in the main
@@ -110,7 +107,7 @@ roundU = record {
   case = 3;
   ans = keptNow;
   status = statusAs initial 140 3 1 0 0 0;
-  verdict = verdictAs 0 1 0 3 0 0;
+  verdict = verdictFrom 0 1 0 3 0 0;
 }
 
 -- chart A, all in time
@@ -126,7 +123,7 @@ keptA = record {
   case = 3;
   ans = keptNow;
   status = statusAs initial 40 3 1 0 0 0;
-  verdict = verdictAs 0 1 0 3 0 0;
+  verdict = verdictFrom 0 1 0 3 0 0;
 }
 
 -- passed on a tick late: region 2, plain and cold, fails
@@ -142,7 +139,7 @@ droppedA = record {
   case = 4;
   ans = droppedNow;
   status = statusAs initial 21 2 0 1 0 0;
-  verdict = verdictAs 0 0 1 2 0 0;
+  verdict = verdictFrom 0 0 1 2 0 0;
 }
 
 -- answered a tick late: region 4, plain and hot, fails, after region 3
@@ -158,7 +155,7 @@ brokenA = record {
   case = 5;
   ans = brokenAt 3 conditionFails;
   status = statusAs (configOf (ε ▸ 0 ▸ 1 ▸ 2 ▸ 3) (31 ∷ 21 ∷ [])) 41 3 0 0 3 conditionFails;
-  verdict = verdictAs 3 0 0 3 3 conditionFails;
+  verdict = verdictFrom 3 0 0 3 3 conditionFails;
 }
 
 -- chart B, all in time
@@ -174,7 +171,7 @@ keptB = record {
   case = 3;
   ans = keptNow;
   status = statusAs initial 69 2 1 0 0 0;
-  verdict = verdictAs 0 1 0 2 0 0;
+  verdict = verdictFrom 0 1 0 2 0 0;
 }
 
 -- loaded a tick late: region 2, plain and cold, fails
@@ -190,7 +187,7 @@ droppedB = record {
   case = 4;
   ans = droppedNow;
   status = statusAs initial 51 2 0 1 0 0;
-  verdict = verdictAs 0 0 1 2 0 0;
+  verdict = verdictFrom 0 0 1 2 0 0;
 }
 
 -- checked a tick late: region 3, plain and hot, fails, after region 1
@@ -206,5 +203,5 @@ brokenB = record {
   case = 5;
   ans = brokenAt 2 conditionFails;
   status = statusAs (configOf (ε ▸ 0 ▸ 2 ▸ 1) (20 ∷ [])) 70 2 0 0 2 conditionFails;
-  verdict = verdictAs 3 0 0 2 2 conditionFails;
+  verdict = verdictFrom 3 0 0 2 2 conditionFails;
 }

@@ -3,6 +3,7 @@ use mathlib.Core.Path.{_≡_}
 use mathlib.Core.List.{List, [], _∷_, _++_}
 use Prim.Native.String.{String}
 use Prim.Native.Nat.{ℕ, zero, suc}
+use Rattle.model.specs.Answers.{verdictFrom}
 use Rattle.listing.specs.declared.Part.the-variants.{Chart}
 use Rattle.listing.specs.declared.Report.{Report}
 use Rattle.listing.specs.declared.Report.the-variants.{Judged, Refused}
@@ -25,20 +26,7 @@ chartFault chart number offset = record { chart = chart; log = []; report = Refu
 
 abbrev pub judged : List ℕ → List ℕ → ℕ → ℕ → ℕ → ℕ → ℕ → ℕ → Line
 judged chart log standing kept dropped records break reason =
-    record {
-      chart = chart;
-      log = log;
-      report =
-          Judged
-          (record {
-            standing = standing;
-            kept = kept;
-            dropped = dropped;
-            records = records;
-            broken = break;
-            reason = reason;
-          });
-    }
+    record { chart = chart; log = log; report = Judged (verdictFrom standing kept dropped records break reason) }
 
 -- Refusals 1 to 11. A chart's first command stands at 0; a command's operands follow it.
 abbrev pub refusals : List Line
