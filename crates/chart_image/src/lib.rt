@@ -33,7 +33,7 @@ fn left_of(kind: u8, first: u8, second: u8) -> Left
     Left::Difference(first, second)
 }
 
-// The term whose eight bytes start at a place.
+// The term whose eight bytes start at an offset.
 fn term_at(s: &[u8], at: usize) -> Term
     requires { ⌜ at ≤ chartSize ⌝ }
     ensures { λ r. ⌜ r ≡ termIn (now (s .entry)) at ⌝ }
@@ -77,7 +77,7 @@ fn event_at(s: &[u8], at: usize) -> Event
     Event::Message(message)
 }
 
-// The region whose 42 bytes start at a place.
+// The region whose 42 bytes start at an offset.
 fn region_at(s: &[u8], at: usize) -> Region
     requires { ⌜ at + 42 ≤ chartSize ⌝ }
     ensures { λ r. ⌜ r ≡ regionIn (now (s .entry)) at ⌝ }

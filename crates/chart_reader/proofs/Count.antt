@@ -22,7 +22,7 @@ use Rattle.chart_step.specs.Reading.{faultOf, decided, applied, outcomeOf}
 use Rattle.chart_reader.specs.Read.{readFrom, readChart, startReading, continueBy, advanceOf, advanceBy}
 use Rattle.chart_reader.specs.Said.{Said}
 
--- where an outcome goes on, it goes on past a place, and not past the end
+-- where an outcome goes on, it goes on past the offset `at`, and not past the end
 Past : ℕ → ℕ → Outcome → Type 0
 Past at size (Going m) = (at < m) × (m ≤ size)
 Past at size Ended = Unit {0}

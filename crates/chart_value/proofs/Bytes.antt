@@ -1,4 +1,4 @@
--- Reading on from a place whose bytes are known, command by command. Assumes nothing.
+-- Reading on from an offset whose bytes are known, command by command. Assumes nothing.
 use mathlib.Core.Path.{_≡_, refl, sym, ap, _∙_}
 use mathlib.Core.Bool.{Bool, false, cond}
 use mathlib.Core.List.{List, [], _∷_}
@@ -37,7 +37,7 @@ pub in-four : (n : ℕ) → (n / 65536 / 256 * 256 + n / 65536 % 256) * 65536 +
 in-four n = omega arith
 
 module _ (s : List ℕ) (x : Said) where
-  -- reading on from a place in a state gives x, given enough commands
+  -- reading on from an offset in a state gives x, if enough commands are allowed
   pub Gives : ℕ → Reading → Type 0
   Gives at r = (n : ℕ) → length s < at + n → readFrom n s at r ≡ x
 
@@ -77,7 +77,7 @@ module _ (s : List ℕ) (x : Said) where
         ∙ ap (λ (t : Bool). cond t decoded.CutShort (decoded.Known c (at + 1 + n)))
         (lt-leb (length s - at) n (omega arith))
 
-    -- the command at a place, where nothing refuses it
+    -- the command at an offset, if nothing refuses it
     pub taken : (r : Reading) (n : ℕ) (c : Command) → decodeByte s at b ≡ operands s at n c → n ≤ length xs
         → faultOf r at (at + 1 + n) (ltb (at + 1 + n) (length s)) c ≡ Nothing
         → advanceOf s at r ≡ record { outcome = outcomeOf (at + 1 + n) c; reading = applied r at c }

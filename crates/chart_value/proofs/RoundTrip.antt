@@ -1,6 +1,6 @@
--- Reading the bytes of a well-formed chart gives the chart. The reader is followed along the writer: from a place where
--- the writer's bytes of something stand, reading goes on after them in the state that has it. So for a term, for hot,
--- for resets, for a region, for all regions, and at last the end. Assumes nothing.
+-- Reading the bytes of a well-formed chart gives the chart. The reader is followed along the writer: from an offset
+-- where the writer's bytes of something stand, reading goes on after them in the state that has it. This is shown of a
+-- term, of hot, of resets, of a region, of all regions, and at last of the end. Assumes nothing.
 use mathlib.Core.Path.{_≡_, refl, sym, ap, subst, _∙_}
 use mathlib.Core.Bool.{Bool, true, false, cond, not, _&&_, _||_}
 use mathlib.Core.List.{List, [], _∷_}

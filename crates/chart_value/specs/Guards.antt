@@ -15,7 +15,7 @@ use Rattle.chart_step.specs.Reading.{faultOf}
 use Rattle.chart_reader.specs.Read.{advanceOf, startReading, readChart}
 use Rattle.chart_reader.specs.Said.{acceptedAs}
 
--- the states that reading the bytes passes through, each with its offset
+-- the states that reading the bytes passes through, each with the offset of the next command
 pub data Reached (s : List ℕ) : ℕ → Reading → Type 0 where
   start : Reached s 0 startReading
   next : {at : ℕ} {r : Reading} (m : ℕ) → Reached s at r → advanceOf s at r .outcome ≡ Going m

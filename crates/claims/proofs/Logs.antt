@@ -1,6 +1,5 @@
 -- One record at an offset, and a whole log, read case by case. The records walked without a fault decide where the
--- check of the log stands, so
--- two walks end alike. Assumes nothing.
+-- check of the log stands, so two walks end alike. Assumes nothing.
 use mathlib.Core.Path.{_≡_, refl, sym, ap, subst, _∙_}
 use mathlib.Core.Logic.{inl, inr, _↔_}
 use mathlib.Core.Bool.{Bool, true, false, cond}

@@ -49,7 +49,7 @@ demands-read bytes c e =
       feeding = feeding c (sound bytes c e .fine) A;
     }
 
--- the records fed before an offset, and what is left gives the whole
+-- the records fed before an offset; they and those left are the log's
 pub record SoFar (c : Chart) (s : List ℕ) (m : Monitor) (at left : ℕ) : Type 0 where
   pub before : Snoc Record
   pub ans : Snoc AbstractAnswer

@@ -25,7 +25,7 @@ pub record FirstGap (s r : ℕ) : Type 0 where
 pub gap-of : {s r : ℕ} → ((j : ℕ) → j < r → So (contains s j)) × ((contains s r ≡ false) × (r ≤ 32)) → FirstGap s r
 gap-of h = record { before = h .0; gap = h .1 .0; few = h .1 .1 }
 
--- a number more is skipped, and the place moves on
+-- with one more number skipped, the first that is not is higher
 gap-grows : {s i u r : ℕ} → FirstGap s i → u ≡ inserted s i → FirstGap u r → i < r
 gap-grows {s} {i} {u} {r} A e R = elim (decLt i r) [
   | yes l ↦ l
@@ -39,8 +39,8 @@ gap-grows {s} {i} {u} {r} A e R = elim (decLt i r) [
 pub run-less : {s i u r : ℕ} → FirstGap s i → u ≡ inserted s i → FirstGap u r → i < 32 → 32 - r < 32 - i
 run-less A e R l = omega (arith, gap-grows A e R)
 
--- of the numbers below n those that are skipped fail; those of the first set are skipped; the place is the first that
--- is not
+-- of the numbers below n those that are skipped fail; those of the first set are skipped; i is the first number
+-- that is not
 pub record Skips (n : ℕ) (t : ℕ → Bool) (first s i : ℕ) : Type 0 where
   pub fails : (j : ℕ) → j < n → So (contains s j) → t j ≡ false
   pub all : (j : ℕ) → So (contains first j) → So (contains s j)

@@ -5,12 +5,12 @@ use mathlib.Core.List.{List, [], _∷_}
 use lib.ListN.{length, getD, set}
 use lib.Dec.{eqb, leb, ltb}
 
--- the first of the n places from `at` on that holds the byte; the place after them if none does
+-- the first of the n offsets from `at` on at which the byte stands; the offset after them if it stands at none
 unfoldable pub firstAmong : ℕ → List ℕ → ℕ → ℕ → ℕ
 firstAmong zero s at byte = at
 firstAmong (suc n) s at byte = cond (eqb (getD s at 0) byte) at (firstAmong n s (at + 1) byte)
 
--- the first place from `from` on, and before `to`, that holds the byte; `to` if none does
+-- the first offset from `from` on, and before `to`, at which the byte stands; `to` if it stands at none
 abbrev pub firstOf : List ℕ → ℕ → ℕ → ℕ → ℕ
 firstOf s from to byte = firstAmong (to - from) s from byte
 

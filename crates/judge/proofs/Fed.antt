@@ -90,7 +90,7 @@ still C (suc n) s at es b = by (nextAt s at) (λ p e c. still C n s p (es ▸ e)
         let u = unmoved C (after C (logged es)) (logRecord e) b in
         i p e (λ z. b (sym (ap (λ (x : AbstractMonitor). x .tally .broken .at) u) ∙ z)) ∙ u
 
--- the records fed before an offset, and what is left gives the whole
+-- the records fed before an offset; they and those left are the log's
 pub record SoFar (C : Abstract) (s : List ℕ) (m : Monitor) (at left : ℕ) : Type 0 where
   pub before : Snoc Record
   pub monitor : monitorAt m ≡ after C (logged before)

@@ -105,7 +105,7 @@ module _ (C : Abstract) (m : AbstractMonitor) (e : LogRecord) where
   unfolding feed
   accept-fed b t n = rw (eq-eqb (m .tally .broken .at) 0 b, t, n)
 
--- the records taken before an offset, the check as far, and no break
+-- the records taken before an offset, the check up to there, and no break
 pub record Going (C : Abstract) (s : List ℕ) (m : Monitor) (at : ℕ) : Type 0 where
   pub left : ℕ
   pub room : length s ≤ at + left

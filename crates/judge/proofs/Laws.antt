@@ -60,7 +60,7 @@ more-fuel (suc f) (suc g) s at last n h k =
     by (Going p t j) e i =
         i p t j (omega (arith, going-past s at last n p t j e)) (omega (arith, going-past s at last n p t j e))
 
--- what is left of the check at an offset, whatever count is large enough
+-- the check from an offset on, after n records, gives what the check of the whole log gives
 pub Left : List ℕ → ℕ → Moment → ℕ → Type 0
 Left s at last n = checkFrom (length s + 1) s at last n ≡ checkLog s
 

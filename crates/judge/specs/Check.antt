@@ -34,7 +34,7 @@ abbrev pub continueBy : (ℕ → Moment → ℕ → Checked) → CheckStep → C
 continueBy k (Over c) = c
 continueBy k (Going past time n) = k past time n
 
--- at most f records from an offset on, the time before and the count given
+-- at most f records from an offset on, after n records, the last of them with the time `last`
 unfoldable pub checkFrom : ℕ → List ℕ → ℕ → Moment → ℕ → Checked
 checkFrom zero s at last n = Fine n
 checkFrom (suc f) s at last n = continueBy (checkFrom f s) (stepAt s at last n)

@@ -16,7 +16,7 @@ use Rattle.judge.specs.declared.Checked.{Checked}
 use Rattle.judge.specs.declared.Checked.the-variants.{Fine, Refused}
 use Rattle.judge.specs.Verdict.{broken, nothingFired, inPrechart, owed, verdictWith}
 
--- the code of a message whose record stands at an offset, 0 for any other record
+-- the code of the message whose record stands at an offset; 0 for any other record
 abbrev pub codeAt : List ℕ → ℕ → ℕ
 codeAt s at = cond (eqb (getD s at 0) messageTag) (word16 s (at + 3) * 65536 + word16 s (at + 1) + 1) 0
 

@@ -156,7 +156,7 @@ module _ (C : Chart) (A : Accepted C) where
     | inr f ↦ let R = for-some C A (p .fired) e (f .0) (f .1) in absurd (h (f .0) (R .0) (R .1))
   ]
 
-  -- a chart message e, at offer p, whose reset moments are at most t
+  -- a chart message e, at place p, whose reset moments are at most t
   module _ (p : Place) (e : LogRecord) (t : ℕ) (past : (c : ℕ) → p .clocks c ≤ t) (forward : t ≤ e .time)
       (chart : So (chartMessage C e)) where
     -- the clocks at the record

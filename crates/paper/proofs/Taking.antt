@@ -209,7 +209,7 @@ module _ (C : Chart) (A : Accepted C) where
     unfolding breakRound
     is-break k q p = (ap {B = Status} (breaking before e k) p, refl)
 
-    -- what the machine concludes from a offer at rest, by its fired regions
+    -- what the machine concludes from a place at rest, by its fired regions
     concludes-moved : (q : Place) → ¬ Full C (q .fired) → (PrechartDone C (q .fired) → PrechartDone C (m .place .fired))
         → conclude C m e (rests q) ≡ goOn C m e moved q
     unfolding conclude

@@ -56,7 +56,7 @@ quiet-broken p = absurd (let z : _≡_ {A = ℕ} 0 1 = cc in omega arith)
 -- the stretch s with its lawful row q, and one more record e
 module _ (C : Chart) (A : Accepted C) (o : ℕ) (s : Snoc LogRecord) (e : LogRecord) (q : Row) (lawful : Lawful C o s q)
     (rising : Rising o (chartMessages C (s ▸ e))) where
-  -- a prompt run over the round's word leads to offer p, and its last message completes the prechart
+  -- a prompt run over the round's word leads to place p, and its last message completes the prechart
   abbrev Enters : Place → Type 0
   Enters p = (P : Reaches C o (s ▸ e) (configAt C (e .time) p)) × CompletedBy C (C .prechart) (P .letters)
 

@@ -134,7 +134,7 @@ module _ (C : Chart) where
     pub run : Prompt x letters z
     pub rests : AtRest (z .cut)
 
-  -- the configuration of a offer at moment t: a clock's value is what has passed since its reset moment
+  -- the configuration of a place at moment t: a clock's value is what has passed since its reset moment
   unfoldable pub configAt : ℕ → Place → Config
   configAt t p = record { cut = p .fired; valuation = values C t (p .clocks) }
 

@@ -1,6 +1,5 @@
 -- What the stretches say of a monitor fixes it: the counts and the break by their equations, fired regions and clocks
--- by the one lawful row.
--- Assumes nothing.
+-- by the one lawful row. Assumes nothing.
 use mathlib.Core.Path.{_≡_, sym, ap, subst, _∙_}
 use Prim.Native.Nat.{ℕ}
 use Rattle.base.specs.Lists.{Snoc}

@@ -142,7 +142,7 @@ module _ (C : Chart) (A : Accepted C) (o : ℕ) (s : Snoc LogRecord) (e : LogRec
     ]
   ]
 
-  -- the monitor's offer is the one that the row shows
+  -- the monitor's place is the one that the row shows
   place-same : (m : Monitor) → m .place .fired ≡ stands q → m .place .clocks ≡ resetMoment C o (chartMessages C s) q
       → m .place ≡ placeOf C o (chartMessages C s) q
   unfolding placeOf

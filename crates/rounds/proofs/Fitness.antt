@@ -104,7 +104,7 @@ module _ (C : Chart) (A : Accepted C) where
       unused = F .unused;
     }
 
-    -- at offer p, with k kept and d dropped rounds and no break
+    -- at place p, with k kept and d dropped rounds and no break
     abbrev unbrokenAt : Place → ℕ → ℕ → Monitor
     unbrokenAt p k d = record { place = p; tally = countedAs (m .tally) (e .time) k d noBreak }
 

@@ -25,7 +25,7 @@ use Rattle.rounds.proofs.Settling.{RowMove, failsAt, restsAt, settleRow
 use Rattle.rounds.proofs.Settling.{failing, free, placed-plain, settling, plains-placed, plains-messages}
 use Rattle.rounds.proofs.Rows.{codes, as-many, placed-waived, waived-early, through, one-row}
 
--- the offer that a row shows
+-- the place that a row shows
 unfoldable pub placeOf : Chart → ℕ → Snoc LogRecord → Row → Place
 placeOf C o l r = record { fired = stands r; clocks = resetMoment C o l r }
 

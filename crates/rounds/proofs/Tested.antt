@@ -1,6 +1,5 @@
 -- Rows that are written out: one that passes a test is lawful, and the machine's move says where no region has the
--- message.
--- Assumes nothing.
+-- message. Assumes nothing.
 use mathlib.Core.Path.{_≡_}
 use mathlib.Core.Logic.{inl, inr}
 use mathlib.Core.Bool.{Bool, true, So, _&&_}

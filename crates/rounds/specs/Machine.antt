@@ -18,7 +18,7 @@ pub record Place : Type 0 where
   pub fired : ℕ → Bool
   pub clocks : ℕ → ℕ
 
--- T1: a offer, and the tally with now, the counts and the break
+-- T1: a place, and the tally with now, the counts and the break
 pub record Monitor : Type 0 where
   pub place : Place
   pub tally : Tally
@@ -32,8 +32,8 @@ pub record Step : Type 0 where
   pub answer : Answer
   pub next : Monitor
 
--- what steps 3 and 4 come to: no ready region has the message; a region's condition fails, at the offer before it; or
--- nothing more is ready
+-- how steps 3 and 4 end: no ready region has the message; region i's condition fails, with the place just before it; or
+-- no plain region is ready any more, with the place then
 pub data Move : Type 0 where
   stuck : Move
   fails : ℕ → Place → Move
@@ -86,7 +86,7 @@ module _ (C : Chart) where
   unfoldable pub prechartDone : (ℕ → Bool) → Bool
   prechartDone fired = allBelow (C .prechart) fired
 
-  -- Each of the four that follow counts the record and moves now (T9). The round runs on at offer p:
+  -- Each of the four that follow counts the record and moves now (T9). The round runs on at place p:
   unfoldable pub goOn : Monitor → LogRecord → Answer → Place → Step
   goOn m e a p = record { answer = a; next = record { place = p; tally = counted (m .tally) (e .time) } }
 
@@ -103,7 +103,7 @@ module _ (C : Chart) where
     next = record { place = opening (e .time); tally = countedDropped (m .tally) (e .time) };
   }
 
-  -- T23 to T25: the break has this record and reason k, and offer p stays
+  -- T23 to T25: the break has this record and reason k, and the place is p
   unfoldable pub breakRound : Monitor → LogRecord → ℕ → Place → Step
   breakRound m e k p = record {
     answer = brokenAt (suc (m .tally .records)) k;

@@ -112,7 +112,7 @@ two =
     (passed 110) 14
     (cases.time refl (omega arith)) (omega arith) (omega arith)
 
--- a log of n records of time 0: the byte at each offer, and a walk over the first k of them
+-- a log of n records of time 0: the byte at each offset, and a walk over the first k of them
 module _ where
   ticks-length : (n : ℕ) → length (ticks n) ≡ 5 * n
   unfolding ticks

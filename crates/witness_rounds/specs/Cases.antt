@@ -1,4 +1,4 @@
--- Every case of the first demand's claims, with an instance: charts, monitors, places and logs that it is about.
+-- An instance of every case of the first demand's claims: of charts, monitors, records and logs.
 use mathlib.Core.List.{List, [], _∷_}
 use Prim.Native.Nat.{ℕ, zero, suc}
 use Rattle.model.specs.declared.Chart.{Chart}

@@ -1,4 +1,4 @@
--- `chart_reader::read` meets its contract: what is left to read from the place gives what the whole gives. Assumes
+-- `chart_reader::read` meets its contract: reading on from the offset gives what reading the whole gives. Assumes
 -- nothing.
 use native.Mathlib.Omega.{arith}
 use lib.ListN.{length}

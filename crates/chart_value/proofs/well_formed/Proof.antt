@@ -1,6 +1,5 @@
 -- `chart_value::well_formed` meets its contract: the regions tested so far are placed, the lines gathered are those
--- touched before.
--- Assumes nothing.
+-- touched before. Assumes nothing.
 use mathlib.Core.Path.{_≡_, refl}
 use Prim.Native.Nat.{_≤_, _-_}
 use native.Mathlib.Omega.{arith}

@@ -1,4 +1,4 @@
--- The loop's invariant: what is skipped has another message, and the place is the first that is not skipped. Assumes
+-- The loop's invariant: what is skipped has another message, and i is the first number that is not skipped. Assumes
 -- nothing.
 use mathlib.Core.Path.{sym}
 use Prim.Native.Nat.{ℕ, _-_}

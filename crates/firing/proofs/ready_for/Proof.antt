@@ -1,4 +1,4 @@
--- The loop's invariant: what is skipped is not ready or has another message, and the place is the first that is not
+-- The loop's invariant: what is skipped is not ready or has another message, and i is the first number that is not
 -- skipped. Assumes nothing.
 use mathlib.Core.Path.{sym, _∙_}
 use mathlib.Core.Bool.{_&&_}

@@ -1,5 +1,5 @@
--- The loop's invariant: what is skipped is not ready and plain, and the place is the first that is not skipped. Assumes
--- nothing.
+-- The loop's invariant: what is skipped has a message or is not ready, and i is the first number that is not skipped.
+-- Assumes nothing.
 use mathlib.Core.Path.{sym, _∙_}
 use mathlib.Core.Bool.{_&&_, and-false}
 use Prim.Native.Nat.{ℕ, _-_}

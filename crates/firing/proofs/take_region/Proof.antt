@@ -1,6 +1,5 @@
 -- The loop's invariant: from where it stands, steps 3 and 4 come to the same as from the start, the region at hand is
--- ready, and no reset
--- moment is to come. The measure: the unfired regions. Assumes nothing.
+-- ready, and no reset moment is to come. The measure: the unfired regions. Assumes nothing.
 use mathlib.Core.Path.{_≡_}
 use Prim.Native.Nat.{ℕ, _≤_}
 use native.Mathlib.Omega.{arith}

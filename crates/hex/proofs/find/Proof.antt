@@ -1,4 +1,4 @@
--- `hex::find` meets its contract: what the search finds from the place on is what it finds in all. Assumes nothing.
+-- `hex::find` meets its contract: what the search finds from i on is what it finds in all. Assumes nothing.
 use mathlib.Core.Path.{_≡_, refl, sym, ap, _∙_}
 use native.Mathlib.Omega.{arith}
 use Prim.Native.Nat.{ℕ, _≤_, _+_, _-_}

@@ -1,4 +1,4 @@
--- `hex::put_bytes` meets its contract: what the rest of the text fills from the place on is what all of it fills.
+-- `hex::put_bytes` meets its contract: what the text from i on still fills is what all of it fills.
 -- Assumes nothing.
 use mathlib.Core.Path.{_≡_, refl, sym, ap, _∙_, subst}
 use native.Mathlib.Omega.{arith}

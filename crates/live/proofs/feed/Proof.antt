@@ -1,6 +1,5 @@
 -- `live::feed` meets its contract: no room for a chart, or one record fed for the chart in the bytes; either is one
--- more
--- feed of every list that led to them. Assumes nothing.
+-- more feed of every list that led to them. Assumes nothing.
 use native.Mathlib.Omega.{arith}
 use Rattle.live.proofs.Feeding.{fed-none, fed-live}
 use Rattle.live.proofs.Charts.{too-few}

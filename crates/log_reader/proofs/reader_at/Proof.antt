@@ -1,7 +1,7 @@
 -- `log_reader::reader_at` meets its contract: a walk of its MIR, by hand. A `LogReader` is made of the slice and the
--- place passed, in the result's local.
+-- offset passed, in the result's local.
 -- A `&[u8]` is Copy, so what it owns is had twice: once for log at exit, and once inside the result, beside the facts
--- of at.
+-- of offset.
 -- Assumes nothing.
 use mathlib.Core.Path.{refl}
 use Prim.Native.Nat.{ℕ, _<_, _^_}

@@ -1,8 +1,8 @@
 -- `log_reader::take_record` meets its contract: a walk of its MIR, by hand. The borrow is opened, `read_record` is
--- called on the slice and the place that the struct holds, `place_after` on that place and the result, and the borrow
--- is closed at the struct with the new place. All that the proof knows of the two is that each meets its contract.
--- The struct behind the borrow is Copy: what it owns is had twice, one copy is kept whole for the exit, and of the
--- other what log owns goes to the callee, beside the token of its lifetime, which comes back. What the result owns is
+-- called on the slice and the offset that the struct holds, `offset_after` on that offset and the result, and the
+-- borrow is closed at the struct with the new offset. All that the proof knows of the two is that each meets its
+-- contract. The struct that is borrowed is Copy: what it owns is had twice. One copy is kept whole for the exit; of the
+-- other, what log owns goes to the callee, beside the token of its lifetime, which comes back. What the result owns is
 -- had twice likewise.
 -- Assumes nothing.
 use mathlib.Core.Path.{_≡_, refl, ap, _∙_}
@@ -83,7 +83,7 @@ B κ′ = T.the-row (α κ′)
 abbrev behind : Slot 2
 behind = plain (λ κs. T.the-row (namedLft 2 1 tt κs))
 
--- the MIR types of its fields behind the borrow: a slice of 16 bytes, and a number after it
+-- the MIR types of its fields through the borrow: a slice of 16 bytes, and a number after it
 abbrev logTy : Ty
 logTy = sliceTy (tyRef erased imm (tyInt w8))
 
@@ -172,7 +172,7 @@ module _ {M : Type 1} (𝓤 : URA M) (H : Heap 𝓤) (A : Atoms 𝓤) (W : Given
   read-said r = exE 𝓤 _ (λ ws. snd∗ 𝓤 (sem 𝓤 H A (lasts read.ended (κ′, tt) (h .log, (h .offset, tt)) ws))
       (fact 𝓤 (ReadSaid r)))
 
-  -- the call of `place_after`, at the result r with the machine value u
+  -- the call of `offset_after`, at the result r with the machine value u
   abbrev to-after : Next → Val → PlaceAfter 𝓤 H A at-mem run .Ghost
   to-after r u = ((tt, tt, tt, (h .offset, (r, tt)), (vint w64 (h .offset) ∷ [], (u ∷ [], tt))), tt)
 
@@ -261,7 +261,7 @@ module _ {M : Type 1} (𝓤 : URA M) (H : Heap 𝓤) (A : Atoms 𝓤) (W : Given
         await ! tt $ pick ! (λ p.
         split ! $ move ! (1 ∷ []) $ use1 W (raw (fact 𝓤 (p ≡ offsetOr (h .offset) r))) (after-said r p) $
         heard ! (p ≡ offsetOr (h .offset) r) (λ f. split ! $ drop ! $
-        -- [the place; the result; the token; what the struct owns; the struct's cell; the open borrow; obs; auth; …;
+        -- [the offset; the result; the token; what the struct owns; the struct's cell; the open borrow; obs; auth; …;
         -- _5; …; _4; …; _3; …; _2; …; _1; …; room for _0; …]
         peeks ! usize (Is usize) (shows 𝓤 H A usize) p (w ∷ []) (λ in-range.
         land ! (from ! (stop !)) (init ! 9 refl (uint-lawful 𝓤 H A W w64 .typed p _ in-range .0)) $

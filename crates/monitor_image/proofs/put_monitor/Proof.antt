@@ -1,6 +1,5 @@
 -- `monitor_image::put_monitor` meets its contract: its three parts one after the other, and the image is read as the
--- monitor.
--- Assumes nothing.
+-- monitor. Assumes nothing.
 use Rattle.monitor_image.proofs.Owned.{owned}
 use Rattle.monitor_image.proofs.Laws.{monitor-back}
 use Rattle.wire.specs.Writing.{Wrote}
