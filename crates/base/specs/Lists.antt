@@ -48,7 +48,7 @@ abbrev pub countBelow : ℕ → (ℕ → Bool) → ℕ
 countBelow zero t = zero
 countBelow (suc k) t = cond (t k) (suc (countBelow k t)) (countBelow k t)
 
--- the first, or else the second
+-- the first option, or the second where the first has nothing
 abbrev pub orElse : {A : Type 0} → Option A → Option A → Option A
 orElse none b = b
 orElse (some a) b = some a
@@ -58,7 +58,7 @@ abbrev pub first : ℕ → (ℕ → Bool) → Option ℕ
 first zero t = none
 first (suc k) t = orElse (first k t) (cond (t k) (some k) none)
 
--- `b` where nothing was found, otherwise `f` of what was
+-- `b` if nothing was found, otherwise `f` of what was found
 abbrev pub onFound : {A B : Type 0} → Option A → B → (A → B) → B
 onFound none b f = b
 onFound (some a) b f = f a

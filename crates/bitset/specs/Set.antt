@@ -18,7 +18,7 @@ inserted s i = bitOr s (single i)
 unfoldable pub union : ℕ → ℕ → ℕ
 union a b = bitOr a b
 
--- no member of a is lost in the common part
+-- every member of a is a member of b: the common part of both is a
 unfoldable pub isSubset : ℕ → ℕ → Bool
 isSubset a b = eqb (bitAnd a b) a
 

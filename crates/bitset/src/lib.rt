@@ -36,7 +36,7 @@ fn wide(set: u32) -> u64
     set as u64
 }
 
-// How many numbers from 0 on are members, up to the first that is not.
+// The lowest number that is not a member.
 pub fn run(set: u32) -> u32
     ensures members { λ r. ⌜ ((i : ℕ) → i < r → So (contains set i)) ⌝ }
     ensures gap { λ r. ⌜ contains set r ≡ false ⌝ }
@@ -45,7 +45,7 @@ pub fn run(set: u32) -> u32
     u64::trailing_zeros(wide(set) + 1)
 }
 
-// The numbers below 32 that are no members.
+// The numbers below 32 that are not members.
 pub fn others(set: u32) -> u32
     ensures { λ r. ⌜ ((i : ℕ) → i < 32 → contains r i ≡ not (contains set i)) ⌝ }
 {

@@ -48,6 +48,6 @@ unfoldable pub readFrom : ℕ → List ℕ → ℕ → Reading → Said
 readFrom zero s at r = refusedFor CutShort (length s)
 readFrom (suc n) s at r = continueBy (readFrom n s) (advanceOf s at r .outcome) (advanceOf s at r .reading)
 
--- each command takes a byte at least
+-- R3: the whole chart. Each command takes a byte at least, so its length and one more bound the number of commands.
 unfoldable pub readChart : List ℕ → Said
 readChart s = readFrom (length s + 1) s 0 startReading

@@ -77,7 +77,7 @@ fn advance(s: &[u8], at: usize, r: Reading) -> Step
     }
 }
 
-// The chart that the bytes give, or the first fault. A larger count of commands would say the same.
+// The chart that the bytes give, or the first fault. A larger bound on the commands would give the same.
 pub fn read(bytes: &[u8]) -> ChartRead
     ensures answer { λ o. ⌜ said o ≡ readChart (now (bytes .entry)) ⌝ }
     ensures count { λ o. ⌜ ((n : ℕ) → length (now (bytes .entry)) < n

@@ -42,7 +42,7 @@ abbrev pub orElse : Fault → Fault → Fault
 orElse Nothing g = g
 orElse (Found refusal offset) g = Found refusal offset
 
--- the chart with the region started last in its place
+-- the chart with the region last started put in its place
 abbrev pub closed : Reading → Chart
 closed r =
     cond (r .started && ltb (r .chart .count) mostRegions)
@@ -73,7 +73,7 @@ closingFault r =
     orElse (when (r .started && isBare (r .region)) Bare (r .start))
     (when (r .started && (r .region .hot && eqb (r .region .count) 0)) HotAlone (r .start))
 
--- R6: the commands that close a region
+-- R6: the fault of the region that the command closes
 abbrev pub closes : Reading → Command → Fault
 closes r (Heading l k) = Nothing
 closes r (Message s d l) = closingFault r
@@ -153,8 +153,8 @@ isMainless r c = isEnd c && (not (r .main) || eqb (closed r .count) (closed r .p
 abbrev pub isTrailing : Bool → Command → Bool
 isTrailing more c = isEnd c && more
 
--- R4: the checks of one command, the first that fails. Closing's fault brings its offset; 11 is at the byte after the
--- command, every other fault at the command itself.
+-- R4: the first fault that the checks of one command find. A closing fault has its own offset; 11 is at the byte after
+-- the command, every other fault at the command itself.
 abbrev pub firstFault : Bool → Fault → Bool → Bool → Bool → Bool → Bool → Bool → ℕ → ℕ → Fault
 firstFault misplaced closing outside excess early unanchored mainless trailing at next =
     orElse (when misplaced Misplaced at)
@@ -165,7 +165,7 @@ firstFault misplaced closing outside excess early unanchored mainless trailing a
     (orElse (when unanchored Unanchored at)
     (orElse (when mainless Mainless at) (when trailing Trailing next)))))))
 
--- The fault of the command c at `at`, with the next at `next`; `more`: bytes follow.
+-- The fault of the command c at `at`; `next` is the offset just after it, and `more` says whether bytes follow.
 abbrev pub faultOf : Reading → ℕ → ℕ → Bool → Command → Fault
 faultOf r at next more c =
     firstFault (isMisplaced r c) (closes r c) (isOutside (r .chart) c) (isExcess r c) (isEarly r c) (isUnanchored r c)
@@ -190,7 +190,7 @@ withHeading r l k =
           };
     }
 
--- the region last started closed, and one with the event started
+-- the region last started is closed, and one with this event starts
 abbrev pub begunWith : Reading → ℕ → Event → Reading
 begunWith r at e =
     record {
@@ -254,7 +254,7 @@ withResets r k =
       resets = k;
     })
 
--- the region last started closed, and none started
+-- the region last started is closed, and no other starts
 abbrev pub withChart : Reading → Bool → Chart → Reading
 withChart r main c =
     record {
@@ -278,7 +278,7 @@ withMain r =
       regions = closed r .regions;
     })
 
--- What a command does where no check refuses it.
+-- What a command does if no check refuses it.
 abbrev pub applied : Reading → ℕ → Command → Reading
 applied r at (Heading l k) = withHeading r l k
 applied r at (Message s d l) = begunWith r at (event.Message (record { source = s; destination = d; label = l }))
@@ -298,7 +298,7 @@ abbrev pub decided : Fault → Reading → Step → Step
 decided Nothing r s = s
 decided (Found refusal offset) r s = record { outcome = Refused refusal offset; reading = r }
 
--- one command
+-- one command: its fault, or what it does
 abbrev pub stepOf : Reading → ℕ → ℕ → Bool → Command → Step
 stepOf r at next more c =
     decided (faultOf r at next more c) r (record { outcome = outcomeOf next c; reading = applied r at c })

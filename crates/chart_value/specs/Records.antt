@@ -1,4 +1,4 @@
--- Records as the theory takes them.
+-- Records as the theory has them.
 use Prim.Native.Nat.{ℕ}
 use Rattle.model.specs.declared.Record.{Record}
 use Rattle.model.specs.declared.Record.the-variants.{Message, Time}
@@ -12,10 +12,10 @@ abbrev pub recordCode : Record → ℕ
 recordCode (Message m t) = codeOf m
 recordCode (Time t) = 0
 
--- a record as the theory takes it
+-- a record's time and code
 abbrev pub logRecord : Record → LogRecord
 logRecord e = record { time = timeOf e .0; code = recordCode e }
 
--- the records as the theory takes them
+-- each record of a list likewise
 abbrev pub logged : Snoc Record → Snoc LogRecord
 logged es = each logRecord es

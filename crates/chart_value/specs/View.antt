@@ -17,7 +17,7 @@ use Rattle.order.specs.Order.{aboveOf}
 use Rattle.condition.specs.Condition.{conditionHolds}
 use Rattle.rounds.specs.Chart.{Chart as Abstract, Accepted}
 
--- C8: one number for what makes a message; 0 is left for a plain region
+-- C8: one number for label, source and destination; 0 is left for a plain region
 abbrev pub codeOf : Message → ℕ
 codeOf m = suc (m .label * 65536 + m .source * 256 + m .destination)
 
@@ -42,15 +42,15 @@ chartOf c =
       hot = λ i. regionOf c i .hot;
     }
 
--- What the view keeps of a chart that some accepted bytes give.
+-- What is true of the abstract chart, if some accepted bytes give the chart value.
 pub record Shown (c : Chart) : Type 0 where
   pub accepted : Accepted (chartOf c)
-  -- each region is shown as it is stored: its message's code, its resets, its condition and its temperature
+  -- each region is shown as it is stored: its message's code, its resets, its condition, and whether it is hot
   pub region : (i : ℕ) → i < c .count → regionOf c i ≡ regionAt c i
   -- its order is O3
   pub order : (a b : ℕ) → So (chartOf c .above a b) ↔ ((b < c .count) × AboveIn c a b)
 
--- C8: messages of one code are the same; lines are stored in a byte
+-- C8: messages with the same code are the same; a line is stored in a byte
 abbrev pub CodesTell : Type 0
 CodesTell =
     (m n : Message) → m .source < 256 → m .destination < 256 → n .source < 256 → n .destination < 256

@@ -113,7 +113,7 @@ fn region_fits(lines: u8, clocks: u8, main: bool, opening: bool, before: u16, g:
     event & (terms & (resets & (!bare & (!g.hot | (main & (g.count != 0))))))
 }
 
-// No place has a term.
+// Each place for a term holds zeros.
 fn terms_zero(g: Region) -> bool
     ensures { λ r. ⌜ r ≡ allBelow mostTerms (λ j. isZeroTerm (termAt g j)) ⌝ }
 {

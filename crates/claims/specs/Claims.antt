@@ -33,7 +33,7 @@ use Rattle.claims.specs.Demand1.{FindsAs, Walk}
 use Rattle.claims.specs.Judged.{JudgedBy}
 use Rattle.claims.specs.Examples.{examples, AllSaid}
 
--- two answers of which the same is said are the same value
+-- what is said of an answer fixes it: two answers of which the same is said are the same value
 pub record AnswersTell : Type 0 where
   pub charts : (x y : ChartRead) → read.said x ≡ read.said y → x ≡ y
   pub judgements : (x y : Judgement) → judge.said x ≡ judge.said y → x ≡ y
@@ -51,7 +51,8 @@ pub record Views (m : Monitor) : Type 0 where
   pub break : monitorAt m .tally .broken .at ≡ m .tally .broken .at
   pub reason : monitorAt m .tally .broken .reason ≡ m .tally .broken .reason
 
--- the second and the third demand of the chart that c shows, and the real operation, of which they speak by this
+-- the second and the third demand of the abstract chart that c shows; and that the real operation gives what the
+-- machine gives of which they speak
 pub record Demands (c : Chart) : Type 0 where
   pub second : Demand2 (chartOf c)
   pub third : Demand3 (chartOf c)
@@ -65,11 +66,11 @@ pub record Claims : Type 0 where
   pub faults : Faults
   -- a chart that accepted bytes give shows an accepted abstract chart, whose order is the closure over shared lines
   pub shown : (c : Chart) → Given c → Shown c
-  -- one code, one message
+  -- messages with the same code are the same
   pub codes-tell : CodesTell
   -- the guards of the reader's definition never fire
   pub guards : NeverFire
-  -- of every chart that is read from bytes: the second and the third demand, and that feeding goes as they say
+  -- of every chart that is read from bytes: the second and the third demand, and that feeding does what they say
   pub demands : (bytes : List ℕ) (c : Chart) → readChart bytes ≡ acceptedAs c → Demands c
   -- the verdict over a log without a fault is what the stretches of its records give
   pub judged : (c : Chart) → Given c → (log : List ℕ) {es : Snoc Record} {at last : ℕ} → Walk log es at last
@@ -78,8 +79,8 @@ pub record Claims : Type 0 where
   -- and these are the records that are fed from its bytes
   pub walked : (log : List ℕ) {es : Snoc Record} {at last : ℕ} → Walk log es at last → FindsAs log at (found.end at)
       → recordsIn log ≡ es
-  -- the view through which feeding's promise speaks shows every field of the monitor, and fixes it; a step's answer and
-  -- monitor are shown likewise
+  -- the view in which feeding's contract is stated shows every field of a monitor, and fixes the monitor; a step's
+  -- answer and monitor are shown likewise
   pub views : (m : Monitor) → Views m
   pub steps : (r : Step) → (stepOf r .answer ≡ answerOf (r .answer)) × (stepOf r .next ≡ monitorAt (r .next))
   pub view-tells : ViewTells

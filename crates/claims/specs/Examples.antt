@@ -69,7 +69,7 @@ examples =
     ∷ refusedChart (0x10 ∷ 0x02 ∷ 0x01 ∷ 0x21 ∷ 0x00 ∷ 0x01 ∷ 0x40 ∷ 0x01 ∷ 0x50 ∷ 0x7f ∷ []) 9 3
     ∷ []
 
--- each example is so, through the definitions that reading and judging cite
+-- what is said of each example is what the definitions give that reading and judging cite
 abbrev pub AllSaid : List Example → Type 0
 AllSaid [] = Unit {0}
 AllSaid (e ∷ es) = (partsReport (e .chart) (e .log) ≡ e .report) × AllSaid es

@@ -1,5 +1,6 @@
 // What is claimed of the operations. The first demand is in the contracts of the five functions that call one operation
-// each; the second and the third are claims about what these operations cite, and `watch` uses them from bytes.
+// each. The second and the third are in `claims`, of the definitions that the operations cite; `watch` has the third of
+// a chart and a log in bytes.
 use chart_reader::ChartAnswer;
 use chart_reader::ChartRead;
 use judge::Judgement;
@@ -114,7 +115,7 @@ pub fn watch(chart: &[u8], log: &[u8]) -> Watched
     }
 }
 
-// The page of claims.
+// Carries the claims.
 pub fn claims()
     ensures { λ r. ⌜ Claims ⌝ }
 {}

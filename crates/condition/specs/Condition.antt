@@ -24,7 +24,7 @@ related Equal x y = leZ x y && leZ y x
 related AtLeast x y = leZ y x
 related More x y = ltZ y x
 
--- C10, C12: a clock's value, or one clock's value less another's; `value` says each clock's
+-- C10, C12: a clock's value, or one clock's value less another's; `value` gives each clock's
 abbrev pub leftOf : Left → (ℕ → ℕ) → ℤ
 leftOf (Clock k) value = pos (value k)
 leftOf (Difference a b) value = pos (value a) -ℤ pos (value b)

@@ -1,4 +1,4 @@
--- How a difference is compared with n on unsigned numbers: what is negative stands on the other side.
+-- How a difference is compared with n on unsigned numbers: what is negative is added on the other side.
 use Prim.Native.Nat.{ℕ, _-_}
 use mathlib.Core.Bool.{Bool, cond}
 use mathlib.Core.List.{List}

@@ -10,7 +10,7 @@ ghost use lib.IntN.{pos, _-ℤ_};
 ghost use Rattle.condition.specs.Condition.{signed, related, termHolds};
 ghost use Rattle.condition.specs.Parts.{inRelation, positivePart, negativePart, valueIn};
 
-// n is negative from here on.
+// From here on the 32 bits of n stand for a negative number.
 const SIGN: u32 = 0x8000_0000;
 
 const CLOCKS: usize = MOST_CLOCKS as usize;

@@ -1,4 +1,4 @@
--- What the inner functions give, over the numbers.
+-- What the functions of this crate give, by the numbers of a compiled chart.
 use mathlib.Core.Bool.{Bool, cond, not, _&&_, _||_}
 use mathlib.Core.List.{List}
 use mathlib.Core.Option.{Option, none, some}
@@ -23,7 +23,7 @@ use Rattle.firing.specs.declared.Sought.the-variants.{Ready, Unready, Fo
 use Rattle.firing.specs.Places.{momentsOf, placeAt}
 use Rattle.layout.specs.View.{Words}
 
--- region i isn't fired, and those above it are: `above` has the set of regions above each region
+-- O5: region i is not fired, and those above it are; `above` has, for each region, the set of those above it
 abbrev pub readyBy : List ℕ → ℕ → ℕ → Bool
 readyBy above fired i = not (contains fired i) && isSubset (getD above i 0) fired
 
@@ -32,7 +32,7 @@ abbrev pub foundOf : Found → Option ℕ
 foundOf (At i) = some i
 foundOf Nothing = none
 
--- what the regions have for a message: a ready region, only regions that aren't ready, or no region has it
+-- which regions have a message: a ready one; only some that are not ready; or none
 unfoldable pub soughtBy : List ℕ → List ℕ → ℕ → ℕ → ℕ → Sought
 soughtBy keys above count fired code = onFound (first count (λ i. eqb (getD keys i 0) code && readyBy above fired i))
     (cond (someBelow count (λ i. eqb (getD keys i 0) code)) Unready Foreign) Ready
@@ -46,7 +46,7 @@ pub record Testable (clocks : ℕ) (terms : List ℕ) : Type 0 where
   pub few : clocks ≤ mostClocks
   pub words : Words clocks terms
 
--- region i fired at moment t, its clocks reset
+-- T12: the place after region i is fired at moment t, its clocks reset
 abbrev pub fireBy : List ℕ → ℕ → Place → ℕ → AbstractPlace
 fireBy resets t p i = record {
   fired = λ j. eqb j i || contains (p .fired) j;

@@ -1,4 +1,4 @@
--- What a stored place shows of the theory's.
+-- A stored place as the theory has it.
 use mathlib.Core.List.{List}
 use Prim.Native.Nat.{ℕ}
 use lib.ListN.{getD}

@@ -1,4 +1,4 @@
-// Regions of a compiled chart searched, tested and fired: from a place to the place at which nothing more is ready.
+// The regions of a compiled chart are sought, tested and fired, until no plain region is ready.
 use layout::CLOCK_CODES;
 use layout::Head;
 use layout::SECOND_PLACE;
@@ -32,7 +32,7 @@ pub enum Found {
     Nothing,
 }
 
-// The lowest plain region that is ready: of those that are neither fired nor found unready, the first, then the next.
+// The lowest plain region that is ready. Regions that are fired, or were found not to be ready, are skipped.
 pub fn ready_plain(plain: u32, above: &[u32; MOST_REGIONS], fired: u32) -> Found
     ensures { λ r. ⌜ ((count : ℕ) → Within count plain → foundOf r
         ≡ first count (λ i. contains plain i && readyBy (now (above .entry)) fired i)) ⌝ }
@@ -49,14 +49,14 @@ pub fn ready_plain(plain: u32, above: &[u32; MOST_REGIONS], fired: u32) -> Found
     Found::Nothing
 }
 
-// What the chart has for a message: a ready region, only regions that aren't ready, or no region.
+// Which regions have a message: a ready one; only some that are not ready; or none.
 pub enum Sought {
     Ready(usize),
     Unready,
     Foreign,
 }
 
-// The ready region that has the message, of those among which every region that has it is.
+// The ready region that has the message, sought in the set `among`, which has every region with this message.
 fn ready_for(
     keys: &[u64; MOST_REGIONS],
     above: &[u32; MOST_REGIONS],
@@ -80,7 +80,7 @@ fn ready_for(
     Found::Nothing
 }
 
-// Some region has the message.
+// Whether some region has the message; `among` is as above.
 fn is_known(keys: &[u64; MOST_REGIONS], among: u32, code: u64) -> bool
     ensures { λ r. ⌜ ((count : ℕ) → Covers count (now (keys .entry)) code among
         → r ≡ someBelow count (λ i. eqb (getD (now (keys .entry)) i 0) code)) ⌝ }
@@ -97,7 +97,7 @@ fn is_known(keys: &[u64; MOST_REGIONS], among: u32, code: u64) -> bool
     false
 }
 
-// What the regions have for the message.
+// Which regions have the message.
 pub fn seek(
     keys: &[u64; MOST_REGIONS],
     above: &[u32; MOST_REGIONS],
@@ -125,7 +125,7 @@ fn pick(b: bool, x: Moment, y: Moment) -> Moment
     if b { x } else { y }
 }
 
-// The value at moment t of a term's second clock, reset at m; a term of one clock has none, and 0 for it.
+// The value at moment t of a term's second clock, reset at m; 0 for a term of one clock, which has no second.
 fn second_value(b: usize, m: Moment, t: Moment) -> Length
     requires { ⌜ m .0 ≤ t .0 ⌝ }
     ensures { λ r. ⌜ r .0 ≡ cond (ltb b mostClocks) (t .0 - m .0) 0 ⌝ }
@@ -136,8 +136,8 @@ fn second_value(b: usize, m: Moment, t: Moment) -> Length
     Length(0)
 }
 
-// All terms of region i hold at moment t. The array of moments is looked into here and lent no further: a call that
-// takes it by value would copy it for each clock.
+// All terms of region i hold at moment t. The array of moments is read here and not passed on: a call that takes it by
+// value would copy it for each clock.
 fn holds(terms: &[u64; TERM_PLACES], resets: [Moment; CLOCK_PLACES], i: usize, t: Moment) -> bool
     requires { ⌜ i < mostRegions ⌝ }
     requires { ⌜ ((c : ℕ) → momentsOf resets c ≤ t .0) ⌝ }
@@ -162,7 +162,7 @@ fn holds(terms: &[u64; TERM_PLACES], resets: [Moment; CLOCK_PLACES], i: usize, t
     true
 }
 
-// The reset moments once the clocks of the set are reset at moment t.
+// The reset moments after the clocks of the set are reset at moment t.
 fn reset_clocks(set: u32, old: [Moment; CLOCK_PLACES], t: Moment) -> [Moment; CLOCK_PLACES]
     requires { ⌜ ((c : ℕ) → So (contains set c) → c < mostClocks) ⌝ }
     ensures { λ r. ⌜ ((c : ℕ) → momentsOf r c ≡ cond (contains set c) (t .0) (momentsOf old c)) ⌝ }
@@ -200,7 +200,7 @@ pub enum Rest {
     Fails(usize),
 }
 
-// A rest, and the place at it: before the region that fails.
+// How they end, and the place then; if a region fails, the place before it.
 pub struct Settled {
     pub rest: Rest,
     pub place: Place,

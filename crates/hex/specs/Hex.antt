@@ -26,7 +26,7 @@ pub record Filled : Type 0 where
 abbrev pub filledWith : List ℕ → ℕ → Filled
 filledWith l n = record { bytes = l; digits = n }
 
--- a digit after the lower half of a byte
+-- the lower half of a byte, and a digit after it
 abbrev pub withDigit : ℕ → ℕ → ℕ
 withDigit byte d = byte % 16 * 16 + d
 

@@ -16,7 +16,7 @@ use Rattle.judge.specs.declared.CheckStep.{CheckStep}
 use Rattle.judge.specs.declared.CheckStep.the-variants.{Over, Going}
 use Rattle.model.specs.Monitor.{timeOf}
 
--- a record that was read at `at`, after n records, the last of them with the time `last`
+-- J3: 22 and 23, of a record that was read at `at`, after n records, the last of them with the time `last`
 abbrev pub takeRecord : Moment → ℕ → ℕ → Moment → ℕ → CheckStep
 takeRecord time past at last n =
     cond (ltb (time .0) (last .0)) (Over (Refused TimeFalls at))
@@ -39,6 +39,6 @@ unfoldable pub checkFrom : ℕ → List ℕ → ℕ → Moment → ℕ → Check
 checkFrom zero s at last n = Fine n
 checkFrom (suc f) s at last n = continueBy (checkFrom f s) (stepAt s at last n)
 
--- each record takes a byte at least
+-- J2: the whole log. Each record takes a byte at least, so its length and one more bound the number of records.
 unfoldable pub checkLog : List ℕ → Checked
 checkLog s = checkFrom (length s + 1) s 0 (record { 0 = 0 }) 0

@@ -51,13 +51,13 @@ pub enum Checked {
     Refused(LogRefusal, usize),
 }
 
-// One record checked: the check is over, or it goes on at an offset, with the time before and the count.
+// One record checked: the check is over, or it goes on at an offset, with the record's time and the count so far.
 pub enum CheckStep {
     Over(Checked),
     Going(usize, Moment, u32),
 }
 
-// A record that was read: J3's 22 and 23.
+// J3: 22 and 23, of a record that was read.
 fn take_record(time: Moment, past: usize, at: usize, last: Moment, records: u32) -> CheckStep
     ensures { λ r. ⌜ r ≡ takeRecord time past at last records ⌝ }
 {
@@ -81,7 +81,7 @@ fn step_at(log: &[u8], at: usize, last: Moment, records: u32) -> CheckStep
     }
 }
 
-// The whole log, before a record of it is fed.
+// J2: the check of the whole log.
 pub fn check_log(log: &[u8]) -> Checked
     ensures check { λ r. ⌜ r ≡ checkLog (now (log .entry)) ⌝ }
     ensures unchanged { λ r. ⌜ now (log .exit) ≡ now (log .entry) ⌝ }
@@ -127,8 +127,8 @@ const IN_PRECHART: u8 = 1;
 
 const OWED: u8 = 2;
 
-// The code of the record at an offset, from its bytes: the label, then source and destination. A record taken apart
-// again would be stored and loaded in pieces, which costs more than all else that is done for it.
+// The code of the record at an offset, from its bytes: the label, then source and destination. Computed from
+// the record's value it would be stored and loaded in pieces, which costs more than all else that is done for a record.
 fn code_at(log: &[u8], at: usize) -> u64
     requires { ⌜ at < length (now log) ⌝ }
     ensures { λ r. ⌜ r ≡ codeAt (now (log .entry)) at ⌝ }
@@ -140,8 +140,8 @@ fn code_at(log: &[u8], at: usize) -> u64
     0
 }
 
-// The chart compiled once; each record of a log without a fault where it lies, taken by a fresh monitor. What a feed
-// would refuse the check has refused, and after a break nothing changes any more.
+// The chart is compiled once, and each record of a log without a fault is taken where it lies, from a fresh monitor on.
+// What a feed would refuse, the check has refused; after a break nothing changes any more.
 fn feed_log(c: Chart, log: &[u8]) -> Monitor
     requires { ⌜ wellFormed c ≡ true ⌝ }
     requires { ⌜ So (isFine (checkLog (now log))) ⌝ }
@@ -225,7 +225,7 @@ fn refused(answer: JudgeAnswer) -> Judgement
     Judgement { answer, verdict }
 }
 
-// The verdict over a whole log; or why it has no verdict, with zeros in its place.
+// J1 to J6: the verdict over a whole log; or why it is refused, with a verdict of zeros.
 pub fn judge(chart: Chart, log: &[u8]) -> Judgement
     ensures verdict { λ r. ⌜ said r ≡ judgeOf chart (now (log .entry)) ⌝ }
     ensures unchanged { λ r. ⌜ now (log .exit) ≡ now (log .entry) ⌝ }

@@ -30,7 +30,7 @@ boundPlace = 0x400
 abbrev pub bias : ℕ
 bias = 0x1_0000_0000
 
--- the number of codes of a clock in a word
+-- how many numbers a word has room for, for each of its clocks
 abbrev pub clockCodes : ℕ
 clockCodes = 16
 
@@ -47,7 +47,7 @@ boundOf w = w / boundPlace
 abbrev pub secondValue : ℕ → (ℕ → ℕ) → ℕ
 secondValue w v = cond (ltb (secondOf w) mostClocks) (v (secondOf w)) 0
 
--- on the sides that the word has, x is within y
+-- x is not beyond y on a side on which the word bounds
 abbrev pub bounded : ℕ → ℕ → ℕ → Bool
 bounded w x y = not (eqb (w / upperPlace % 2) 1 && ltb y x) && not (eqb (w / lowerPlace % 2) 1 && ltb x y)
 
@@ -73,7 +73,7 @@ planChart h keys above resets terms = record {
   hot = contains (h .hot);
 }
 
--- the word's clocks are the chart's; it may have no second
+-- the word's clocks are the chart's; it may have no second clock
 pub record InChart (clocks w : ℕ) : Type 0 where
   pub first : firstOf w < clocks
   pub second : (secondOf w < clocks) ⊎ (mostClocks ≤ secondOf w)

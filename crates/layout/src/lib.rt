@@ -9,7 +9,7 @@ ghost use Rattle.layout.specs.View.{bias, boundOf, bounded};
 pub const TERM_PLACES: usize = MOST_REGIONS * MOST_TERMS;
 
 // A term's word: the first clock below SECOND_PLACE, then the second clock, the two sides and, with BIAS added, the
-// bound, each at its place. What is small stands below, where a test of it needs no large constant.
+// bound, each at its place. The small parts come lowest, so that a test of them needs no large constant.
 pub const SECOND_PLACE: u64 = 0x10;
 
 pub const UPPER_PLACE: u64 = 0x100;

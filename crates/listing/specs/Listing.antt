@@ -43,6 +43,6 @@ listingOf (Refused part number offset) = refusalLine part number offset
 abbrev pub listed : List ℕ → List ℕ → List ℕ
 listed buffer text = text ++ drop (length text) buffer
 
--- P12: what every listing fits in
+-- P12: so many bytes are enough for every listing
 abbrev pub room : ℕ
 room = 43 + 6 * 21

@@ -1,4 +1,4 @@
--- Live bytes from opening on: a list of feeds, of which the third demand speaks.
+-- V13: opening live bytes and then feeding them is a list of feeds, of which the third demand speaks.
 use mathlib.Core.Path.{_≡_}
 use mathlib.Core.List.{List}
 use Prim.Native.Nat.{ℕ}
@@ -21,14 +21,14 @@ pub data LiveHistory (chart : List ℕ) : Snoc Record → Snoc AbstractAnswer �
       → LiveHistory chart es ans l → (F : LiveFed l e number n)
       → LiveHistory chart (es ▸ e) (ans ▸ answerOf (F .by-chart .taken .answer)) n
 
--- one more feed, which returns the number: every list of feeds that led to the bytes l goes on, with the answer of
--- that number
+-- one more feed, which returns this number: with it every list of feeds that led to the bytes l is longer by one, and
+-- the number is that of its answer
 abbrev pub Extends : List ℕ → Record → ℕ → List ℕ → Type 0
 Extends l e number n = (chart : List ℕ) (es : Snoc Record) (ans : Snoc AbstractAnswer) → LiveHistory chart es ans l
     → (a : Answer) × (number ≡ answerNumber a) × LiveHistory chart (es ▸ e) (ans ▸ answerOf a) n
 
 pub record LiveClaims : Type 0 where
-  -- the bytes hold a live monitor exactly if the chart in them is one
+  -- V3: bytes hold a live monitor exactly if what `chartIn` gives for them is a chart
   pub exact : (l : List ℕ) → isLive l ≡ wellFormed (chartIn l)
   -- feeding live bytes is feeding the monitor in them
   pub runs : {chart l : List ℕ} {es : Snoc Record} {ans : Snoc AbstractAnswer} → LiveHistory chart es ans l

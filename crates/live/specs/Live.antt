@@ -1,5 +1,5 @@
--- V1: a live monitor as bytes, the monitor's image, the chart's length in eight bytes, the chart's bytes; and what is
--- done with it.
+-- V1: a live monitor as bytes: the monitor's image, the chart's length in eight bytes, the chart's bytes. And what the
+-- functions do with it (V3, V9 to V12).
 use Prim.Native.Nat.{ℕ, _+_, _-_}
 use mathlib.Core.Path.{_≡_}
 use mathlib.Core.Logic.{_↔_}
@@ -37,7 +37,7 @@ headSize = 65
 abbrev pub lengthIn : List ℕ → ℕ
 lengthIn l = word64 l monitorSize
 
--- the bytes are not too few, and the length is not beyond the rest
+-- V3: they are 65 at least, and the length is not more than what follows the first 65
 abbrev pub isFramed : List ℕ → Bool
 isFramed l = leb headSize (length l) && leb (lengthIn l) (length l - headSize)
 
@@ -49,7 +49,7 @@ chartPart l = take (lengthIn l) (drop headSize l)
 unfoldable pub chartIn : List ℕ → Chart
 chartIn l = cond (isFramed l) (readChart (chartPart l) .chart) zeroChart
 
--- the bytes hold a live monitor: framed, with a chart that the reader accepts
+-- V3: the bytes hold a live monitor: framed, with a chart that the reader accepts
 unfoldable pub isLive : List ℕ → Bool
 isLive l = isFramed l && eqb (readChart (chartPart l) .number) 0
 
@@ -64,7 +64,7 @@ liveSize n = cond (ltb (largest - headSize) n) largest (headSize + n)
 unfoldable pub freshBytes : List ℕ → List ℕ
 freshBytes chart = monitorBytes zeroMonitor ++ (longBytes (length chart) ++ chart)
 
--- Opening: the chart's refusal with its offset, 12 with the size that is wanted, or 0 with the size taken.
+-- V10: the chart's refusal with its offset; 12, or 0, with the size of the live monitor.
 abbrev pub openedBy : Said → ℕ → ℕ → Opened
 openedBy said size room =
     cond (eqb (said .number) 0)
@@ -74,7 +74,7 @@ openedBy said size room =
 unfoldable pub openedOf : List ℕ → ℕ → Opened
 openedOf chart room = openedBy (readChart chart) (liveSize (length chart)) room
 
--- only an opened buffer is written, and only where the live monitor stands
+-- V10: only a buffer that is opened is written, and only where the live monitor stands
 unfoldable pub bytesOpened : List ℕ → List ℕ → List ℕ
 bytesOpened chart l =
     cond (eqb (openedOf chart (length l) .number) 0) (freshBytes chart ++ drop (liveSize (length chart)) l) l
@@ -97,8 +97,8 @@ isRefused Quiet = false
 abbrev pub isBroken : Monitor → Bool
 isBroken m = not (eqb (m .tally .broken .at) 0)
 
--- V11: the bytes after a feed, as they were where it was refused or the monitor is broken already, else the monitor
--- handed back, and all other bytes as they were.
+-- V11: the bytes after a feed. They are as they were if it was refused or the monitor is broken already; otherwise the
+-- image is that of the monitor handed back, and all other bytes are as they were.
 unfoldable pub bytesFed : List ℕ → Step → List ℕ
 bytesFed l s = cond (isRefused (s .answer) || isBroken (monitorIn l)) l (monitorBytes (s .next) ++ drop monitorSize l)
 
@@ -112,13 +112,14 @@ pub record LiveFedBy (c : Chart) (l : List ℕ) (e : Record) (number : ℕ) (n :
   -- the bytes then hold the monitor that was handed back
   pub next : monitorIn n ≡ taken .next
 
--- One record fed to live bytes: for their chart, which they still hold; 20 exactly where they hold no live monitor.
+-- V11: one record fed to live bytes, for the chart in them, which they still hold; 20 exactly if they hold no live
+-- monitor.
 pub record LiveFed (l : List ℕ) (e : Record) (number : ℕ) (n : List ℕ) : Type 0 where
   pub by-chart : LiveFedBy (chartIn l) l e number n
   pub chart : chartIn n ≡ chartIn l
   pub none : (isLive l ≡ false) ↔ (number ≡ notAChart)
 
--- The standing of a monitor for a chart: 20, 21, or 0 and the verdict.
+-- V12: the standing of a monitor for a chart: 20, 21, or 0 and the verdict.
 abbrev pub standingBy : Chart → Monitor → LiveVerdict
 standingBy c m =
     cond (not (wellFormed c)) (record { number = notAChart; verdict = zeroVerdict })

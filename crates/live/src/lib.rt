@@ -24,7 +24,7 @@ const HEAD_SIZE: usize = 65;
 // The largest usize.
 const LARGEST: usize = 0xffff_ffff_ffff_ffff;
 
-// How opening went, and an offset in the chart or the size of the live monitor.
+// V10: the number that opening returns, and the offset of the chart's fault or the size of the live monitor.
 pub struct Opened {
     pub number: u8,
     pub at: u64,
@@ -36,7 +36,7 @@ pub struct LiveVerdict {
     pub verdict: Verdict,
 }
 
-// The bytes that a live monitor of a chart of so many bytes takes.
+// V9: the size of a live monitor, by the length of its chart.
 pub fn size(bytes: usize) -> usize
     ensures { λ r. ⌜ r ≡ liveSize bytes ⌝ }
 {
@@ -56,7 +56,7 @@ fn put_fresh(live: &mut [u8], chart: &[u8]) -> usize
     wire::put_bytes(live, third, chart)
 }
 
-// A live monitor for the chart, where the buffer has room for it.
+// V10: puts a live monitor for the chart into the buffer, if it has room for it.
 pub fn open(chart: &[u8], live: &mut [u8]) -> Opened
     ensures answer { λ r. ⌜ r ≡ openedOf (now (chart .entry)) (length (now (live .entry))) ⌝ }
     ensures bytes { λ r. ⌜ now (live .exit) ≡ bytesOpened (now (chart .entry)) (now (live .entry)) ⌝ }
@@ -86,7 +86,7 @@ pub fn open(chart: &[u8], live: &mut [u8]) -> Opened
     }
 }
 
-// The chart in the bytes; zeros where they hold no chart.
+// The chart in the bytes; zeros if they hold no chart.
 fn chart_in(live: &[u8]) -> Chart
     ensures { λ r. ⌜ r ≡ chartIn (now (live .entry)) ⌝ }
 {
@@ -155,7 +155,7 @@ fn refused(k: FeedRefusal) -> LiveVerdict
     }
 }
 
-// The verdict up to here of a monitor for a chart.
+// V12: the verdict so far of a monitor for a chart.
 fn standing_of(chart: Chart, m: Monitor) -> LiveVerdict
     ensures { λ r. ⌜ r ≡ standingBy chart m ⌝ }
 {
@@ -179,7 +179,7 @@ pub fn standing(live: &[u8]) -> LiveVerdict
     standing_of(chart_in(live), monitor_image::monitor_at(live))
 }
 
-// What feeding live bytes comes to.
+// V3, V13: which bytes hold a live monitor, and that feeding them is feeding the monitor in them.
 pub fn live_runs()
     ensures { λ r. ⌜ LiveClaims ⌝ }
 {}

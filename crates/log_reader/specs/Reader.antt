@@ -8,7 +8,7 @@ use Rattle.log_reader.specs.declared.Next.{Next}
 use Rattle.log_reader.specs.declared.Next.the-variants.{End, Refused, Handed}
 use Rattle.log_reader.specs.Next.{nextAt}
 
--- E4: where the offset is then
+-- E4: the offset after reading, which stays if no record is handed out
 abbrev pub offsetOr : ℕ → Next → ℕ
 offsetOr at End = at
 offsetOr at (Refused k) = at
@@ -17,8 +17,8 @@ offsetOr at (Handed r past) = past
 abbrev pub offsetAfter : List ℕ → ℕ → ℕ
 offsetAfter s at = offsetOr at (nextAt s at)
 
--- E4: the reader r hands out n and is q then. n is what stands at its offset; the offset of q is just after a record
--- that is handed out, or else where it was; and q holds the slice that r held, with the same bytes.
+-- E1, E4: the reader r hands out n, and is q after that. n is what stands at the offset of r; the offset of q is just
+-- after a record that is handed out, or else where it was; and q holds the slice that r held, with the same bytes.
 pub record HandsOut (r : LogReader) (n : Next) (q : LogReader) : Type 0 where
   pub record-there : n ≡ nextAt (now (r .log)) (r .offset)
   pub offset : q .offset ≡ offsetAfter (now (r .log)) (r .offset)

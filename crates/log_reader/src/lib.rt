@@ -64,7 +64,7 @@ fn time_at(s: &[u8], at: usize) -> Record
     Record::Time(Moment(wire::word32_at(s, at + 1)))
 }
 
-// The record at an offset; the bytes stay as they are.
+// E2 to E4: the record at an offset; the bytes stay as they are.
 pub fn read_record(bytes: &[u8], offset: usize) -> Next
     ensures { λ r. ⌜ (r ≡ nextAt (now (bytes .entry)) offset) × (now (bytes .exit) ≡ now (bytes .entry)) ⌝ }
 {
@@ -89,7 +89,7 @@ pub fn read_record(bytes: &[u8], offset: usize) -> Next
     }
 }
 
-// The offset just after a record that is handed out; without one it stays.
+// E4: the offset just after a record that is handed out; if there is none, it stays.
 fn offset_after(offset: usize, next: Next) -> usize
     ensures { λ r. ⌜ r ≡ offsetOr offset next ⌝ }
 {
@@ -112,7 +112,7 @@ pub fn reader_at<'a>(log: &'a [u8], offset: usize) -> LogReader<'a>
     LogReader { log, offset }
 }
 
-// Hands out the record at the offset, which moves just after it; without one it stays.
+// Hands out the record at the offset, which moves to just after it; if there is none, it stays.
 pub fn take_record<'s, 'a>(r: &'s mut LogReader<'a>) -> Next
     ensures { λ n. ⌜ HandsOut (now (r .entry)) n (now (r .exit)) ⌝ }
 {

@@ -14,13 +14,13 @@ use Rattle.listing.specs.declared.Report.the-variants.{Judged, Refused}
 use Rattle.respond.specs.declared.Response.{Response}
 use Rattle.respond.specs.declared.Response.the-variants.{Written, TooShort}
 
--- "part (1 chart, 2 log)"; no report of a chart and a log has the part 0
+-- 1 for the chart, 2 for the log; judging a chart and a log never refuses the input
 abbrev pub partNumber : Part → ℕ
 partNumber Input = 0
 partNumber Chart = 1
 partNumber Log = 2
 
--- the verdict, or "part, N, offset within the part, 0, 0, 0"
+-- V7: the verdict; or part, number and offset, and three zeros
 abbrev pub reportNumbers : Report → List ℕ
 reportNumbers (Judged v) = verdictNumbers v
 reportNumbers (Refused part number offset) = partNumber part ∷ number ∷ offset ∷ 0 ∷ 0 ∷ 0 ∷ []
@@ -30,7 +30,7 @@ abbrev pub reportNumber : Report → ℕ
 reportNumber (Judged v) = 0
 reportNumber (Refused part number offset) = number
 
--- 12 where out has fewer than 6 places, which then stay as they were; places beyond the sixth keep their contents
+-- V7: 12 if out has fewer than 6 places, which then stay as they were; places after the sixth stay in every case
 abbrev pub judgedNumber : Report → List ℕ → ℕ
 judgedNumber report out = cond (ltb (length out) places) tooShort (reportNumber report)
 
@@ -41,7 +41,7 @@ judgedOut report out = cond (ltb (length out) places) out (reportNumbers report 
 abbrev pub isJudgedNumber : ℕ → Bool
 isJudgedNumber n = leb n tooShort || (eqb n timeFalls || (eqb n tooManyRecords || (eqb n cutShort || eqb n unknownByte)))
 
--- 0 printed, 12 where out may be too short
+-- V8: 0 printed, 12 if out may be too short
 abbrev pub printedNumber : Response → ℕ
 printedNumber (Written n) = 0
 printedNumber TooShort = tooShort

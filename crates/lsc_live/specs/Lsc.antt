@@ -1,4 +1,4 @@
--- What asking for a standing returns and writes.
+-- V12: what asking for a standing returns and writes.
 use Prim.Native.Nat.{ℕ}
 use mathlib.Core.Bool.{cond}
 use mathlib.Core.List.{List, _++_}

@@ -10,7 +10,7 @@ ghost use Rattle.model.specs.declared.Record.the-variants.{Message as MessageAt
 ghost use Rattle.live.specs.Live.{liveSize, openedOf, bytesOpened, Holds, LiveFed, standingIn};
 ghost use Rattle.lsc_live.specs.Lsc.{standingNumber, standingOut};
 
-// The bytes that a live monitor of a chart of so many bytes takes.
+// The size of a live monitor, by the length of its chart.
 #[no_mangle]
 pub extern "C" fn lsc_live_size(bytes: usize) -> usize
     ensures { λ r. ⌜ r ≡ liveSize bytes ⌝ }

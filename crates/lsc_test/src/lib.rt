@@ -1,5 +1,5 @@
-// The exported functions that only tests use: a monitor made and fed by its image, and the check of a log.
-// V16: 12 is a buffer with too few places.
+// V16: the exported functions that only tests use: a monitor made and fed by its image, and the check of a log. 12 is a
+// buffer with too few places.
 use judge::Checked;
 use model::Message;
 use model::Moment;
@@ -13,7 +13,7 @@ ghost use Rattle.judge.specs.Check.{checkLog};
 ghost use Rattle.lsc_test.specs.Images.{newNumber, newBytes, FedImage};
 ghost use Rattle.lsc_test.specs.Checks.{checkedCount};
 
-// The count of no log that is checked without a fault.
+// What the check returns for a refused log: more than any log without a fault has.
 const REFUSED: u32 = 1_000_001;
 
 // The number of the answer to making a monitor.
@@ -87,7 +87,7 @@ pub extern "C" fn lsc_test_feed_time(chart: &[u8], monitor: &mut [u8], time: u32
     feed_image(chart, monitor, Record::Time(Moment(time)))
 }
 
-// Checks a whole log, and answers how many records it has; one more than the most where it is refused.
+// Checks a whole log, and returns how many records it has; one more than the most if it is refused.
 #[no_mangle]
 pub extern "C" fn lsc_test_check(log: &[u8]) -> u32
     ensures count { λ r. ⌜ r ≡ checkedCount (checkLog (now (log .entry))) ⌝ }

@@ -29,7 +29,7 @@ mostRegions = 32
 abbrev pub mostTerms : ℕ
 mostTerms = 4
 
--- M3: what a place that is not in use holds
+-- M3, M7: what a place that is not in use holds
 abbrev pub zeroTerm : Term
 zeroTerm = record { left = Clock 0; relation = Less; n = 0 }
 
@@ -72,7 +72,7 @@ touches (Plain l) k = contains l k
 abbrev pub lineSet : ℕ → ℕ
 lineSet i = cond (ltb i mostLines) (single i) 0
 
--- the same as a set of the lines below 16
+-- C7 as a set: the lines that a region touches, of those below 16
 abbrev pub touched : Event → ℕ
 touched (Message m) = union (lineSet (m .source)) (lineSet (m .destination))
 touched (Plain l) = l

@@ -3,7 +3,7 @@ use Prim.Native.Nat.{ℕ}
 use mathlib.Core.List.{List, [], _∷_}
 use Rattle.model.specs.declared.Verdict.{Verdict}
 
--- the places that a verdict or a refusal takes
+-- how many places of a buffer a verdict or a refusal takes
 abbrev pub places : ℕ
 places = 6
 

@@ -25,7 +25,7 @@ pub const MOST_RECORDS: u32 = 1_000_000;
 // One place for each clock that a chart may have.
 pub const CLOCK_PLACES: usize = MOST_CLOCKS as usize;
 
-// A moment (C15): how many ticks the log is old.
+// A moment (C15): the ticks since the log began.
 pub struct Moment(pub u32);
 
 // A length (C15): the ticks between two moments.
@@ -224,10 +224,10 @@ pub fn zero_monitor() -> Monitor
     Monitor { place, tally }
 }
 
-// The number of the answer that a buffer has too few places.
+// N9: a buffer has too few places.
 pub const TOO_SHORT: u8 = 12;
 
-// The numbers of the refusals of a feed.
+// N9: the refusals of a feed.
 pub const NOT_A_CHART: u8 = 20;
 
 pub const NOT_FIT: u8 = 21;
@@ -244,7 +244,7 @@ pub enum FeedRefusal {
     TooManyRecords,
 }
 
-// The answer for a record; a break with its record and reason.
+// The answer to a record (T27); a break with its record and reason.
 pub enum Answer {
     Refused(FeedRefusal),
     Broken(u32, u8),
@@ -280,7 +280,7 @@ pub fn answer_number(a: Answer) -> u8
     }
 }
 
-// What is found of a log (J6).
+// What judging a log finds (J6).
 pub struct Verdict {
     pub standing: u8,
     pub kept: u32,
@@ -290,7 +290,7 @@ pub struct Verdict {
     pub reason: u8,
 }
 
-// What stands for the verdict where there is none.
+// J5: the verdict of a refused log.
 pub fn zero_verdict() -> Verdict
     ensures { λ r. ⌜ r ≡ zeroVerdict ⌝ }
 {
@@ -304,10 +304,10 @@ pub fn zero_verdict() -> Verdict
     }
 }
 
-// The places that a verdict or a refusal takes.
+// How many places of a buffer a verdict or a refusal takes.
 pub const PLACES: usize = 6;
 
-// Six numbers at the start of a buffer.
+// Puts six numbers at the start of a buffer.
 pub fn put_six(out: &mut [u64], a: u64, b: u64, c: u64, d: u64, e: u64, f: u64)
     requires { ⌜ places ≤ length (now out) ⌝ }
     ensures { λ r. ⌜ now (out .exit) ≡ (a ∷ b ∷ c ∷ d ∷ e ∷ f ∷ []) ++ drop places (now (out .entry)) ⌝ }
@@ -320,7 +320,7 @@ pub fn put_six(out: &mut [u64], a: u64, b: u64, c: u64, d: u64, e: u64, f: u64)
     out[5] = f;
 }
 
-// The numbers of a verdict.
+// Puts a verdict's numbers at the start of a buffer.
 pub fn put_verdict(out: &mut [u64], v: Verdict)
     requires { ⌜ places ≤ length (now out) ⌝ }
     ensures { λ r. ⌜ now (out .exit) ≡ verdictNumbers v ++ drop places (now (out .entry)) ⌝ }

@@ -26,7 +26,7 @@ abbrev pub madeNumber : MadeAnswer → ℕ
 madeNumber Fresh = 0
 madeNumber NoChart = notAChart
 
--- Making a monitor: fresh, all zeros, or 20 with a monitor of zeros.
+-- M8: making a monitor; with both answers it is a monitor of zeros.
 pub record MadeOf (c : Chart) (r : Made) : Type 0 where
   pub number : madeNumber (r .answer) ≡ cond (wellFormed c) 0 notAChart
   pub monitor : r .monitor ≡ zeroMonitor

@@ -1,4 +1,4 @@
--- M10: the fit monitor of refusal 21, as a test of the stored value, clause by clause.
+-- M10 as a test of the stored value, clause by clause; a monitor that fails it is refused with 21.
 use mathlib.Core.Bool.{Bool, true, false, not, _&&_, _||_}
 use mathlib.Core.Option.{Option, none, some}
 use mathlib.Core.List.{List}
@@ -32,7 +32,7 @@ isNone (some i) = false
 unfoldable pub restsUnlessBroken : Abstract → ℕ → ℕ → Bool
 restsUnlessBroken C fired break = not (eqb break 0) || isNone (readyPlain C (contains fired))
 
--- no reset moment is above now; for a clock that the chart has not it is 0
+-- no reset moment is above now; that of a clock that the chart has not is 0
 unfoldable pub momentsFit : ℕ → List Moment → ℕ → Bool
 momentsFit clocks resets t =
     allBelow mostClocks (λ k. leb (momentsOf resets k) t && (ltb k clocks || eqb (momentsOf resets k) 0))
@@ -47,7 +47,7 @@ breakFits records b =
 unfoldable pub countsFit : Tally → Bool
 countsFit x = leb (x .records) mostRecords && leb (x .kept + x .dropped) (x .records)
 
--- the place fits at moment t, with the record of a break, or 0
+-- the place fits at moment t; `break` is the record of the break, or 0
 unfoldable pub placeFits : Abstract → Place → ℕ → ℕ → Bool
 placeFits C p t break =
     closedUpward C (p .fired)

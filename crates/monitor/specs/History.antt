@@ -1,4 +1,4 @@
--- Lists of feeds, and that they go as the machine does.
+-- Lists of feeds, and that they give what the machine gives.
 use mathlib.Core.Path.{_≡_}
 use mathlib.Core.Logic.{_≢_}
 use Rattle.model.specs.declared.Chart.{Chart}
@@ -18,8 +18,8 @@ use Rattle.monitor.specs.Feed.{feedOf}
 use Rattle.monitor.specs.Stored.{Stored}
 use Rattle.chart_value.specs.Records.{logRecord, logged}
 
--- W10: a list of feeds of one chart, each with the monitor of the feed before it. Each feed gives what its definition
--- says: the records fed, the answers, and the monitor after them.
+-- W10: a list of feeds for one chart: the records fed, the answers, and the monitor after them. The first feed has a
+-- fresh monitor, each other the one that the feed before it handed back; each gives what its definition says.
 pub data History (c : Chart) : Snoc Record → Snoc AbstractAnswer → Monitor → Type 0 where
   none-yet : History c ε ε zeroMonitor
   one-more : {es : Snoc Record} {ans : Snoc AbstractAnswer} {m : Monitor} (e : Record) (r : Step) → History c es ans m
@@ -33,7 +33,7 @@ pub record HistoryOver (c : Chart) (es : Snoc Record) : Type 0 where
   pub run : History c es ans monitor
   pub stored : Stored monitor
 
--- Feeding goes as the machine over the chart that c shows.
+-- Feeding gives what the machine gives, over the abstract chart that c shows.
 pub record Feeding (c : Chart) : Type 0 where
   -- one record to a fit monitor
   pub one : (m : Monitor) (e : Record) → Fit (chartOf c) (monitorAt m)
@@ -44,7 +44,7 @@ pub record Feeding (c : Chart) : Type 0 where
       → ans ≡ answers (chartOf c) (logged es)
   pub leads : {es : Snoc Record} {ans : Snoc AbstractAnswer} {m : Monitor} → History c es ans m
       → monitorAt m ≡ after (chartOf c) (logged es)
-  -- 20 and 21 never occur in it
+  -- W29: 20 and 21 never occur in it
   pub never-refused : {es : Snoc Record} {ans : Snoc AbstractAnswer} {m : Monitor} → History c es ans m
       → (e : Record) (r : Step) → stepOf r ≡ feedOf c m e
       → (r .answer ≢ Refused NotAChart) × (r .answer ≢ Refused Unfit)

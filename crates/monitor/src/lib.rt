@@ -60,7 +60,7 @@ fn closed_upward(above: &[u32; MOST_REGIONS], count: usize, fired: u32) -> bool
     ok
 }
 
-// No reset moment is above now, and those of other clocks than the chart's are 0.
+// No reset moment is above now, and that of a clock that the chart has not is 0.
 fn moments_fit(clocks: usize, resets: [Moment; CLOCK_PLACES], now: Moment) -> bool
     ensures test { λ r. ⌜ r ≡ momentsFit clocks resets (now .0) ⌝ }
     ensures places { λ r. ⌜ length resets ≡ mostClocks ⌝ }
@@ -101,8 +101,8 @@ fn is_nothing(f: Found) -> bool
     }
 }
 
-// Whether a place fits the compiled chart at moment t; a plain region may be ready at the place of a break, at a record
-// that is not 0.
+// Whether a place fits the compiled chart at moment t. `broken` is the record of the break, or 0; after a break a plain
+// region may be ready.
 pub fn place_fits(h: Head, above: &[u32; MOST_REGIONS], p: Place, t: Moment, broken: u32) -> bool
     requires { ⌜ h .count ≤ mostRegions ⌝ }
     ensures test { λ r. ⌜ ((keys resets terms : List ℕ) → Compiled h keys (now (above .entry)) resets terms
@@ -141,7 +141,7 @@ pub fn is_fit<'a>(
     placed & (counts_fit(tally) & break_fits(tally.records, tally.broken))
 }
 
-// A fresh monitor for the chart: nothing fired, all else zero.
+// M8: makes a monitor, which is zeros in every case; the answer says whether the value is a chart.
 pub fn new(chart: Chart) -> Made
     ensures { λ r. ⌜ MadeOf chart r ⌝ }
 {
@@ -168,7 +168,7 @@ fn refused(k: FeedRefusal, m: Monitor) -> Step
     }
 }
 
-// One record: refused, or taken, with the monitor afterwards, as its type stores it.
+// M12 to M14: one record is refused, or taken; with the monitor after it.
 pub fn feed(chart: Chart, monitor: Monitor, e: Record) -> Step
     ensures { λ r. ⌜ (stepOf r ≡ feedOf chart monitor e) × HandsBack monitor r × Stored (r .next) ⌝ }
 {

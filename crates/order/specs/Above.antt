@@ -18,7 +18,7 @@ module _ (lines : ℕ → ℕ) (prechart : ℕ) where
     inPrechart : a < prechart → b < prechart → SameHalf a b
     inMain : prechart ≤ a → prechart ≤ b → SameHalf a b
 
-  -- O1, O2: a is over b
+  -- O1, O2: a is over b by one step of the order
   pub data Over (a b : ℕ) : Type 0 where
     direct : a < b → SameHalf a b → SharedLine (lines a) (lines b) → Over a b
     halves : a < prechart → prechart ≤ b → Over a b

@@ -18,16 +18,16 @@ isOver lines prechart a b =
     ltb a prechart && leb prechart b
     || ltb a b && ((ltb b prechart || leb prechart a) && not (eqb (bitAnd (lines a) (lines b)) 0))
 
--- with region a and those above it, if a is over b
+-- the set s; with region a and those above it, if a is over b
 abbrev pub withOver : (ℕ → ℕ) → ℕ → List ℕ → ℕ → ℕ → ℕ → ℕ
 withOver lines prechart above s a b = cond (isOver lines prechart a b) (union (inserted s a) (getD above a 0)) s
 
--- the regions over b among the first n, with those above them
+-- the regions over b among the first so many, with those above them
 unfoldable pub gathered : (ℕ → ℕ) → ℕ → List ℕ → ℕ → ℕ → ℕ
 gathered lines prechart above zero b = 0
 gathered lines prechart above (suc a) b = withOver lines prechart above (gathered lines prechart above a b) a b
 
--- the sets of the first n regions, and zeros
+-- the sets of the first b regions; zeros for the others
 unfoldable pub aboveSets : (ℕ → ℕ) → ℕ → ℕ → List ℕ
 aboveSets lines prechart zero = replicate mostRegions 0
 aboveSets lines prechart (suc b) =

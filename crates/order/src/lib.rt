@@ -23,7 +23,7 @@ fn is_over(lines: &[u16; MOST_REGIONS], prechart: usize, a: usize, b: usize) -> 
     (a < b) & ((x & y) != 0)
 }
 
-// Region a and those above it come into the set if a is over b.
+// The set; with region a and those above it, if a is over b.
 fn with_over<'a>(
     lines: &'a [u16; MOST_REGIONS],
     prechart: usize,
@@ -43,7 +43,7 @@ fn with_over<'a>(
     }
 }
 
-// The regions above b; those below b in number have their sets already.
+// The regions above b. Regions with lower numbers have their sets already.
 fn gather<'a>(
     lines: &'a [u16; MOST_REGIONS],
     prechart: usize,

@@ -19,13 +19,13 @@ use Rattle.paper.specs.Taken.{Status, Unmatched, Terminates, Taken, case
 
 module _ (C : Chart) where
   -- what a status says of the last stretch: in an unended one, no break and the configuration that its lawful row
-  -- shows; after a broken one, W27
+  -- shows; after a broken one, the break of W27
   unfoldable pub StatusAtLast : Last → Snoc LogRecord → Status → Type 0
   StatusAtLast (unended o s) rs x = (x .tally .broken .at ≡ 0) × (x .tally .broken .reason ≡ 0)
       × (r : Row) × Lawful C o s r × (x .config ≡ configOf C (x .tally .now) o (chartMessages C s) r)
   StatusAtLast (afterBreak k) rs x = (x .tally .broken .at ≡ size rs) × (x .tally .broken .reason ≡ k)
 
-  -- a status says what the accepted records, the ended stretches and what follows them say
+  -- a status agrees with the accepted records, the ended stretches and what follows them
   pub record StatusAgrees (rs : Snoc LogRecord) (es : Snoc Stretch) (last : Last) (x : Status) : Type 0 where
     pub now : x .tally .now ≡ lastMoment rs
     pub records : x .tally .records ≡ size rs
@@ -59,8 +59,8 @@ module _ (C : Chart) where
     pub kept-exactly : (a ≡ keptNow) ↔ ((z : Config) × Reaches o (s ▸ e) z × Maximal C (C .regions) (z .cut))
     -- running on exactly if one ends short of it
     pub runs-on-exactly : SaysRunsOn a ↔ ((z : Config) × Reaches o (s ▸ e) z × (¬ Maximal C (C .regions) (z .cut)))
-    -- entered exactly if one ends short of it with all prechart regions, and over the word before the record one ended
-    -- without
+    -- entered exactly if one ends short of it with all prechart regions, and one over the word before the record ends
+    -- without some of them
     pub entered-exactly : (a ≡ entered) ↔ ((z : Config) × Reaches o (s ▸ e) z × (¬ Maximal C (C .regions) (z .cut))
         × PrechartDone C (z .cut)
         × (y : Config) × Reaches o s y × (¬ PrechartDone C (y .cut)))
@@ -91,15 +91,15 @@ pub record Stuck (C : Chart) : Type 0 where
   pub failing-plain : (c : Config) (i : ℕ) → Ready C (c .cut) i → C .condition i (c .valuation) ≡ false
       → ¬ Advance C c silent (successor C c i)
   pub heard : (c : Config) (i : ℕ) → Ready C (c .cut) i → plain C i ≡ false → ¬ Advance C c silent (successor C c i)
-  -- over the number 0, which is no message: no plain region is advanced by one;
+  -- over the number 0, which is no message: no message advances a plain region;
   pub no-message : (c z : Config) → ¬ Advance C c (message 0) z
   -- by a termination of a region whose condition is hot, or holds;
   pub hot-stays : (c : Config) (i : ℕ) → So (C .hot i) → ¬ Terminates C c i
   pub holding-stays : (c : Config) (i : ℕ) → So (C .condition i (c .valuation)) → ¬ Terminates C c i
   -- of a region that does not follow the cut;
   pub not-following : (c z : Config) (u : Letter) (a : Advance C c u z) (i : ℕ) → ¬ Ready C (c .cut) i → by C a ≢ some i
-  -- S10, S21: by a delay after which the condition of each following region fails, though time may pass there too; any
-  -- other delay leads where time that passes leads
+  -- S10, S21: by a delay after which the condition of each following region fails, although `wait` lets time pass there
+  -- too; where the source has a delay step, it leads to what `wait` gives
   pub late : (c z : Config) (d : ℕ) → ((s : ℕ) → Ready C (c .cut) s → C .condition s (shift C (c .valuation) d) ≡ false)
       → ¬ Advance C c (delay d) z
   pub delay-is-wait : (c z : Config) (d : ℕ) → Advance C c (delay d) z → z ≡ wait C c d
@@ -114,13 +114,13 @@ pub record Demand2 (C : Chart) : Type 0 where
   pub only : (m : Monitor) (e : LogRecord) (P : Acceptable C m e) (y : Status) (a : Answer)
       (T : Taken C (statusOf C m) e y a)
       → (y ≡ statusOf C (feed C m e .next)) × (a ≡ feed C m e .answer) × (caseOf C T ≡ caseOf C (given m e P))
-  -- from a status its fit monitor can be had: no clock or fired region is lost
+  -- a status fixes its fit monitor: no clock and no fired region is lost
   pub faithful : (m m′ : Monitor) → Fit C m → Fit C m′ → statusOf C m ≡ statusOf C m′ → m ≡ m′
-  -- the same of whole lists, with the feeds that are refused
+  -- the same of whole lists, refused feeds included
   pub all-given : (fs : Snoc LogRecord) → Read C fs (answers C fs) (statusOf C (after C fs))
   pub all-only : (fs : Snoc LogRecord) (ans : Snoc Answer) (x : Status) → Read C fs ans x
       → (ans ≡ answers C fs) × (x ≡ statusOf C (after C fs))
-  -- and what the list means by the third demand's stretches and rows says the same
+  -- and by the third demand's stretches and rows the list means the same
   pub as-rows : {fs : Snoc LogRecord} (M : Meaning C fs) (ans : Snoc Answer) (x : Status) → Read C fs ans x
       → (ans ≡ M .ans) × StatusAgrees C (M .accepted) (M .stretches) (M .last) x
   -- S14: a prompt run is a run (S11)
@@ -128,7 +128,7 @@ pub record Demand2 (C : Chart) : Type 0 where
   -- S16: over a word at most one comes to rest, from any configuration: the same letters and the same end
   pub one-prompt : {x z z′ : Config} {w : Snoc Letter} (P : Over C x w z) (P′ : Over C x w z′)
       → (P .letters ≡ P′ .letters) × (z ≡ z′)
-  -- S12, of the letters of one from the opening: by whatever run of a beginning of them, its own cut decides
+  -- S12, of the letters of a prompt run from the opening: its cut decides, whatever other runs take a beginning of them
   pub satisfied-exactly : {w : Snoc Letter} {z : Config} → Prompt C initial w z → SatisfiesExactly C w (z .cut)
   -- S16: lawful rows and prompt runs from the opening are one for one, and a row shows the configuration to which its
   -- run leads

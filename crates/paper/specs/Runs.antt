@@ -45,7 +45,7 @@ module _ (C : Chart) where
     pub within : (i : ℕ) → So (c i) → i < C .regions
     pub closed : (i a : ℕ) → So (c i) → So (C .above a i) → So (c a)
 
-  -- S4: the successor of a cut, with s in addition. That s may be added, that it follows the cut, is `Ready`.
+  -- S4: the successor of a cut, with region s in addition. That s follows the cut is `Ready`.
   unfoldable pub add : (ℕ → Bool) → ℕ → ℕ → Bool
   add c s j = eqb j s || c j
 
@@ -87,7 +87,7 @@ module _ (C : Chart) where
   by (premature-termination s r c h) = some s
   by (time-delay d s r h) = none
 
-  -- S11: a run is steps one after another; with the word that they consume.
+  -- S11: a run is steps one after another, with the word of their letters.
   pub data Run (x : Config) : Snoc Letter → Config → Type 0 where
     here : Run x ε x
     step : {w : Snoc Letter} {y : Config} {u : Letter} {z : Config} → Run x w y → Advance y u z → Run x (w ▸ u) z

@@ -35,7 +35,7 @@ keeping x e = record { config = initial; tally = countedKept (x .tally) (e .time
 abbrev pub dropping : Status → LogRecord → Status
 dropping x e = record { config = initial; tally = countedDropped (x .tally) (e .time) }
 
--- a break has its record and reason, and configuration z stays
+-- a break has its record and reason, and z is the configuration
 abbrev pub breaking : Status → LogRecord → ℕ → Config → Status
 breaking x e k z = record { config = z; tally = countedBroken (x .tally) (e .time) k }
 
@@ -52,8 +52,8 @@ module _ (C : Chart) where
   unfoldable pub Unmatched : Config → LogRecord → Type 0
   Unmatched c e = (s : ℕ) → Ready C (c .cut) s → C .key s ≢ e .code
 
-  -- It is region i's turn in the configuration of the last index: that of the message's region when the record comes,
-  -- or that of the next plain region after a prompt run over the record's word.
+  -- It is region i's turn in the configuration given last: it has the message of the record that comes, or it is the
+  -- next plain region after a prompt run over the record's word.
   pub data Turn (x : Status) (e : LogRecord) (i : ℕ) : Config → Type 0 where
     of-message : Ready C (x .config .cut) i → C .key i ≡ e .code → Turn x e i (wait C (x .config) (ticks x e))
     of-plain : {w : Snoc Letter} {y : Config} → strip w ≡ wordOf x e → Prompt C (x .config) w y
@@ -83,13 +83,13 @@ module _ (C : Chart) where
     -- one that ends in the maximal cut
     keeps : (z : Config) → Over C (x .config) (wordOf x e) z
         → Full C (z .cut) → Taken x e (keeping x e) keptNow
-    -- a region terminates when it is its turn
+    -- a region terminates in its turn
     fails-cold : (i : ℕ) (y : Config) → Turn x e i y
         → Terminates y i → Taken x e (dropping x e) droppedNow
-    -- a region is blocked when it is its turn: a hot violation; the configuration just before it stays
+    -- a region is blocked in its turn: a hot violation; the configuration is the one just before it
     fails-hot : (i : ℕ) (y : Config) → Turn x e i y
         → Blocked y i → Taken x e (breaking x e conditionFails y) (brokenAt (suc (x .tally .records)) conditionFails)
-    -- a chart message that no following region has: the round is dropped, if in the prechart
+    -- a chart message that no following region has: in the prechart the round is dropped
     unmatched-prechart : So (chartMessage C e) → Unmatched (x .config) e → ¬ PrechartDone C (x .config .cut)
         → Taken x e (dropping x e) droppedNow
     -- in the main chart it is broken, with the cut and the resets before the record
@@ -112,7 +112,7 @@ module _ (C : Chart) where
   abbrev pub statusOf : Monitor → Status
   statusOf m = record { config = configAt C (m .tally .now) (m .place); tally = m .tally }
 
-  -- a fit unbroken monitor, and a record that feeding does not refuse
+  -- T8: a fit monitor without a break, and a record that feeding does not refuse
   pub record Acceptable (m : Monitor) (e : LogRecord) : Type 0 where
     pub fit : Fit C m
     pub unbroken : m .tally .broken .at ≡ 0

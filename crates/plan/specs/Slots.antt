@@ -12,11 +12,11 @@ spread = 0x9E37_79B1
 abbrev pub slotCount : ℕ
 slotCount = 256
 
--- the slot of a code: the highest of four bytes
+-- the slot of a code: its lower 32 bits times `spread`; of the lower 32 bits of that, the highest byte
 unfoldable pub slotOf : ℕ → ℕ
 slotOf code = (code % bias * spread) % bias / 16777216
 
--- each region's number is a member of its key's slot, and nothing else is a member of a slot than regions' numbers
+-- each region is a member of its key's slot, and the members of every slot are regions
 pub record Slotted (count : ℕ) (keys slots : List ℕ) : Type 0 where
   pub has : (i : ℕ) → i < count → So (contains (getD slots (slotOf (getD keys i 0)) 0) i)
   pub own : (i k : ℕ) → So (contains (getD slots k 0) i) → i < count

@@ -38,7 +38,7 @@ loweredBy Equal = 0
 loweredBy AtLeast = 0
 loweredBy More = 0
 
--- the bound that a relation to this number is
+-- the bound that a relation with this number gives
 abbrev pub boundBy : Relation → ℕ → ℕ
 boundBy Less b = b - 1
 boundBy AtMost b = b

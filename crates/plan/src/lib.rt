@@ -37,7 +37,7 @@ const SOURCE_PLACE: u64 = 0x100;
 // The second clock of a term of one clock.
 const NO_CLOCK: u64 = MOST_CLOCKS as u64;
 
-// n is negative from here on.
+// From here on the 32 bits of n stand for a negative number.
 const SIGN: u32 = 0x8000_0000;
 
 // A message's regions are found by its slot: the highest byte of its code's low word times SPREAD.
@@ -105,7 +105,7 @@ fn clock_set(set: u8) -> u32
     set as u32
 }
 
-// Number i comes into the set if b holds.
+// The set; with i, if b holds.
 fn insert_if(set: u32, i: usize, b: bool) -> u32
     requires { ⌜ i < mostRegions ⌝ }
     ensures { λ r. ⌜ r ≡ cond b (inserted set i) set ⌝ }
@@ -169,7 +169,7 @@ fn lowered(e: Relation) -> u64
     }
 }
 
-// The bound that a relation to this number is.
+// The bound that a relation with this number gives.
 fn bound_by(e: Relation, b: u64) -> u64
     requires { ⌜ (0 < b) × (b < 0x2_0000_0000) ⌝ }
     ensures value { λ r. ⌜ r ≡ boundBy e b ⌝ }

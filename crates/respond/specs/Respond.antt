@@ -53,7 +53,7 @@ reportOf s =
 abbrev pub textOf : List ℕ → List ℕ
 textOf s = listingOf (reportOf s)
 
--- P12: a buffer in which some listing would find no room is refused and stays as it was
+-- P12: a buffer that may be too short for some listing is refused, and stays as it was
 abbrev pub responseOf : ℕ → List ℕ → Response
 responseOf size text = cond (ltb size room) TooShort (Written (length text))
 

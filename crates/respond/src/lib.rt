@@ -11,7 +11,7 @@ ghost use Rattle.judge.specs.Verdict.{said};
 ghost use Rattle.respond.specs.Respond.{logReport, partsReport, reportOf, textOf, responseOf, bufferAfter};
 ghost use Rattle.respond.specs.Respond.{countOf};
 
-// What the input may have at most, its two bytes of length included.
+// P3: the most bytes that an input may have, the two of the length included.
 const MOST_INPUT: usize = 65_536;
 
 // The bytes of the chart's length.
@@ -21,7 +21,7 @@ const TOO_LONG: u8 = 40;
 
 const NO_FRAME: u8 = 41;
 
-// What every text fits in.
+// P12: so many bytes are enough for every text.
 pub const ROOM: usize = 169;
 
 // How many bytes were written, or that the buffer may be too short.
@@ -83,8 +83,8 @@ fn report(input: &[u8]) -> Report
     report_parts(&input[LENGTH_SIZE..end], &input[end..])
 }
 
-// Puts the text for an input at the start of the buffer. The bytes after it stay as they were; all stay in a buffer
-// below ROOM.
+// Puts the text for an input at the start of the buffer. The bytes after it stay as they were; in a
+// buffer with fewer than ROOM bytes all stay.
 pub fn respond(input: &[u8], out: &mut [u8]) -> Response
     ensures answer { λ r. ⌜ r ≡ responseOf (length (now (out .entry))) (textOf (now (input .entry))) ⌝ }
     ensures buffer { λ r. ⌜ now (out .exit) ≡ bufferAfter (now (out .entry)) (textOf (now (input .entry))) ⌝ }

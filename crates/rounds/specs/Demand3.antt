@@ -18,7 +18,8 @@ pub record Broken (k : ℕ) (rs : Snoc LogRecord) (m : Monitor) : Type 0 where
   pub of-stretch : m .tally .broken .reason ≡ k
 
 module _ (C : Chart) where
-  -- W27, W28, if the last one is not broken: no break, and the monitor has the regions and clocks of its row
+  -- W27, W28, without a broken stretch: no break, and the monitor has the fired regions and the reset moments that the
+  -- last stretch's row gives
   pub record Unbroken (o : ℕ) (s : Snoc LogRecord) (m : Monitor) : Type 0 where
     pub row : Row
     pub lawful : Lawful C o s row
@@ -68,7 +69,7 @@ module _ (C : Chart) where
     pub same-last : M .last ≡ M′ .last
 
 pub record Demand3 (C : Chart) : Type 0 where
-  -- W10 to W16: each list of feeds has a meaning, and only one
+  -- W11 to W23: each list of feeds has a meaning, and only one
   pub cut-exists : (fs : Snoc LogRecord) → Meaning C fs
   pub cut-unique : {fs : Snoc LogRecord} (M M′ : Meaning C fs) → Same C M M′
   -- W24: the answer to one more accepted record, after the list fs
@@ -81,15 +82,15 @@ pub record Demand3 (C : Chart) : Type 0 where
       → M .last ≡ unended o s → RunsOn C o s
   -- W9: a stretch has one lawful row at most
   pub one-row : (o : ℕ) (s : Snoc LogRecord) (r r′ : Row) → Lawful C o s r → Lawful C o s r′ → r ≡ r′
-  -- W18: and so it has where the conditions of its last record are waived
+  -- W18: and at most one if the conditions of its last record are waived
   pub one-row-waived : (o : ℕ) (s : Snoc LogRecord) (e : LogRecord) (r r′ : Row)
       → LawfulButLast C o s e r → LawfulButLast C o s e r′ → r ≡ r′
-  -- W22 to W28: every answer, and the monitor in the end
+  -- W22 to W28: every answer, and the monitor after the last feed
   pub monitor-agrees : {fs : Snoc LogRecord} (M : Meaning C fs)
       → (answers C fs ≡ M .ans) × Agrees C (M .accepted) (M .stretches) (M .last) (after C fs)
   -- no other tally agrees, and if the last stretch has no end, no other monitor
   pub agrees-only : {fs : Snoc LogRecord} (M : Meaning C fs) (m : Monitor)
       → Agrees C (M .accepted) (M .stretches) (M .last) m
       → (m .tally ≡ after C fs .tally) × ((o : ℕ) (s : Snoc LogRecord) → M .last ≡ unended o s → m ≡ after C fs)
-  -- W29: refusal 21 never occurs
+  -- W29: the monitor is always fit, so that refusal 21 never occurs
   pub stays-fit : (fs : Snoc LogRecord) → Fit C (after C fs)

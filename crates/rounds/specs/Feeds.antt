@@ -23,7 +23,7 @@ abbrev pub lastMoment : Snoc LogRecord → ℕ
 lastMoment ε = 0
 lastMoment (l ▸ e) = e .time
 
--- W11, W12: whether a record is refused, by those that were accepted
+-- W11, W12: whether a record is refused, given those that were accepted before it
 unfoldable pub refusal : Snoc LogRecord → LogRecord → Option ℕ
 refusal accepted e = cond (ltb (e .time) (lastMoment accepted)) (some timeFalls)
     (cond (leb mostRecords (size accepted)) (some tooManyRecords) none)
@@ -40,35 +40,36 @@ pub record Stretch : Type 0 where
   pub records : Snoc LogRecord
   pub outcome : Outcome
 
--- W16: what follows the ended stretches, with its opening and records; or, after a broken one, nothing but the reason.
+-- W16: what follows the ended stretches: one that has not ended, with its opening and its records; or, after a broken
+-- one, nothing, with the reason.
 pub data Last : Type 0 where
   unended : ℕ → Snoc LogRecord → Last
   afterBreak : ℕ → Last
 
--- W15: where the next stretch opens
+-- W15: what follows a stretch that ends at moment t
 abbrev pub lastAfter : Outcome → ℕ → Last
 lastAfter kept t = unended t ε
 lastAfter dropped t = unended t ε
 lastAfter (broken k) t = afterBreak k
 
 module _ (C : Chart) where
-  -- W14: the stretch s and then e ends with e, in this outcome.
+  -- W14: the stretch of s and then e ends with e, with this outcome.
   pub data Ends (o : ℕ) (s : Snoc LogRecord) (e : LogRecord) : Outcome → Type 0 where
     -- W17: some lawful row has all regions
     complete : (r : Row) → Lawful C o (s ▸ e) r → Full C (stands r) → Ends o s e kept
-    -- W19: no row, even with the last conditions waived; the row q before the record says which phase it was
+    -- W19: there is no row even with the last conditions waived; the row q without the record says which phase it was
     unplaced-main : (q : Row) → ((r : Row) → ¬ LawfulButLast C o s e r)
         → Lawful C o s q → PrechartDone C (stands q) → Ends o s e (broken noReadyRegion)
     unplaced-prechart : (q : Row) → ((r : Row) → ¬ LawfulButLast C o s e r)
         → Lawful C o s q → ¬ PrechartDone C (stands q) → Ends o s e dropped
-    -- W20: the row with those waived; the leftmost condition that fails in it is hot or cold. In these four no row is
-    -- lawful: that follows, and `Exactly.dropped-or-broken-exactly` claims it.
+    -- W20: there is a row with those waived, and the leftmost condition that fails in it is hot, or cold. In all four
+    -- cases no row is lawful: that follows, and `Exactly.dropped-or-broken-exactly` claims it.
     fails-hot : (r : Row) (i : ℕ) → LawfulButLast C o s e r
         → firstFailing C o (chartMessages C (s ▸ e)) r ≡ some i → So (C .hot i) → Ends o s e (broken conditionFails)
     fails-cold : (r : Row) (i : ℕ) → LawfulButLast C o s e r
         → firstFailing C o (chartMessages C (s ▸ e)) r ≡ some i → C .hot i ≡ false → Ends o s e dropped
 
--- N9, T27: what a feed is answered
+-- N9, T27: the answers to a feed
 pub data Answer : Type 0 where
   refused : ℕ → Answer
   brokenAt : ℕ → ℕ → Answer
@@ -130,7 +131,7 @@ keptAmong es = size (keep (λ x. isKept (x .outcome)) es)
 abbrev pub droppedAmong : Snoc Stretch → ℕ
 droppedAmong es = size (keep (λ x. isDropped (x .outcome)) es)
 
--- W24: the answers by which the round goes on, and those by which it is dropped or broken
+-- W24: the answers with which the round runs on, and those with which it is dropped or broken
 abbrev pub SaysRunsOn : Answer → Type 0
 SaysRunsOn a = (a ≡ entered) ⊎ (a ≡ moved) ⊎ (a ≡ quiet)
 

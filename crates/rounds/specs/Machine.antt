@@ -27,7 +27,7 @@ pub record Monitor : Type 0 where
 abbrev pub fresh : Monitor
 fresh = record { place = record { fired = λ i. false; clocks = λ c. 0 }; tally = freshTally }
 
--- what a feed gives
+-- what a feed gives: the answer, and the monitor handed back
 pub record Step : Type 0 where
   pub answer : Answer
   pub next : Monitor
@@ -86,7 +86,7 @@ module _ (C : Chart) where
   unfoldable pub prechartDone : (ℕ → Bool) → Bool
   prechartDone fired = allBelow (C .prechart) fired
 
-  -- Each of the four that follow counts the record and moves now (T9). The round runs on at place p:
+  -- Each of the next four counts the record and sets now (T9). The round runs on at place p:
   unfoldable pub goOn : Monitor → LogRecord → Answer → Place → Step
   goOn m e a p = record { answer = a; next = record { place = p; tally = counted (m .tally) (e .time) } }
 
@@ -110,15 +110,15 @@ module _ (C : Chart) where
     next = record { place = p; tally = countedBroken (m .tally) (e .time) k };
   }
 
-  -- T18, T19: stuck, which is a drop or a break by the phase. T21: a condition fails, cold or hot. T17: at rest with
-  -- all regions fired; else T28, T29.
+  -- T18, T19: no ready region has the message; the phase says whether the round is dropped or broken. T21: a condition
+  -- fails, cold or hot. T17: all regions are fired; if not, T28 and T29.
   unfoldable pub conclude : Monitor → LogRecord → Move → Step
   conclude m e stuck = cond (prechartDone (m .place .fired)) (breakRound m e noReadyRegion (m .place)) (dropRound m e)
   conclude m e (fails i p) = cond (C .hot i) (breakRound m e conditionFails p) (dropRound m e)
   conclude m e (rests p) = cond (full (p .fired)) (keepRound m e)
       (goOn m e (cond (not (prechartDone (m .place .fired)) && prechartDone (p .fired)) entered moved) p)
 
-  -- T10: only a chart message does more than count
+  -- T10: a record that is no chart message is counted, and that is all
   unfoldable pub accept : Monitor → LogRecord → Step
   accept m e = cond (chartMessage C e) (conclude m e (offer (m .place) e)) (goOn m e quiet (m .place))
 
@@ -145,14 +145,14 @@ pub record Fit (C : Chart) (m : Monitor) : Type 0 where
   pub closed : (i a : ℕ) → So (m .place .fired i) → So (C .above a i) → So (m .place .fired a)
   -- and regions of the chart
   pub within : (i : ℕ) → So (m .place .fired i) → i < C .regions
-  -- one is left to fire
+  -- some region is not fired
   pub unfinished : ¬ Full C (m .place .fired)
-  -- there is a break, or no plain region could fire
+  -- there is a break, or no plain region is ready
   pub settled : m .tally .broken .at ≡ 0 → (j : ℕ) → So (plain C j) → ¬ Ready C (m .place .fired) j
-  -- no reset lies in the future; a clock that the chart lacks has 0
+  -- no reset moment is above now; a clock that the chart has not has 0
   pub moments : (c : ℕ) → m .place .clocks c ≤ m .tally .now
   pub unused : (c : ℕ) → C .clocks ≤ c → m .place .clocks c ≡ 0
-  -- no more records than there can be
+  -- records is not above the most that there can be
   pub few : m .tally .records ≤ mostRecords
   -- no more rounds have ended than records came
   pub counts : m .tally .kept + m .tally .dropped ≤ m .tally .records

@@ -1,4 +1,4 @@
--- The answers of a feed: the same answers over an abstract chart, and which of them hand the monitor back.
+-- The answers of a feed as the theory has them, and those with which the monitor comes back as it was.
 use mathlib.Core.Path.{_≡_}
 use mathlib.Core.Logic.{_≢_}
 use Rattle.model.specs.declared.Monitor.{Monitor}
@@ -19,7 +19,7 @@ answerOf Entered = entered
 answerOf Moved = moved
 answerOf Quiet = quiet
 
--- M14: with a refusal, and with a broken monitor's answer, every field of the monitor is handed back
+-- M14: with a refusal, and if the monitor is broken, the monitor that came is handed back, each field of it
 pub record HandsBack (m : Monitor) (r : Step) : Type 0 where
   pub refused : (k : FeedRefusal) → r .answer ≡ Refused k → r .next ≡ m
   pub broken : m .tally .broken .at ≢ 0 → r .next ≡ m

@@ -1,4 +1,4 @@
--- What a stored monitor, a record and the result of a feed show of the theory's.
+-- A stored monitor, a record and the result of a feed as the theory has them.
 use Prim.Native.Nat.{ℕ}
 use Rattle.model.specs.declared.Break.{Break}
 use Rattle.model.specs.declared.Tally.{Tally}
@@ -31,6 +31,6 @@ monitorAt m = record { place = placeAt (m .place); tally = tallyAt (m .tally) }
 abbrev pub stepOf : Step → AbstractStep
 stepOf s = record { answer = answerOf (s .answer); next = monitorAt (s .next) }
 
--- a record by its code, 0 where only time passes, and its time
+-- a record by its code, which is 0 for a record of time, and its time
 abbrev pub recordOf : ℕ → ℕ → LogRecord
 recordOf code t = record { time = t; code = code }

@@ -1,4 +1,4 @@
-// One record taken by a fit monitor. A chart comes compiled: its head, and four arrays lent beside it.
+// One record taken by a fit monitor. The chart is compiled: its head, and four arrays that are lent beside it.
 use firing::Rest;
 use firing::Settled;
 use firing::Sought;
@@ -132,7 +132,7 @@ fn drop_round(clocks: usize, m: Monitor, t: Moment) -> Step
     }
 }
 
-// The round is broken, and the place stays.
+// The round is broken, with this place (T24, T25).
 fn break_round(m: Monitor, t: Moment, reason: u8, place: Place) -> Step
     requires { ⌜ m .tally .records < mostRecords ⌝ }
     ensures { λ r. ⌜ ((C : Chart) (code : ℕ) → stepOf r
@@ -145,7 +145,7 @@ fn break_round(m: Monitor, t: Moment, reason: u8, place: Place) -> Step
     }
 }
 
-// The answer where a round runs on: was the prechart complete before, and is it after?
+// T28, T29: the answer if the round runs on, by whether the prechart was complete before the record, and is after it.
 fn entered_or_moved(before: bool, after: bool) -> Answer
     ensures { λ r. ⌜ answerOf r ≡ cond (not before && after) entered moved ⌝ }
 {
@@ -169,7 +169,7 @@ fn unplaced(h: Head, m: Monitor, t: Moment) -> Step
     drop_round(h.clocks, m, t)
 }
 
-// Steps 5 and 7.
+// T17, T21, T28, T29: what follows from the end of steps 3 and 4.
 fn conclude(h: Head, m: Monitor, t: Moment, s: Settled) -> Step
     requires { ⌜ (h .count ≤ mostRegions) × (h .prechart ≤ mostRegions) × (h .clocks ≤ mostClocks) ⌝ }
     requires { ⌜ (m .tally .records < mostRecords) × (m .tally .kept + m .tally .dropped ≤ m .tally .records) ⌝ }

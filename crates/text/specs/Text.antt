@@ -27,13 +27,13 @@ digitsOf (suc k) n = cond (ltb n 10) ((digitZero + n) ∷ []) (digitsOf k (n / 1
 abbrev pub decimalOf : ℕ → List ℕ
 decimalOf n = digitsOf 20 n
 
--- the number that digits spell after those of n
+-- the number that the digits of n and then these spell
 abbrev pub spelt : ℕ → List ℕ → ℕ
 spelt n [] = n
 spelt n (d ∷ ds) = spelt (n * 10 + (d - digitZero)) ds
 
--- P9: t is n in decimal: every byte is a digit and there is at least one, no digit is lost, the first is no zero where
--- n is not, and 0 is the one digit 0
+-- P9: t is n in decimal: every byte is a digit and there is at least one, they spell n, the first is not 0 unless n is,
+-- and 0 is one digit
 pub record Spells (n : ℕ) (t : List ℕ) : Type 0 where
   pub some : 0 < length t
   pub digits : (i : ℕ) → i < length t → (digitZero ≤ getD t i 0) × (getD t i 0 ≤ digitZero + 9)

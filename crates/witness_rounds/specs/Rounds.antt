@@ -83,7 +83,7 @@ RowOf C s e r none = Lawful C 0 (s ▸ e) r × Full C (stands r)
 RowOf C s e r (some i) =
     NoRow C 0 (s ▸ e) × LawfulButLast C 0 s e r × (firstFailing C 0 (chartMessages C (s ▸ e)) r ≡ some i)
 
--- all that is said of a round is so
+-- what the fields of a round say is true
 pub record RoundShown (g : Round) : Type 0 where
   pub chart-read : readChart (g .chart) ≡ acceptedAs (valueOf (g .chart))
   pub log-read : recordsIn (written (g .before ▸ g .last) []) ≡ g .before ▸ g .last

@@ -1,4 +1,4 @@
--- The witnesses, on one page: the rounds, and one inhabitant for every way in which the theory's data can be built.
+-- The witnesses, on one page: the rounds, and an example of every case of the theory's definitions.
 use mathlib.Core.Path.{_≡_}
 use mathlib.Core.Bool.{true, false}
 use mathlib.Core.List.{[], _∷_}
@@ -34,7 +34,7 @@ StepBy C i x u z = (a : Advance C x u z) × (by C a ≡ some i)
 abbrev pub TurnOf : Chart → Snoc Record → Record → ℕ → Config → Type 0
 TurnOf C s e i z = Turn C (statusOf C (after C (logged s))) (logRecord e) i z
 
--- five records fed: a stretch ends, one runs on, a record is refused, that stretch ends, and is answered again
+-- five records fed: a stretch ends, one runs on, a record is refused, that stretch breaks, and its answer comes again
 abbrev pub FiveFed : Type 0
 FiveFed = Fed U
     (logged (ε ▸ headings 5 ▸ undo 100 ▸ headings 99 ▸ undo 110 ▸ references 120))

@@ -1,4 +1,4 @@
-// Witnesses: rounds, rows, steps and feeds that are written out and meet the definitions of the theory as one expects.
+// Witnesses: rounds, rows, steps and feeds that are written out and meet the definitions of the theory.
 ghost use Rattle.witness_rounds.specs.Cases.{Cases};
 ghost use Rattle.witness_rounds.specs.Witnesses.{Witnesses};
 

@@ -1,4 +1,4 @@
--- What is said of each line of a list.
+-- P holds of each line of a list.
 use mathlib.Core.List.{List, [], _∷_}
 
 abbrev pub Each : {A : Type 0} → (A → Type 0) → List A → Type 0
