@@ -23,9 +23,10 @@ ghost use Rattle.chart_step.specs.Reading.{withChart, decided, stepOf};
 
 const RELATIONS: u8 = 5;
 
-// Why a chart is refused (R4), from 1 to 11: too few bytes are left; no command's byte; a command out of place; an
-// operand out of its range; a region or a term too many; a plain region with neither term nor reset; a hot region
-// without a term; hot in the prechart; a plain region with none above it; no main region; bytes after the end.
+// Why a chart is refused (R4), from 1 to 11: too few bytes are left; no command has the byte; a command is out of
+// place; an operand is out of its range; there is a region or a term too many; a plain region lacks both term and
+// reset; a hot region has no term; a region of the prechart is hot; no region is above a plain one of the opening half;
+// the main chart has no region; bytes follow the end.
 pub enum Refusal {
     CutShort,
     Unknown,
@@ -40,7 +41,7 @@ pub enum Refusal {
     Trailing,
 }
 
-// What stands between two commands: whether the heading and 50 were read, whether a region was started in this half
+// What is known between two commands: whether the heading and 50 were read, whether a region was started in this half
 // and at which offset, the lines that the regions started so far touch, the region last started, and the chart with the
 // regions closed so far.
 pub struct Reading {
@@ -108,7 +109,7 @@ fn or_else(f: Fault, g: Fault) -> Fault
     }
 }
 
-// What each check found; closing's fault stands beside it.
+// What each check found, but for the closing fault, which has its own offset.
 struct Checks {
     misplaced: bool,
     outside: bool,
@@ -188,7 +189,7 @@ fn answer(r: Reading, closing: Fault, k: Checks, at: usize, next: usize, left: R
     )
 }
 
-// What is wrong with the region last started, where one is: 6 and 7.
+// R6: 6 or 7, if a region was started in this half and has that fault.
 fn closing_fault(r: Reading) -> Fault
     ensures { λ o. ⌜ o ≡ closingFault r ⌝ }
 {
@@ -199,7 +200,7 @@ fn closing_fault(r: Reading) -> Fault
     or_else(bare, when(r.started & hot, Refusal::HotAlone, offset))
 }
 
-// The chart with the region last started in its place.
+// The chart with the region last started put in its place.
 fn close(r: Reading) -> Chart
     ensures { λ o. ⌜ o ≡ closed r ⌝ }
 {
@@ -428,7 +429,7 @@ fn resets_step(r: Reading, at: usize, next: usize, clocks: u8) -> Step
     answer(r, Fault::Nothing, k, at, next, with_resets(r, clocks))
 }
 
-// The region last started is closed, and none is started.
+// The region last started is closed, and no other starts.
 fn with_chart(r: Reading, main: bool, chart: Chart) -> Reading
     ensures { λ o. ⌜ o ≡ withChart r main chart ⌝ }
 {
@@ -477,7 +478,7 @@ fn end_step(r: Reading, at: usize, next: usize, more: bool) -> Step
     )
 }
 
-// One command at an offset, with the next one's; `more`: bytes follow.
+// One command at `at`; `next` is the offset just after it, and `more` says whether bytes follow.
 pub fn take(r: Reading, at: usize, next: usize, more: bool, c: Command) -> Step
     ensures { λ o. ⌜ o ≡ stepOf r at next more c ⌝ }
 {

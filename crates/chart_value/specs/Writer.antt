@@ -1,5 +1,5 @@
--- The bytes of a chart: heading, regions in order, 50 between the halves, 7F last; within each region the terms in
--- order, then 32 and 40 if it is hot and has resets.
+-- One way to write a chart in bytes: the heading, the regions by their numbers with a 50 before the first of the main
+-- chart, and the 7F. A region is its 20 or 21, its terms, a 32 if it is hot, and a 40 if it resets a clock.
 use Prim.Native.Nat.{ℕ, zero, suc, _/_, _%_}
 use mathlib.Core.Bool.{Bool, true, false, cond}
 use mathlib.Core.List.{List, [], _∷_}
@@ -17,7 +17,7 @@ use Rattle.model.specs.Chart.{regionAt, termAt}
 use Rattle.chart_command.specs.Command.{headingByte, messageByte, plainByte, clockTermByte, differenceTermByte, hotByte}
 use Rattle.chart_command.specs.Command.{resetsByte, mainByte, endByte}
 
--- numbers in two and in four bytes before what follows, most significant byte first
+-- a number in two bytes, or in four, and what follows it; most significant byte first
 abbrev pub two : ℕ → List ℕ → List ℕ
 two n rest = n / 256 ∷ n % 256 ∷ rest
 

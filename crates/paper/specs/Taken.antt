@@ -89,7 +89,7 @@ module _ (C : Chart) where
     -- a region is blocked in its turn: a hot violation; the configuration is the one just before it
     fails-hot : (i : ℕ) (y : Config) → Turn x e i y
         → Blocked y i → Taken x e (breaking x e conditionFails y) (brokenAt (suc (x .tally .records)) conditionFails)
-    -- a chart message that no following region has: in the prechart the round is dropped
+    -- a chart message that no following region has: the prechart's round is dropped
     unmatched-prechart : So (chartMessage C e) → Unmatched (x .config) e → ¬ PrechartDone C (x .config .cut)
         → Taken x e (dropping x e) droppedNow
     -- in the main chart it is broken, with the cut and the resets before the record
