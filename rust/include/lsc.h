@@ -3,15 +3,15 @@
  *
  * Link with liblsc.a (whole logs) and liblsc_live.a (live monitors). The functions keep no
  * state and no pointer, allocate nothing, and may be called from several threads at once on
- * different bytes. Every content of the bytes is
- * allowed; only the pointers and lengths must be valid, and bytes written must not overlap
- * bytes read. A pointer with length 0 must still not be NULL.
+ * different bytes. Every content of the bytes is allowed; only the pointers and lengths must
+ * be valid, and bytes written must not overlap bytes read. A pointer with length 0 must still
+ * not be NULL.
  *
  * Numbers in charts, logs and live monitors stand most significant byte first.
  *
  * Refusals: 1 to 11 a chart's fault; 12 a buffer too short; 20 no live monitor; 21 an unfit
- * monitor; 22 a time that falls; 23 more than 1,000,000 records; 30 a record cut
- * short; 31 an unknown record byte.
+ * monitor; 22 a time that falls; 23 more than 1,000,000 records; 30 a record cut short; 31 an
+ * unknown record byte.
  */
 #ifndef LSC_H
 #define LSC_H
@@ -23,7 +23,7 @@
 extern "C" {
 #endif
 
-/* Answers for a record. */
+/* Answers to a record. */
 #define LSC_BROKEN 1  /* the chart is broken, now or earlier; see lsc_standing */
 #define LSC_KEPT 2    /* the round is complete */
 #define LSC_DROPPED 3 /* the round is given up */
@@ -49,7 +49,7 @@ extern "C" {
  * Judges a whole log by a chart. The chart is read first, then the whole log is checked,
  * then its records are taken up to the end or a break.
  *
- * Answers 0, and out[0..5] = standing, kept, dropped, records, break, reason; or the
+ * Returns 0, and out[0..5] = standing, kept, dropped, records, break, reason; or the
  * refusal's number (chart 1 to 11; log 22, 23, 30, 31), and out[0..5] = part, number, offset
  * within the part, 0, 0, 0; or 12 if out has fewer than 6 places, and out stays as it was.
  * Places of out beyond the sixth stay as they were.
@@ -63,15 +63,15 @@ uint8_t lsc_judge(const uint8_t *chart, size_t chart_length,
  * the log. Two lines with the verdict, or one with the refusal, are written to the start of
  * out, without a zero byte after.
  *
- * Answers 0, and *written is the text's length; or 12 if out has fewer than 169 bytes, then
+ * Returns 0, and *written is the text's length; or 12 if out has fewer than 169 bytes, then
  * *written is 0 and out stays as it was. Bytes after the text stay as they were.
  */
 uint8_t lsc_print(const uint8_t *input, size_t input_length,
                   uint8_t *out, size_t out_length, uint64_t *written);
 
 /*
- * The bytes that a live monitor of a chart of so many bytes takes: 65 more, or SIZE_MAX where
- * that would overflow. It refuses nothing.
+ * The size of a live monitor: 65 bytes more than its chart has, or SIZE_MAX if that is too
+ * large. It refuses nothing.
  */
 size_t lsc_live_size(size_t chart_length);
 
@@ -79,7 +79,7 @@ size_t lsc_live_size(size_t chart_length);
  * Reads a chart and makes a fresh live monitor in live: the monitor's image (57 bytes), the
  * chart's length (8 bytes), the chart. The bytes may be copied and stored.
  *
- * Answers 0, and *at is the size of the live monitor; or the chart's refusal (1 to 11), and
+ * Returns 0, and *at is the size of the live monitor; or the chart's refusal (1 to 11), and
  * *at is its offset; or 12 if live is too short, and *at is the size it needs. A refusal
  * leaves live as it was. Bytes of live beyond the monitor stay as they were.
  */
@@ -89,7 +89,7 @@ uint8_t lsc_open(const uint8_t *chart, size_t chart_length,
 /*
  * Feeds one message to a live monitor.
  *
- * Answers 1 to 6 (LSC_BROKEN to LSC_QUIET), and the image in live is the monitor after the
+ * Returns 1 to 6 (LSC_BROKEN to LSC_QUIET), and the image in live is the monitor after the
  * record; all other bytes stay as they were. After a break the answer is 1 each time, and no
  * byte changes. Or 20 if live holds no live monitor, 21 if the monitor is unfit, 22 if the time
  * falls, 23 after 1,000,000 records; live then stays as it was.
@@ -106,7 +106,7 @@ uint8_t lsc_feed_time(uint8_t *live, size_t live_length, uint32_t time);
 /*
  * How a live monitor stands after the records fed so far. It changes nothing in live.
  *
- * Answers 0, and out[0..5] = standing, kept, dropped, records, break, reason; or 20 if live
+ * Returns 0, and out[0..5] = standing, kept, dropped, records, break, reason; or 20 if live
  * holds no live monitor, 21 if the monitor is unfit, 12 if out has fewer than 6 places. A
  * refusal leaves out as it was. Places of out beyond the sixth stay as they were.
  */

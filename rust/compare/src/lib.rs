@@ -36,7 +36,7 @@ pub struct Span {
     pub count: u64,
 }
 
-/// Compares a span of inputs; stops at the first difference. `progress` is told the number
+/// Compares a span of inputs; stops at the first difference. `progress` gets the number
 /// of inputs done and what was seen.
 pub fn run(
     span: Span,

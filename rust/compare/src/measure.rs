@@ -5,8 +5,8 @@ use std::time::Instant;
 /// Something to be timed.
 pub type Thing<'a> = &'a mut dyn FnMut();
 
-/// The seconds that each thing took in each round. Every round does every thing once, from
-/// another one on each time; a first round is not counted.
+/// The seconds that each thing took in each round. Every round does every thing once, and
+/// each starts with another one; a first round is not counted.
 pub fn interleaved(rounds: usize, things: &mut [Thing]) -> Vec<Vec<f64>> {
     let mut times = vec![Vec::new(); things.len()];
     for round in 0..=rounds {

@@ -275,7 +275,7 @@ fn both_readers_agree() {
 
 #[test]
 fn every_short_string_of_telling_bytes() {
-    // All strings of up to five bytes over a few telling ones after a heading.
+    // After a heading, all strings of up to five bytes made of a few that matter.
     let telling = [0x00, 0x01, 0x02, 0x10, 0x20, 0x21, 0x32, 0x40, 0x50, 0x7F];
     for prefix in [
         &[][..],

@@ -184,7 +184,7 @@ impl Error for Refusal {}
 pub enum FeedRefusal {
     /// 20: the bytes hold no live monitor.
     NoLiveMonitor,
-    /// 21: the bytes hold a monitor that no feeding gives.
+    /// 21: the monitor in the bytes is not fit.
     Unfit,
     /// 22: the record's time is less than now.
     TimeFalls,

@@ -4,8 +4,8 @@ use crate::monitor::{feed_fit, in_prechart, Order};
 use crate::value::*;
 use crate::well_formed::is_given;
 
-/// What reading one record says. The place after a taken record stands with it; in the
-/// other cases the place stays.
+/// What reading one record says (E2 to E4). With a record comes the offset just after it; in
+/// the other cases the offset stays.
 #[derive(Clone, Copy, Debug, PartialEq, Eq)]
 pub enum Next {
     End,
@@ -48,7 +48,7 @@ impl Verdict {
     }
 }
 
-/// What the log reader says at a place (E2 to E4).
+/// What the log reader says at an offset (E2 to E4).
 pub fn read_record(bytes: &[u8], place: usize) -> Next {
     if place >= bytes.len() {
         return Next::End;

@@ -4,8 +4,8 @@ use crate::command::Command::*;
 use crate::reader::read_chart;
 use crate::value::*;
 
-/// The value written command by command, in the plainest order; none where a count has no
-/// places to count.
+/// The value written command by command, in the plainest order; none if a count is too large
+/// for what it counts.
 pub fn write_chart(chart: &ChartValue) -> Option<Vec<u8>> {
     if chart.prechart > chart.count {
         return None;

@@ -178,7 +178,7 @@ impl Masks {
         true
     }
 
-    /// Whether the reset moments are not later than now, and those of no clock zero.
+    /// Whether no reset moment is later than now, and those beyond the chart's clocks are 0.
     fn resets_fit(&self, monitor: &MonitorValue) -> bool {
         let (used, unused) = monitor.resets.split_at(usize::from(self.clocks));
         used.iter().all(|&moment| moment <= monitor.now) && unused.iter().all(|&moment| moment == 0)

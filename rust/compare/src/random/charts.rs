@@ -243,7 +243,8 @@ impl Maker {
         }
     }
 
-    /// A plain region's command; in the opening half it stands below another, or is none.
+    /// A plain region's command. In the opening half it shares a line with an earlier region;
+    /// none if there is no earlier one.
     fn plain_event(&self, rng: &mut Rng, opening: bool, lines_so_far: u16) -> Option<Vec<u8>> {
         let mut set = some_set(rng, self.frame.lines);
         if opening && set & lines_so_far == 0 {
