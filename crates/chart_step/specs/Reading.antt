@@ -55,7 +55,7 @@ closed r =
     })
     (r .chart)
 
--- R5: 3, the command has no place here
+-- R5: 3, the command is out of place
 abbrev pub isMisplaced : Reading → Command → Bool
 isMisplaced r (Heading l k) = r .headed
 isMisplaced r (Message s d l) = not (r .headed)

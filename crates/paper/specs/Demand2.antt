@@ -144,7 +144,7 @@ pub record Demand2 (C : Chart) : Type 0 where
   pub stuck : Stuck C
   -- S3: the fired regions are always a cut
   pub monitor-is-cut : (fs : Snoc LogRecord) → IsCut C (after C fs .place .fired)
-  -- S5: a cut that has a region of the main chart has the whole prechart
+  -- O7, S5: a cut that has a region of the main chart has the whole prechart
   pub main-in-cut : (c : ℕ → Bool) (i : ℕ) → IsCut C c → C .prechart ≤ i → So (c i) → PrechartDone C c
   -- and the running round is a prompt run, to the monitor's configuration at the round's last chart message
   pub round-is-prompt : {fs : Snoc LogRecord} (M : Meaning C fs) (o : ℕ) (s : Snoc LogRecord) → M .last ≡ unended o s

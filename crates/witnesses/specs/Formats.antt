@@ -30,7 +30,7 @@ Prints e = textOf (e .input) ≡ bytesOf (e .text)
 abbrev pub printed : List ℕ → String → Print
 printed input text = record { input = input; text = text }
 
--- chart U, of 38 bytes; the log of X3, with headings at a later time
+-- chart U, of 38 bytes; the log of X3, with headings at a given time
 abbrev pub undone : String → List ℕ
 undone time =
     hex "00 26"
