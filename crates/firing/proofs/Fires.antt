@@ -62,7 +62,7 @@ fires resets p i t f r e h =
     let m : momentsOf r ≡ (λ c. cond (contains (getD resets i 0) c) t (momentsOf (p .resets) c)) = fun-ext h in
     λ j. record { fired = k j; clocks = m j }
 
--- a place whose moments have come has none to come once a region fires
+-- if no reset moment of a place is above t, none is after a region fires at t
 pub fired-early : (resets : List ℕ) (t : ℕ) (p r : Place) (i : ℕ) → placeAt r ≡ fireBy resets t p i
     → ((c : ℕ) → momentsOf (p .resets) c ≤ t)
     → (c : ℕ) → momentsOf (r .resets) c ≤ t

@@ -24,7 +24,7 @@ use Rattle.rounds.proofs.Rounds.{placeOf}
 use Rattle.rounds.proofs.Endings.{onward-same, one-outcome, ended, Comes, on, keeps, drops, breaks, comes}
 
 module _ (C : Chart) (m : Monitor) (e : LogRecord) where
-  -- feeding an unbroken monitor goes by the refusals that the accepted records give
+  -- feeding a monitor without a break refuses what the accepted records say is refused
   pub feed-unbroken : {rs : Snoc LogRecord} {es : Snoc Stretch} {o : ℕ} {s : Snoc LogRecord}
       → Agrees C rs es (unended o s) m
       → feed C m e ≡ onFound (refusal rs e) (accept C m e) (λ k. record { answer = refused k; next = m })

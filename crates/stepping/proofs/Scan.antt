@@ -39,7 +39,7 @@ not-ready true e = absurd (let z : _≡_ {A = ℕ} 0 1 = cc in omega arith)
 not-ready false e = absurd (let z : _≡_ {A = ℕ} 0 1 = cc in omega arith)
 
 module _ (C : Chart) (m : AbstractMonitor) (e : LogRecord) where
-  -- step 2, and steps 3 and 6 with what the regions have for the record's message
+  -- steps 2, 3 and 6, by which regions have the record's message
   unfoldable pub afterScan : Sought → Step
   afterScan (ReadyAt i) = conclude C m e (takenAt C (e .time) (m .place) i)
   afterScan Unready = conclude C m e stuck

@@ -4,7 +4,6 @@ use Rattle.chart_value.proofs.accepted_charts.Tie as tie
 use Rattle.chart_value.proofs.accepted_charts.Reads as reads
 use Rattle.chart_value.proofs.accepted_charts.Lts as lts
 
--- src/lib.rt:181:1
 returns : tie.Need-returns
 returns c = (shown, codes-tell)
 

@@ -5,27 +5,21 @@ use Rattle.chart_value.proofs.event_fits.Reads as reads
 use Rattle.chart_value.proofs.event_fits.Lts as lts
 use Rattle.bitset.proofs.within.Reads as within-reads
 
--- src/lib.rt:87:24
 enum-known-e : tie.Need-enum-known-e
 enum-known-e c = search needs
 
--- src/lib.rt:90:22
 enum-known-e-2 : tie.Need-enum-known-e-2
 enum-known-e-2 c = search needs
 
--- src/lib.rt:92:54
 cast-within : tie.Need-cast-within
 cast-within c = search needs
 
--- src/lib.rt:92:25
 within-requires : tie.Need-within-requires
 within-requires c κs = search needs
 
--- src/lib.rt:83:1
 returns : tie.Need-returns
 returns c = rw (c .before .before .before .before .e .given .1)
 
--- src/lib.rt:83:1
 returns-2 : tie.Need-returns-2
 returns-2 c = rw (c .within .ensures, c .before .before .e2 .given .1)
 

@@ -4,7 +4,6 @@ use Rattle.chart_value.proofs.reader_guards.Tie as tie
 use Rattle.chart_value.proofs.reader_guards.Reads as reads
 use Rattle.chart_value.proofs.reader_guards.Lts as lts
 
--- src/lib.rt:187:1
 returns : tie.Need-returns
 returns c = never-fire
 

@@ -9,27 +9,21 @@ use Rattle.chart_value.proofs.event_fits.Reads as event-fits-reads
 use Rattle.chart_value.proofs.terms_fit.Reads as terms-fit-reads
 use Rattle.model.proofs.is_bare.Reads as is-bare-reads
 
--- src/lib.rt:101:9
 event-fits-requires : tie.Need-event-fits-requires
 event-fits-requires c κs = search needs
 
--- src/lib.rt:102:9
 terms-fit-requires : tie.Need-terms-fit-requires
 terms-fit-requires c κs = search needs
 
--- src/lib.rt:103:48
 cast-within : tie.Need-cast-within
 cast-within c = search needs
 
--- src/lib.rt:103:9
 within-requires : tie.Need-within-requires
 within-requires c κs = search needs
 
--- src/lib.rt:104:9
 is-bare-requires : tie.Need-is-bare-requires
 is-bare-requires c κs = search needs
 
--- src/lib.rt:97:1
 returns : tie.Need-returns
 unfolding regionFits
 returns c =

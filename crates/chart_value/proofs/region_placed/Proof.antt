@@ -8,20 +8,16 @@ use Rattle.chart_value.proofs.region_placed.Lts as lts
 use Rattle.chart_value.proofs.is_zero_region.Reads as is-zero-region-reads
 use Rattle.chart_value.proofs.region_fits.Reads as region-fits-reads
 
--- src/lib.rt:140:9
 region-fits-requires : tie.Need-region-fits-requires
 region-fits-requires c κs = search needs
 
--- src/lib.rt:142:9
 is-zero-region-requires : tie.Need-is-zero-region-requires
 is-zero-region-requires c κs = search needs
 
--- src/lib.rt:127:1
 returns : tie.Need-returns
 unfolding regionPlaced
 returns c = rw (c .region-fits .ensures, lt-ltb _ _ (c .before .if1 .taken))
 
--- src/lib.rt:127:1
 returns-2 : tie.Need-returns-2
 unfolding regionPlaced
 returns-2 c = rw (c .is-zero-region .ensures, le-ltb _ _ (c .before .if1 .left))
