@@ -36,10 +36,10 @@ headings time rest = message 1 0 2 time rest
 abbrev pub references : ℕ → List ℕ → List ℕ
 references time rest = message 2 3 3 time rest
 
--- a log of chart U, with the numbers that are printed
-abbrev pub judgedU : List ℕ → ℕ → ℕ → ℕ → ℕ → ℕ → ℕ → Example
-judgedU log standing kept dropped records break reason =
-    record { chart = chartU; log = log; report = Judged (verdictFrom standing kept dropped records break reason) }
+-- a chart and a log, with the numbers that are printed
+abbrev pub judged : List ℕ → List ℕ → ℕ → ℕ → ℕ → ℕ → ℕ → ℕ → Example
+judged chart log standing kept dropped records break reason =
+    record { chart = chart; log = log; report = Judged (verdictFrom standing kept dropped records break reason) }
 
 -- a chart that is refused, with an empty log
 abbrev pub refusedChart : List ℕ → ℕ → ℕ → Example
@@ -48,19 +48,19 @@ refusedChart chart number offset = record { chart = chart; log = []; report = Re
 abbrev pub examples : List Example
 examples =
     -- X3 and X4
-    judgedU (undo 100 (references 120 (headings 140 []))) 0 1 0 3 0 0
-    ∷ judgedU (undo 100 (references 120 (headings 141 []))) 3 0 0 3 3 2
+    judged chartU (undo 100 (references 120 (headings 140 []))) 0 1 0 3 0 0
+    ∷ judged chartU (undo 100 (references 120 (headings 141 []))) 3 0 0 3 3 2
     -- X5 and X6
-    ∷ judgedU (undo 100 (headings 120 [])) 2 0 0 2 0 0
-    ∷ judgedU (undo 100 (headings 120 (headings 130 []))) 3 0 0 3 3 1
+    ∷ judged chartU (undo 100 (headings 120 [])) 2 0 0 2 0 0
+    ∷ judged chartU (undo 100 (headings 120 (headings 130 []))) 3 0 0 3 3 1
     -- X7
-    ∷ judgedU (undo 100 (undo 110 [])) 3 0 0 2 2 1
+    ∷ judged chartU (undo 100 (undo 110 [])) 3 0 0 2 2 1
     -- X8
-    ∷ judgedU (headings 5 []) 0 0 1 1 0 0
+    ∷ judged chartU (headings 5 []) 0 0 1 1 0 0
     -- X9
-    ∷ judgedU (undo 100 (message 3 2 3 110 [])) 2 0 0 2 0 0
+    ∷ judged chartU (undo 100 (message 3 2 3 110 [])) 2 0 0 2 0 0
     -- X10
-    ∷ judgedU [] 0 0 0 0 0 0
+    ∷ judged chartU [] 0 0 0 0 0 0
     -- X11
     ∷ record { chart = chartU; log = undo 100 (headings 99 []); report = Refused Log 22 9 }
     -- X13 (two charts) and X14
@@ -69,7 +69,10 @@ examples =
     ∷ refusedChart (0x10 ∷ 0x02 ∷ 0x01 ∷ 0x21 ∷ 0x00 ∷ 0x01 ∷ 0x40 ∷ 0x01 ∷ 0x50 ∷ 0x7f ∷ []) 9 3
     ∷ []
 
--- what is said of each example is what the definitions give that reading and judging cite
+-- what is said of an example is what the definitions give that reading and judging cite
+abbrev pub Says : Example → Type 0
+Says e = partsReport (e .chart) (e .log) ≡ e .report
+
 abbrev pub AllSaid : List Example → Type 0
 AllSaid [] = Unit {0}
-AllSaid (e ∷ es) = (partsReport (e .chart) (e .log) ≡ e .report) × AllSaid es
+AllSaid (e ∷ es) = Says e × AllSaid es

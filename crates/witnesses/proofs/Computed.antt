@@ -22,8 +22,9 @@ use Rattle.judge.specs.Verdict.{standingOf}
 use Rattle.text.specs.Text.{bytesOf, digitsOf}
 use Rattle.listing.specs.Listing.{verdictLines, refusalLine}
 use Rattle.respond.specs.Respond.{partsReport, reportOf, textOf}
+use Rattle.claims.specs.Examples.{Says}
 use Rattle.witnesses.specs.Each.{Each}
-use Rattle.witnesses.specs.Charts.{Says, refusals, limits}
+use Rattle.witnesses.specs.Charts.{refusals, limits}
 use Rattle.witnesses.specs.Rounds.{conditions, clocks, orders, logs}
 use Rattle.witnesses.specs.Feeds.{Answers, feeds}
 use Rattle.witnesses.specs.Formats.{Prints, texts, LastRecord, Formats}

@@ -1,87 +1,64 @@
 -- Charts, each worked out by hand from the rules: every refusal with its offset, and every limit.
-use mathlib.Core.Path.{_≡_}
 use mathlib.Core.List.{List, [], _∷_, _++_}
 use Prim.Native.String.{String}
 use Prim.Native.Nat.{ℕ, zero, suc}
-use Rattle.model.specs.Answers.{verdictFrom}
-use Rattle.listing.specs.declared.Part.the-variants.{Chart}
-use Rattle.listing.specs.declared.Report.{Report}
-use Rattle.listing.specs.declared.Report.the-variants.{Judged, Refused}
-use Rattle.respond.specs.Respond.{partsReport}
+use Rattle.claims.specs.Examples.{Example, judged, refusedChart}
 use Rattle.witnesses.specs.Hex.{hex}
 
--- a chart's bytes, a log's bytes, and what is said of them
-pub record Line : Type 0 where
-  pub chart : List ℕ
-  pub log : List ℕ
-  pub report : Report
-
--- through the definition that reading, judging and printing cite
-abbrev pub Says : Line → Type 0
-Says e = partsReport (e .chart) (e .log) ≡ e .report
-
--- a chart that is refused, with an empty log
-abbrev pub chartFault : List ℕ → ℕ → ℕ → Line
-chartFault chart number offset = record { chart = chart; log = []; report = Refused Chart number offset }
-
-abbrev pub judged : List ℕ → List ℕ → ℕ → ℕ → ℕ → ℕ → ℕ → ℕ → Line
-judged chart log standing kept dropped records break reason =
-    record { chart = chart; log = log; report = Judged (verdictFrom standing kept dropped records break reason) }
-
 -- Refusals 1 to 11. A chart's first command stands at 0; a command's operands follow it.
-abbrev pub refusals : List Line
+abbrev pub refusals : List Example
 refusals =
     -- 1: nine bytes, and no end among them
-    chartFault (hex "10 02 00 50 20 00 01 00 01") 1 9
+    refusedChart (hex "10 02 00 50 20 00 01 00 01") 1 9
     -- 1: the 20 at 4 has three of its four operand bytes
-    ∷ chartFault (hex "10 02 00 50 20 00 01 00") 1 4
+    ∷ refusedChart (hex "10 02 00 50 20 00 01 00") 1 4
     -- 2, before 3: neither a command nor a heading
-    ∷ chartFault (hex "00") 2 0
+    ∷ refusedChart (hex "00") 2 0
     -- 1, before 3: a term without its operands, and without a region
-    ∷ chartFault (hex "10 02 01 30") 1 3
+    ∷ refusedChart (hex "10 02 01 30") 1 3
     -- 3: no heading first; a second heading, before 4 for its one line; a second 50
-    ∷ chartFault (hex "50") 3 0
-    ∷ chartFault (hex "10 02 00 10 01 00") 3 3
-    ∷ chartFault (hex "10 02 00 50 50") 3 4
+    ∷ refusedChart (hex "50") 3 0
+    ∷ refusedChart (hex "10 02 00 10 01 00") 3 3
+    ∷ refusedChart (hex "10 02 00 50 50") 3 4
     -- 3: a term, whose half has no region yet
-    ∷ chartFault (hex "10 02 01 20 00 01 00 01 50 30 00 01 00 00 00 00") 3 9
+    ∷ refusedChart (hex "10 02 01 20 00 01 00 01 50 30 00 01 00 00 00 00") 3 9
     -- 3: a second 32, a second 40 for a region
-    ∷ chartFault (hex "10 02 01 50 20 00 01 00 01 32 32") 3 10
-    ∷ chartFault (hex "10 02 01 50 20 00 01 00 01 40 01 40 01") 3 11
+    ∷ refusedChart (hex "10 02 01 50 20 00 01 00 01 32 32") 3 10
+    ∷ refusedChart (hex "10 02 01 50 20 00 01 00 01 40 01 40 01") 3 11
     -- 3, before 6: a second 50, where the region at 9 is bare
-    ∷ chartFault (hex "10 02 01 50 20 00 01 00 01 21 00 01 50") 3 12
+    ∷ refusedChart (hex "10 02 01 50 20 00 01 00 01 21 00 01 50") 3 12
     -- 4: one line, seventeen lines, nine clocks
-    ∷ chartFault (hex "10 01 00") 4 0
-    ∷ chartFault (hex "10 11 00") 4 0
-    ∷ chartFault (hex "10 02 09") 4 0
+    ∷ refusedChart (hex "10 01 00") 4 0
+    ∷ refusedChart (hex "10 11 00") 4 0
+    ∷ refusedChart (hex "10 02 09") 4 0
     -- 4: line 2 of two; a message from a line to itself; no line; line 2 of two
-    ∷ chartFault (hex "10 02 00 20 00 02 00 01") 4 3
-    ∷ chartFault (hex "10 02 00 20 01 01 00 01") 4 3
-    ∷ chartFault (hex "10 02 01 20 00 01 00 01 21 00 00") 4 8
-    ∷ chartFault (hex "10 02 01 20 00 01 00 01 21 00 04") 4 8
+    ∷ refusedChart (hex "10 02 00 20 00 02 00 01") 4 3
+    ∷ refusedChart (hex "10 02 00 20 01 01 00 01") 4 3
+    ∷ refusedChart (hex "10 02 01 20 00 01 00 01 21 00 00") 4 8
+    ∷ refusedChart (hex "10 02 01 20 00 01 00 01 21 00 04") 4 8
     -- 4: a sixth relation; a clock minus itself; clock 1 of one; no clock
-    ∷ chartFault (hex "10 02 01 20 00 01 00 01 30 00 05 00 00 00 00") 4 8
-    ∷ chartFault (hex "10 02 01 20 00 01 00 01 31 00 00 00 00 00 00 00") 4 8
-    ∷ chartFault (hex "10 02 01 20 00 01 00 01 40 02") 4 8
-    ∷ chartFault (hex "10 02 01 20 00 01 00 01 40 00") 4 8
+    ∷ refusedChart (hex "10 02 01 20 00 01 00 01 30 00 05 00 00 00 00") 4 8
+    ∷ refusedChart (hex "10 02 01 20 00 01 00 01 31 00 00 00 00 00 00 00") 4 8
+    ∷ refusedChart (hex "10 02 01 20 00 01 00 01 40 02") 4 8
+    ∷ refusedChart (hex "10 02 01 20 00 01 00 01 40 00") 4 8
     -- 6, before 7: a plain region that is hot, and has no term and no reset
-    ∷ chartFault (hex "10 02 01 20 00 01 00 01 50 21 00 01 32 7F") 6 9
+    ∷ refusedChart (hex "10 02 01 20 00 01 00 01 50 21 00 01 32 7F") 6 9
     -- 6, before 4: the region at 9 is bare, and the 20 after it is of one line
-    ∷ chartFault (hex "10 02 01 50 20 00 01 00 01 21 00 01 20 00 00 00 01") 6 9
+    ∷ refusedChart (hex "10 02 01 50 20 00 01 00 01 21 00 01 20 00 00 00 01") 6 9
     -- 7: a hot message region without a term, and a hot plain one that has a reset
-    ∷ chartFault (hex "10 02 01 50 20 00 01 00 01 32 7F") 7 4
-    ∷ chartFault (hex "10 02 01 20 00 01 00 01 50 21 00 01 40 01 32 7F") 7 9
+    ∷ refusedChart (hex "10 02 01 50 20 00 01 00 01 32 7F") 7 4
+    ∷ refusedChart (hex "10 02 01 20 00 01 00 01 50 21 00 01 40 01 32 7F") 7 9
     -- 8: a 32 before the 50
-    ∷ chartFault (hex "10 02 01 20 00 01 00 01 32") 8 8
+    ∷ refusedChart (hex "10 02 01 20 00 01 00 01 32") 8 8
     -- 9: in a prechart, a line that no region before it touches; first in a main chart without a prechart
-    ∷ chartFault (hex "10 03 01 20 00 01 00 01 21 00 04") 9 8
-    ∷ chartFault (hex "10 02 01 50 21 00 01") 9 4
+    ∷ refusedChart (hex "10 03 01 20 00 01 00 01 21 00 04") 9 8
+    ∷ refusedChart (hex "10 02 01 50 21 00 01") 9 4
     -- 10: no 50; no region after it; before 11
-    ∷ chartFault (hex "10 02 00 7F") 10 3
-    ∷ chartFault (hex "10 02 00 20 00 01 00 01 50 7F") 10 9
-    ∷ chartFault (hex "10 02 00 7F 00") 10 3
+    ∷ refusedChart (hex "10 02 00 7F") 10 3
+    ∷ refusedChart (hex "10 02 00 20 00 01 00 01 50 7F") 10 9
+    ∷ refusedChart (hex "10 02 00 7F 00") 10 3
     -- 11: the end stands at 9, the first byte after it at 10
-    ∷ chartFault (hex "10 02 00 50 20 00 01 00 01 7F 7F 00") 11 10
+    ∷ refusedChart (hex "10 02 00 50 20 00 01 00 01 7F 7F 00") 11 10
     ∷ []
 
 -- n message regions, from 0 to 1 with label 1, and what follows them
@@ -102,18 +79,18 @@ abbrev pub ofTerms : ℕ → String → List ℕ
 ofTerms n rest = hex "10 02 01 20 00 01 00 01" ++ terms n (hex rest)
 
 -- The limits: 16 lines, 8 clocks, 32 regions, 4 terms.
-abbrev pub limits : List Line
+abbrev pub limits : List Example
 limits =
     -- 16 lines, 8 clocks: a message to line 15, on it a plain region that resets clock 7, both fired by one record
     judged (hex "10 10 08 50 20 00 0F 00 01 21 80 00 40 80 7F") (hex "01 00 0F 00 01 00 00 00 00") 0 1 0 1 0 0
     -- 32 regions are taken; the 33rd stands at 4 + 32 * 5: 5, also where none is above it, but 4 if it is of one line
     ∷ judged (ofRegions 32 "7F") [] 0 0 0 0 0 0
-    ∷ chartFault (ofRegions 33 "7F") 5 164
-    ∷ chartFault (ofRegions 32 "21 00 04") 5 164
-    ∷ chartFault (ofRegions 32 "20 00 00 00 01") 4 164
+    ∷ refusedChart (ofRegions 33 "7F") 5 164
+    ∷ refusedChart (ofRegions 32 "21 00 04") 5 164
+    ∷ refusedChart (ofRegions 32 "20 00 00 00 01") 4 164
     -- four terms are taken; the fifth stands at 8 + 4 * 7: 5, but 4 if it is of clock 1, which the chart has not
     ∷ judged (ofTerms 4 "50 20 00 01 00 02 7F") [] 0 0 0 0 0 0
-    ∷ chartFault (ofTerms 5 "") 5 36
-    ∷ chartFault (ofTerms 4 "30 01 01 00 00 00 28") 4 36
-    ∷ chartFault (ofTerms 4 "31 00 01 01 00 00 00 28") 4 36
+    ∷ refusedChart (ofTerms 5 "") 5 36
+    ∷ refusedChart (ofTerms 4 "30 01 01 00 00 00 28") 4 36
+    ∷ refusedChart (ofTerms 4 "31 00 01 01 00 00 00 28") 4 36
     ∷ []

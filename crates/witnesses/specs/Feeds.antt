@@ -1,6 +1,6 @@
 -- Feeds, each worked out by hand from the rules: every answer and every refusal, by its number.
 use mathlib.Core.Path.{_≡_}
-use mathlib.Core.List.{List, [], _∷_, _++_}
+use mathlib.Core.List.{List, [], _∷_}
 use Prim.Native.Nat.{ℕ}
 use lib.ListN.{replicate}
 use Rattle.model.specs.declared.Record.{Record}
@@ -14,13 +14,8 @@ use Rattle.model.specs.Answers.{answerNumber}
 use Rattle.chart_reader.specs.Read.{readChart}
 use Rattle.stepping.specs.Answers.{answerOf}
 use Rattle.monitor.specs.Feed.{feedOf}
-use Rattle.witnesses.specs.Hex.{hex}
+use Rattle.claims.specs.Examples.{chartU}
 use Rattle.witnesses.specs.Rounds.{chartP}
-
-abbrev pub chartU : List ℕ
-chartU =
-    hex "10 04 01 20 00 01 00 01 40 01 50 20 01 00 00 02 30 00 01 00 00 00 28 32"
-    ++ hex "20 02 03 00 03 30 00 01 00 00 00 28 32 7F"
 
 -- a message from a line to a line with a label, and a record of time
 abbrev pub message : ℕ → ℕ → ℕ → ℕ → Record

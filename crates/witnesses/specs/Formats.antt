@@ -13,11 +13,12 @@ use Rattle.judge.specs.Check.{stepAt}
 use Rattle.judge.specs.Verdict.{logRefusalNumber}
 use Rattle.text.specs.Text.{bytesOf}
 use Rattle.respond.specs.Respond.{textOf}
+use Rattle.claims.specs.Examples.{chartU, Says}
 use Rattle.witnesses.specs.Hex.{hex}
 use Rattle.witnesses.specs.Each.{Each}
-use Rattle.witnesses.specs.Charts.{Says, refusals, limits}
+use Rattle.witnesses.specs.Charts.{refusals, limits}
 use Rattle.witnesses.specs.Rounds.{conditions, clocks, orders, logs}
-use Rattle.witnesses.specs.Feeds.{chartU, Answers, feeds}
+use Rattle.witnesses.specs.Feeds.{Answers, feeds}
 
 -- an input, and the text that is printed for it
 pub record Print : Type 0 where

@@ -5,7 +5,7 @@ use Prim.Native.Nat.{ℕ}
 use Rattle.listing.specs.declared.Part.the-variants.{Log}
 use Rattle.listing.specs.declared.Report.the-variants.{Refused}
 use Rattle.witnesses.specs.Hex.{hex}
-use Rattle.witnesses.specs.Charts.{Line, judged}
+use Rattle.claims.specs.Examples.{Example, judged}
 
 -- One message, whose hot condition is a term of clock 0: its relation and n. The message's time is the clock's value.
 abbrev pub clockChart : String → List ℕ
@@ -14,10 +14,10 @@ clockChart term = hex "10 02 01 50 20 00 01 00 01 30 00" ++ (hex term ++ hex "32
 abbrev pub sentAt : String → List ℕ
 sentAt time = hex "01 00 01 00 01" ++ hex time
 
-abbrev pub holds : String → String → Line
+abbrev pub holds : String → String → Example
 holds term time = judged (clockChart term) (sentAt time) 0 1 0 1 0 0
 
-abbrev pub fails : String → String → Line
+abbrev pub fails : String → String → Example
 fails term time = judged (clockChart term) (sentAt time) 3 0 0 1 1 2
 
 -- Two messages: the first resets clock 0, the second's hot condition is a term of clock 0 minus clock 1, which is minus
@@ -28,14 +28,14 @@ differenceChart term = hex "10 02 02 20 00 01 00 01 40 01 50 20 00 01 00 02 31 0
 abbrev pub bothFrom : String → List ℕ
 bothFrom time = sentAt time ++ hex "01 00 01 00 02 FF FF FF FF"
 
-abbrev pub differs : String → String → Line
+abbrev pub differs : String → String → Example
 differs term time = judged (differenceChart term) (bothFrom time) 0 1 0 2 0 0
 
-abbrev pub misses : String → String → Line
+abbrev pub misses : String → String → Example
 misses term time = judged (differenceChart term) (bothFrom time) 3 0 0 2 2 2
 
 -- Each relation at its edge; n is signed.
-abbrev pub conditions : List Line
+abbrev pub conditions : List Example
 conditions =
     -- clock 0 at 9, 10 and 11: 0 is < 10
     holds "00 00 00 00 0A" "00 00 00 09"
@@ -105,7 +105,7 @@ abbrev pub fiveToTen : List ℕ
 fiveToTen = hex "10 02 01 50 20 00 01 00 01 30 00 03 00 00 00 05 30 00 01 00 00 00 0A 32 7F"
 
 -- Which clocks a condition sees, and what its failing does.
-abbrev pub clocks : List Line
+abbrev pub clocks : List Example
 clocks =
     judged (asked "00 01 02 00 00 00 14") threeSent 0 1 0 3 0 0
     ∷ judged (asked "01 00 02 FF FF FF EC") threeSent 0 1 0 3 0 0
@@ -132,7 +132,7 @@ abbrev pub turned : String → String → List ℕ
 turned a b = hex "01" ++ (hex b ++ (hex "00 02 00 00 00 01 01" ++ (hex a ++ hex "00 01 00 00 00 02")))
 
 -- Regions that share a line are in order; the second's message then comes too early.
-abbrev pub orders : List Line
+abbrev pub orders : List Example
 orders =
     -- one source; the first's destination, the second's source; one destination; the first's source, the second's end
     judged (two "00 01" "00 02") (turned "00 01" "00 02") 3 0 0 1 1 1
@@ -148,22 +148,22 @@ orders =
     ∷ judged (hex "10 03 01 20 00 01 00 01 50 21 00 04 40 01 7F") (sentAt "00 00 00 05") 0 1 0 1 0 0
     ∷ []
 
--- a prechart of labels 1 and 2, then a main chart of label 3, all from 0 to 1
+-- X17: a prechart of labels 1 and 2, from 0 to 1, then a main chart of label 3, from 1 to 0
 abbrev pub chartP : List ℕ
-chartP = hex "10 02 00 20 00 01 00 01 20 00 01 00 02 50 20 00 01 00 03 7F"
+chartP = hex "10 02 00 20 00 01 00 01 20 00 01 00 02 50 20 01 00 00 03 7F"
 
-abbrev pub logFault : String → ℕ → ℕ → Line
+abbrev pub logFault : String → ℕ → ℕ → Example
 logFault log number offset = record { chart = chartP; log = hex log; report = Refused Log number offset }
 
 -- Logs of that chart: standings, reasons and refusals. A message takes nine bytes, a time five.
-abbrev pub logs : List Line
+abbrev pub logs : List Example
 logs =
     -- 1 is in the prechart, 2 in the main chart, 0 nothing fired, 3 broken, here for want of a ready region
     judged chartP (hex "01 00 01 00 01 00 00 00 05") 1 0 0 1 0 0
     ∷ judged chartP (hex "01 00 01 00 01 00 00 00 05 01 00 01 00 02 00 00 00 05") 2 0 0 2 0 0
-    ∷ judged chartP (hex "01 00 01 00 01 00 00 00 05 01 00 01 00 02 00 00 00 05 01 00 01 00 03 00 00 00 06") 0 1 0 3 0 0
+    ∷ judged chartP (hex "01 00 01 00 01 00 00 00 05 01 00 01 00 02 00 00 00 05 01 01 00 00 03 00 00 00 06") 0 1 0 3 0 0
     ∷ judged chartP (hex "01 00 01 00 01 00 00 00 05 01 00 01 00 02 00 00 00 05 01 00 01 00 02 00 00 00 06") 3 0 0 3 3 1
-    -- label 1 twice is dropped, label 2 after it is dropped alone
+    -- X17: the second label 1 drops the round and is used up; label 2 drops the next
     ∷ judged chartP (hex "01 00 01 00 01 00 00 00 05 01 00 01 00 01 00 00 00 06 01 00 01 00 02 00 00 00 07") 0 0 2 3 0 0
     -- times, and label 256, are counted and do nothing more; equal times are taken, and the last moment
     ∷ judged chartP (hex "02 00 00 00 05 02 00 00 00 05 01 00 01 00 01 00 00 00 05") 1 0 0 3 0 0
