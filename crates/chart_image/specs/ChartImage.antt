@@ -21,8 +21,8 @@ abbrev pub chartSize : ℕ
 chartSize = 1348
 
 -- where region i starts
-abbrev pub regionPlace : ℕ → ℕ
-regionPlace i = 4 + i * 42
+abbrev pub regionOffset : ℕ → ℕ
+regionOffset i = 4 + i * 42
 
 -- V15: a term of one clock or of two
 abbrev pub leftOf : ℕ → ℕ → ℕ → Left
@@ -69,11 +69,11 @@ regionFits s at =
 
 -- the 32 regions
 unfoldable pub regionsIn : List ℕ → List Region
-regionsIn s = table mostRegions (λ i. regionIn s (regionPlace i))
+regionsIn s = table mostRegions (λ i. regionIn s (regionOffset i))
 
 -- the bytes are an image: of this length, and each byte has a meaning
 unfoldable pub isImage : List ℕ → Bool
-isImage s = eqb (length s) chartSize && allBelow mostRegions (λ i. regionFits s (regionPlace i))
+isImage s = eqb (length s) chartSize && allBelow mostRegions (λ i. regionFits s (regionOffset i))
 
 -- the chart value in an image; other bytes give a chart of zeros, which is no chart
 unfoldable pub chartValue : List ℕ → Chart

@@ -21,7 +21,7 @@ use Rattle.base.proofs.Bools.{both, and-both}
 use Rattle.base.proofs.Facts.{all-at, all-of}
 use Rattle.bitset.proofs.Laws.{within-true, lt-within}
 use Rattle.model.specs.Chart.{zeroTerm, zeroRegion, regionAt, termAt, isBare}
-use Rattle.chart_value.specs.WellFormed.{wellFormed, regionPlaced, placedAt, placeFits, regionFits, eventFits}
+use Rattle.chart_value.specs.WellFormed.{wellFormed, regionPlaced, placedAt, usedRegionFits, regionFits, eventFits}
 use Rattle.chart_value.specs.WellFormed.{termsFit, termPlaced, leftFits, isZeroTerm, isZeroRegion, isZeroLeft}
 use Rattle.chart_value.specs.WellFormed.{isLess, isZeroEvent}
 
@@ -48,7 +48,7 @@ pub record WellFormed (c : Chart) : Type 0 where
   pub clocks : c .clocks ≤ 8
   pub main : c .prechart < c .count
   pub room : c .count ≤ 32
-  pub used : (i : ℕ) → i < c .count → placeFits c (leb (c .prechart) i) i ≡ true
+  pub used : (i : ℕ) → i < c .count → usedRegionFits c (leb (c .prechart) i) i ≡ true
   pub unused : (i : ℕ) → c .count ≤ i → i < 32 → isZeroRegion (regionAt c i) ≡ true
 
 -- a chart with other regions
@@ -163,7 +163,7 @@ wf-of c e =
     let h = both _ _ (a .0) in
     let k = both _ _ (h .1) in
     let n = both _ _ (b .0) in
-    let p : (i : ℕ) → i < 32 → cond (ltb i (c .count)) (placeFits c (leb (c .prechart) i) i)
+    let p : (i : ℕ) → i < 32 → cond (ltb i (c .count)) (usedRegionFits c (leb (c .prechart) i) i)
     (isZeroRegion (regionAt c i)) ≡ true =
     all-at 32 (placedAt c) (b .1) in
     let room : c .count ≤ 32 = leb-true _ _ (n .1) in
@@ -185,6 +185,6 @@ of-wf c w =
     (all-of 32 (placedAt c) (λ i h. by i h (ltb i (c .count)) refl)))
   where
     by : (i : ℕ) → i < 32 → (b : Bool) → ltb i (c .count) ≡ b
-        → cond b (placeFits c (leb (c .prechart) i) i) (isZeroRegion (regionAt c i)) ≡ true
+        → cond b (usedRegionFits c (leb (c .prechart) i) i) (isZeroRegion (regionAt c i)) ≡ true
     by i h true e = w .used i (ltb-true _ _ e)
     by i h false e = w .unused i (ltb-false _ _ e) h

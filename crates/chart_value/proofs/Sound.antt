@@ -45,7 +45,7 @@ use Rattle.chart_step.specs.Reading.{withTerm, relationOf, begunWith, withRegio
 use Rattle.chart_step.specs.Reading.{isUnanchored, isMainless}
 use Rattle.chart_reader.specs.Read.{readChart, readFrom, continueBy, advanceOf, advanceBy, startReading}
 use Rattle.chart_reader.specs.Said.{Said, acceptedAs, refusedFor}
-use Rattle.chart_value.specs.WellFormed.{wellFormed, placeFits, regionFits, eventFits, leftFits, touchedBefore}
+use Rattle.chart_value.specs.WellFormed.{wellFormed, usedRegionFits, regionFits, eventFits, leftFits, touchedBefore}
 use Rattle.chart_value.specs.WellFormed.{isZeroRegion}
 use Rattle.bitset.specs.Set.{union, within}
 use Rattle.base.proofs.Bools.{both, and-both, neither}
@@ -61,7 +61,7 @@ pub record SoFar (c : Chart) (main : Bool) : Type 0 where
   pub room : c .count ≤ 32
   pub half : main ≡ false → c .prechart ≡ 0
   pub split : c .prechart ≤ c .count
-  pub used : (i : ℕ) → i < c .count → placeFits c (main && leb (c .prechart) i) i ≡ true
+  pub used : (i : ℕ) → i < c .count → usedRegionFits c (main && leb (c .prechart) i) i ≡ true
   pub terms : (i : ℕ) → i < c .count → length (regionAt c i .terms) ≡ 4
   pub unused : (i : ℕ) → c .count ≤ i → i < 32 → regionAt c i ≡ zeroRegion
 
@@ -151,12 +151,12 @@ module _ (c : Chart) (main : Bool) (s : SoFar c main) (g : Region) (w : Grows c 
       λ j. union (touched-set (c .regions) (c .count) g (c .count) (omega arith) j)
       (touched (getD-set-same (c .regions) (c .count) g absentRegion (omega arith) j .event))
 
-  put-used : (i : ℕ) → i ≤ c .count → Dec (i ≡ c .count) → placeFits one-more (main && leb (c .prechart) i) i ≡ true
+  put-used : (i : ℕ) → i ≤ c .count → Dec (i ≡ c .count) → usedRegionFits one-more (main && leb (c .prechart) i) i ≡ true
   put-used i h (yes e) =
       let z : length (c .regions) ≡ 32 = s .size in
       let l : c .count < 32 = w .room in
-      subst (λ (k : ℕ). placeFits one-more (main && leb (c .prechart) k) k ≡ true) (sym e)
-      (ap (λ (b : Bool). placeFits one-more b (c .count))
+      subst (λ (k : ℕ). usedRegionFits one-more (main && leb (c .prechart) k) k ≡ true) (sym e)
+      (ap (λ (b : Bool). usedRegionFits one-more b (c .count))
       (ap (λ (b : Bool). main && b) (le-leb (c .prechart) (c .count) (s .split)) ∙ and-true main)
       ∙ (λ j. regionFits (c .lines) (c .clocks) main (not main || eqb (c .prechart) 0)
       (touched-set (c .regions) (c .count) g (c .count) (omega arith) j)
@@ -380,8 +380,8 @@ cross r h c m =
             half = λ z. absurd (true≢false z);
             split = omega arith;
             used = λ i l.
-                ap (λ (b : Bool). placeFits (withMain r .chart) b i) (lt-leb (closed r .count) i l)
-                ∙ ap (λ (b : Bool). placeFits (closed r) b i)
+                ap (λ (b : Bool). usedRegionFits (withMain r .chart) b i) (lt-leb (closed r .count) i l)
+                ∙ ap (λ (b : Bool). usedRegionFits (closed r) b i)
                 (sym (ap (λ (b : Bool). b && leb (closed r .prechart) i) m)) ∙ s .used i l;
             terms = s .terms;
             unused = s .unused;
@@ -403,7 +403,7 @@ finish r c m e =
             clocks = s .clocks;
             main = lt-of-le-ne (s .split) (λ z. eqb-false _ _ e (sym z));
             room = s .room;
-            used = λ i l. ap (λ (b : Bool). placeFits (closed r) (b && leb (closed r .prechart) i) i) (sym m)
+            used = λ i l. ap (λ (b : Bool). usedRegionFits (closed r) (b && leb (closed r .prechart) i) i) (sym m)
                 ∙ s .used i l;
             unused = λ i l k. ap isZeroRegion (s .unused i l k) ∙ zero-is-zero;
           });

@@ -82,8 +82,8 @@ regionPlaced lines clocks prechart count i before g =
     (isZeroRegion g)
 
 -- the region at a place in use; `main` says whether it is in the main chart
-abbrev pub placeFits : Chart → Bool → ℕ → Bool
-placeFits c main i =
+abbrev pub usedRegionFits : Chart → Bool → ℕ → Bool
+usedRegionFits c main i =
     regionFits (c .lines) (c .clocks) main (not main || eqb (c .prechart) 0) (touchedBefore (c .regions) i)
     (regionAt c i)
 
@@ -95,8 +95,8 @@ abbrev pub headingFits : Chart → Bool
 headingFits c = leb leastLines (c .lines) && (leb (c .lines) mostLines && leb (c .clocks) mostClocks)
 
 -- M5: one main region at least, 32 regions at most
-abbrev pub countsFit : Chart → Bool
-countsFit c = ltb (c .prechart) (c .count) && leb (c .count) mostRegions
+abbrev pub regionCountsFit : Chart → Bool
+regionCountsFit c = ltb (c .prechart) (c .count) && leb (c .count) mostRegions
 
 unfoldable pub wellFormed : Chart → Bool
-wellFormed c = headingFits c && (countsFit c && allBelow mostRegions (placedAt c))
+wellFormed c = headingFits c && (regionCountsFit c && allBelow mostRegions (placedAt c))

@@ -19,7 +19,7 @@ ghost use Rattle.chart_reader.specs.Read.{readChart};
 ghost use Rattle.chart_reader.specs.Said.{acceptedAs};
 ghost use Rattle.chart_value.specs.WellFormed.{isZeroLeft, isLess, isZeroTerm, leftFits, termPlaced};
 ghost use Rattle.chart_value.specs.WellFormed.{termsFit, eventFits, regionFits, isZeroEvent, isZeroRegion};
-ghost use Rattle.chart_value.specs.WellFormed.{regionPlaced, headingFits, countsFit, wellFormed};
+ghost use Rattle.chart_value.specs.WellFormed.{regionPlaced, headingFits, regionCountsFit, wellFormed};
 ghost use Rattle.chart_value.specs.Writer.{chartBytes};
 ghost use Rattle.chart_value.specs.Given.{Given};
 ghost use Rattle.chart_value.specs.Guards.{NeverFire};
@@ -171,8 +171,8 @@ fn heading_fits(c: Chart) -> bool
     (LEAST_LINES <= c.lines) & ((c.lines <= MOST_LINES) & (c.clocks <= MOST_CLOCKS))
 }
 
-fn counts_fit(c: Chart) -> bool
-    ensures { λ r. ⌜ r ≡ countsFit c ⌝ }
+fn region_counts_fit(c: Chart) -> bool
+    ensures { λ r. ⌜ r ≡ regionCountsFit c ⌝ }
 {
     (c.prechart < c.count) & (c.count as usize <= MOST_REGIONS)
 }
@@ -195,7 +195,7 @@ pub fn well_formed(c: Chart) -> bool
         before = before | model::touched(e);
         i += 1;
     }
-    heading_fits(c) & (counts_fit(c) & ok)
+    heading_fits(c) & (region_counts_fit(c) & ok)
 }
 
 // What is true of every chart that accepted bytes are read as.

@@ -32,7 +32,7 @@ use Rattle.log_reader.specs.Record.{recordRefusalNumber, messageTag, timeTag, m
 use Rattle.log_reader.specs.Record.{said}
 use Rattle.log_reader.specs.Next.{nextAt}
 use Rattle.log_reader.specs.Records.{recordsFrom, recordsIn}
-use Rattle.log_reader.proofs.Places.{taken-past}
+use Rattle.log_reader.proofs.Offsets.{taken-past}
 use Rattle.log_reader.proofs.Records.{one-record}
 use Rattle.judge.specs.declared.LogRefusal.the-variants.{NoRecord, TimeFalls, TooManyRecords}
 use Rattle.judge.specs.declared.Checked.{Checked}

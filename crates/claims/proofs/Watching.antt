@@ -53,13 +53,13 @@ demands-read bytes c e =
 pub record SoFar (c : Chart) (s : List ℕ) (m : Monitor) (at left : ℕ) : Type 0 where
   pub before : Snoc Record
   pub ans : Snoc AbstractAnswer
-  pub run : History c before ans m
+  pub history : History c before ans m
   pub rest : recordsFrom left s at before ≡ recordsIn s
 
 pub at-start : {c : Chart} {s : List ℕ} (m : Monitor) → m ≡ zeroMonitor → SoFar c s m 0 (length s)
 unfolding recordsIn
 at-start {c} m e =
-    record { before = ε; ans = ε; run = subst (λ (x : Monitor). History c ε ε x) (sym e) none-yet; rest = refl }
+    record { before = ε; ans = ε; history = subst (λ (x : Monitor). History c ε ε x) (sym e) none-yet; rest = refl }
 
 module _ {c : Chart} {s : List ℕ} {m : Monitor} {at left : ℕ} (S : SoFar c s m at left) where
   pub fed-one : 0 < left → (e : Record) (past : ℕ) → nextAt s at ≡ Handed e past → (r : Step) → stepOf r ≡ feedOf c m e
@@ -67,12 +67,12 @@ module _ {c : Chart} {s : List ℕ} {m : Monitor} {at left : ℕ} (S : SoFar c s
   fed-one h e past q r f = record {
     before = S .before ▸ e;
     ans = _;
-    run = one-more e r (S .run) f;
+    history = one-more e r (S .history) f;
     rest = sym (one-record s at left h (S .before) (Handed e past) q) ∙ S .rest;
   }
 
   done : S .before ≡ recordsIn s → FedAll c (recordsIn s) m
-  done e = record { ans = S .ans; run = subst (λ (es : Snoc Record). History c es (S .ans) m) e (S .run) }
+  done e = record { ans = S .ans; history = subst (λ (es : Snoc Record). History c es (S .ans) m) e (S .history) }
 
   -- no record stands at the offset
   pub fed-none : 0 < left → nextAt s at ≡ End → FedAll c (recordsIn s) m
@@ -96,7 +96,7 @@ watched chart log x r e a z f = record {
   fed = fed;
   agrees = λ c q M.
       let D = demands-read chart c q in
-      subst (Agrees (chartOf c) (M .accepted) (M .stretches) (M .last)) (sym (D .feeding .leads (fed c q .run)))
+      subst (Agrees (chartOf c) (M .accepted) (M .stretches) (M .last)) (sym (D .feeding .leads (fed c q .history)))
       (D .third .monitor-agrees M .1);
 }
   where

@@ -22,7 +22,7 @@ use Rattle.claims.specs.declared.Watched.{Watched}
 -- the monitor m after feeding these records to a fresh one, with the answers given
 pub record FedAll (c : Chart) (es : Snoc Record) (m : Monitor) : Type 0 where
   pub ans : Snoc AbstractAnswer
-  pub run : History c es ans m
+  pub history : History c es ans m
 
 pub record Watches (chart log : List ℕ) (r : Watched) : Type 0 where
   -- reading the chart says this

@@ -23,7 +23,7 @@ fn digit(b: u8) -> u8
 // The first offset from `from` on, and before `to`, at which the byte stands; `to` if it stands at none.
 pub fn find(text: &[u8], from: usize, to: usize, byte: u8) -> usize
     requires { ⌜ (from ≤ to) × (to ≤ length (now text)) ⌝ }
-    ensures place { λ r. ⌜ r ≡ firstOf (now (text .entry)) from to byte ⌝ }
+    ensures offset { λ r. ⌜ r ≡ firstOf (now (text .entry)) from to byte ⌝ }
     ensures between { λ r. ⌜ (from ≤ r) × (r ≤ to) ⌝ }
     ensures unchanged { λ r. ⌜ now (text .exit) ≡ now (text .entry) ⌝ }
 {

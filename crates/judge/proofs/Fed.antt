@@ -13,7 +13,6 @@ use Rattle.bitset.specs.Set.{contains}
 use Rattle.bitset.proofs.Laws.{contains-empty, some-member}
 use Rattle.model.specs.declared.Monitor.{Monitor}
 use Rattle.model.specs.declared.Record.{Record}
-use Rattle.model.specs.declared.Record.the-variants.{Message, Time}
 use Rattle.model.specs.Monitor.{zeroMonitor}
 use Rattle.base.specs.Lists.{Snoc, ε, _▸_, allBelow}
 use Rattle.rounds.specs.Chart.{Chart as Abstract, Accepted}

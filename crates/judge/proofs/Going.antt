@@ -26,7 +26,7 @@ use Rattle.base.proofs.Bools.{clash}
 use Rattle.log_reader.specs.declared.Next.the-variants.{Handed}
 use Rattle.log_reader.specs.Next.{nextAt}
 use Rattle.log_reader.specs.Records.{recordsIn}
-use Rattle.log_reader.proofs.Places.{at-end, taken-past}
+use Rattle.log_reader.proofs.Offsets.{at-end, taken-past}
 use Rattle.stepping.specs.declared.Step.{Step}
 use Rattle.stepping.specs.Monitors.{monitorAt, stepOf, recordOf}
 use Rattle.layout.specs.View.{Covers}

@@ -18,7 +18,7 @@ use Rattle.judge.specs.declared.CheckStep.{CheckStep}
 use Rattle.judge.specs.declared.CheckStep.the-variants.{Over, Going}
 use Rattle.judge.specs.Check.{checkFrom, checkLog, continueBy, stepAt, stepBy}
 use Rattle.model.specs.Monitor.{timeOf}
-use Rattle.log_reader.proofs.Places.{at-end, taken-past}
+use Rattle.log_reader.proofs.Offsets.{at-end, taken-past}
 
 module _ (s : List ℕ) (at : ℕ) (last : Moment) (n : ℕ) where
   -- the check goes on past the record, and not past the end

@@ -6,7 +6,6 @@ use model::Chart;
 use model::MOST_RECORDS;
 use model::Moment;
 use model::Monitor;
-use model::Record;
 use model::TIME_FALLS;
 use model::TOO_MANY_RECORDS;
 use model::Verdict;

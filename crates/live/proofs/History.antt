@@ -35,4 +35,4 @@ pub runs-on : {l n : List ℕ} {e : Record} {number : ℕ} → LiveFed l e numbe
 runs-on F = λ chart es ans q. (F .by-chart .taken .answer, F .by-chart .ans, then-fed q F)
 
 pub live-claims : LiveClaims
-live-claims = record { exact = live-exact; runs = goes }
+live-claims = record { exact = live-exact; histories = goes }

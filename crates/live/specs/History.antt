@@ -31,5 +31,5 @@ pub record LiveClaims : Type 0 where
   -- V3: bytes hold a live monitor exactly if what `chartIn` gives for them is a chart
   pub exact : (l : List ℕ) → isLive l ≡ wellFormed (chartIn l)
   -- feeding live bytes is feeding the monitor in them
-  pub runs : {chart l : List ℕ} {es : Snoc Record} {ans : Snoc AbstractAnswer} → LiveHistory chart es ans l
+  pub histories : {chart l : List ℕ} {es : Snoc Record} {ans : Snoc AbstractAnswer} → LiveHistory chart es ans l
       → History (readChart chart .chart) es ans (monitorIn l)

@@ -61,7 +61,7 @@ pub fn open(chart: &[u8], live: &mut [u8]) -> Opened
     ensures answer { λ r. ⌜ r ≡ openedOf (now (chart .entry)) (length (now (live .entry))) ⌝ }
     ensures bytes { λ r. ⌜ now (live .exit) ≡ bytesOpened (now (chart .entry)) (now (live .entry)) ⌝ }
     ensures holds { λ r. ⌜ (r .number ≡ 0 → Holds (now (chart .entry)) (now (live .exit))) ⌝ }
-    ensures run { λ r. ⌜ (r .number ≡ 0 → LiveHistory (now (chart .entry)) ε ε (now (live .exit))) ⌝ }
+    ensures history { λ r. ⌜ (r .number ≡ 0 → LiveHistory (now (chart .entry)) ε ε (now (live .exit))) ⌝ }
     ensures unchanged { λ r. ⌜ now (chart .exit) ≡ now (chart .entry) ⌝ }
 {
     let read = chart_reader::read(chart);
@@ -137,7 +137,7 @@ pub fn feed_chart(chart: Chart, bytes: &mut [u8], e: Record) -> u8
 // One record fed to the live monitor.
 pub fn feed(live: &mut [u8], e: Record) -> u8
     ensures fed { λ r. ⌜ LiveFed (now (live .entry)) e r (now (live .exit)) ⌝ }
-    ensures run { λ r. ⌜ Extends (now (live .entry)) e r (now (live .exit)) ⌝ }
+    ensures history { λ r. ⌜ Extends (now (live .entry)) e r (now (live .exit)) ⌝ }
 {
     if live.len() < HEAD_SIZE {
         return model::NOT_A_CHART;
@@ -180,6 +180,6 @@ pub fn standing(live: &[u8]) -> LiveVerdict
 }
 
 // V3, V13: which bytes hold a live monitor, and that feeding them is feeding the monitor in them.
-pub fn live_runs()
+pub fn live_histories()
     ensures { λ r. ⌜ LiveClaims ⌝ }
 {}

@@ -1,3 +1,3 @@
-pub mod Places
+pub mod Offsets
 pub mod Records
 pub mod Said

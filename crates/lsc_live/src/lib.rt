@@ -22,7 +22,7 @@ pub extern "C" fn lsc_live_size(bytes: usize) -> usize
 #[no_mangle]
 pub extern "C" fn lsc_open(chart: &[u8], live: &mut [u8], at: &mut u64) -> u8
     ensures number { λ r. ⌜ r ≡ openedOf (now (chart .entry)) (length (now (live .entry))) .number ⌝ }
-    ensures place { λ r. ⌜ now (at .exit) ≡ openedOf (now (chart .entry)) (length (now (live .entry))) .at ⌝ }
+    ensures at { λ r. ⌜ now (at .exit) ≡ openedOf (now (chart .entry)) (length (now (live .entry))) .at ⌝ }
     ensures bytes { λ r. ⌜ now (live .exit) ≡ bytesOpened (now (chart .entry)) (now (live .entry)) ⌝ }
     ensures holds { λ r. ⌜ (r ≡ 0 → Holds (now (chart .entry)) (now (live .exit))) ⌝ }
     ensures unchanged { λ r. ⌜ now (chart .exit) ≡ now (chart .entry) ⌝ }

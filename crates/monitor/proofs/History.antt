@@ -84,17 +84,17 @@ module _ (c : Chart) (wf : wellFormed c ≡ true) (A : Accepted (chartOf c)) whe
   exists : (es : Snoc Record) → HistoryOver c es
   unfolding after
   exists ε =
-      record { ans = ε; monitor = zeroMonitor; run = none-yet; stored = record { bits = omega arith; places = refl } }
+      record { ans = ε; monitor = zeroMonitor; history = none-yet; stored = record { bits = omega arith; places = refl } }
   exists (es ▸ e) =
       let x = exists es in
-      let g = goes (x .run) in
+      let g = goes (x .history) in
       let w = wf-of c wf in
       let a = answered-as (chartOf c) (after (chartOf c) (logged es)) (logRecord e) in
       let n = stored-as (chartOf c) (w .room) (w .clocks) (D .stays-fit (logged (es ▸ e))) in
       record {
         ans = x .ans ▸ answerOf (a .answer);
         monitor = n .monitor;
-        run = one-more e (record { answer = a .answer; next = n .monitor }) (x .run)
+        history = one-more e (record { answer = a .answer; next = n .monitor }) (x .history)
             ((λ i. record { answer = a .tells i; next = n .shows i }) ∙ sym (fed-after g e));
         stored = n .stored;
       }

@@ -30,7 +30,7 @@ pub data History (c : Chart) : Snoc Record → Snoc AbstractAnswer → Monitor �
 pub record HistoryOver (c : Chart) (es : Snoc Record) : Type 0 where
   pub ans : Snoc AbstractAnswer
   pub monitor : Monitor
-  pub run : History c es ans monitor
+  pub history : History c es ans monitor
   pub stored : Stored monitor
 
 -- Feeding gives what the machine gives, over the abstract chart that c shows.

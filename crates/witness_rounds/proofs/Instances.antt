@@ -86,7 +86,7 @@ takes =
     let X : HistoryOver valueU (ε ▸ undo 100) = G .exists (ε ▸ undo 100) in
     let z : monitorAt zeroMonitor ≡ after U ε = zero-fresh in
     let L : monitorAt (X .monitor) ≡ feed U (monitorAt zeroMonitor) (logRecord (undo 100)) .next
-    = G .leads (X .run) ∙ ap (λ (m : AbstractMonitor). feed U m (logRecord (undo 100)) .next) (sym z) in
+    = G .leads (X .history) ∙ ap (λ (m : AbstractMonitor). feed U m (logRecord (undo 100)) .next) (sym z) in
     let P : Acceptable U (monitorAt zeroMonitor) (logRecord (undo 100))
     = record {
       fit = subst (Fit U) (sym z) (after-fit U accepted-u ε);

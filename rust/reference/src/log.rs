@@ -49,11 +49,11 @@ impl Verdict {
 }
 
 /// What the log reader says at an offset (E2 to E4).
-pub fn read_record(bytes: &[u8], place: usize) -> Next {
-    if place >= bytes.len() {
+pub fn read_record(bytes: &[u8], offset: usize) -> Next {
+    if offset >= bytes.len() {
         return Next::End;
     }
-    let rest = &bytes[place..];
+    let rest = &bytes[offset..];
     let length = match rest[0] {
         1 => 9,
         2 => 5,
@@ -63,7 +63,7 @@ pub fn read_record(bytes: &[u8], place: usize) -> Next {
         return Next::Refused(30);
     }
     match RecordValue::from_bytes(&rest[..length]) {
-        Some(record) => Next::Taken(record, place + length),
+        Some(record) => Next::Taken(record, offset + length),
         None => Next::Refused(31),
     }
 }
@@ -71,22 +71,22 @@ pub fn read_record(bytes: &[u8], place: usize) -> Next {
 /// The log's records, or its first fault (J2, J3).
 pub fn read_log(bytes: &[u8]) -> Result<Vec<RecordValue>, (u8, usize)> {
     let mut records: Vec<RecordValue> = Vec::new();
-    let mut place = 0;
+    let mut offset = 0;
     loop {
-        match read_record(bytes, place) {
+        match read_record(bytes, offset) {
             Next::End => return Ok(records),
-            Next::Refused(code) => return Err((code, place)),
+            Next::Refused(code) => return Err((code, offset)),
             Next::Taken(record, after) => {
                 if let Some(last) = records.last() {
                     if record.time() < last.time() {
-                        return Err((22, place));
+                        return Err((22, offset));
                     }
                 }
                 if records.len() == MAX_RECORDS as usize {
-                    return Err((23, place));
+                    return Err((23, offset));
                 }
                 records.push(record);
-                place = after;
+                offset = after;
             }
         }
     }

@@ -6,12 +6,12 @@ use native.Mathlib.Omega.{arith}
 use borrow.Author.Tests.{eq-eqb, ne-eqb}
 use Rattle.model.specs.Chart.{mostRegions}
 use Rattle.base.proofs.Loops.{AllSoFar, all-start, all-next, all-below}
-use Rattle.chart_image.specs.ChartImage.{regionPlace, regionFits, isImage}
+use Rattle.chart_image.specs.ChartImage.{regionOffset, regionFits, isImage}
 use Rattle.chart_image.proofs.is_image.Statement.{statement}
 use Rattle.chart_image.proofs.is_image.Tie as tie
 
 abbrev Inv-loop : tie.InvT-loop
-Inv-loop s ok₀ i₀ ok i = (i ≤ mostRegions) × AllSoFar (λ k. regionFits s (regionPlace k)) i ok
+Inv-loop s ok₀ i₀ ok i = (i ≤ mostRegions) × AllSoFar (λ k. regionFits s (regionOffset k)) i ok
 
 abbrev μ-loop : tie.MeasureT-loop
 μ-loop s ok₀ i₀ ok i = mostRegions - i

@@ -6,13 +6,13 @@ use native.Mathlib.Omega.{arith}
 use borrow.Author.Needs.{needs}
 use Rattle.base.proofs.Filled.{Filled, filled-none, filled-next, filled-whole}
 use Rattle.model.specs.Chart.{mostRegions, zeroRegion}
-use Rattle.chart_image.specs.ChartImage.{regionPlace, regionIn, regionsIn}
+use Rattle.chart_image.specs.ChartImage.{regionOffset, regionIn, regionsIn}
 use Rattle.chart_image.proofs.regions_at.Statement.{statement}
 use Rattle.chart_image.proofs.regions_at.Tie as tie
 
 abbrev Inv-loop : tie.InvT-loop
 Inv-loop s regions₀ i₀ regions i =
-    (i ≤ mostRegions) × (length regions ≡ mostRegions) × Filled zeroRegion (λ k. regionIn s (regionPlace k)) i regions
+    (i ≤ mostRegions) × (length regions ≡ mostRegions) × Filled zeroRegion (λ k. regionIn s (regionOffset k)) i regions
 
 abbrev μ-loop : tie.MeasureT-loop
 μ-loop s regions₀ i₀ regions i = mostRegions - i

@@ -1,8 +1,6 @@
 use Rattle.chart_value.proofs.Shown.{shown, codes-tell}
 use Rattle.chart_value.proofs.accepted_charts.Statement.{statement}
 use Rattle.chart_value.proofs.accepted_charts.Tie as tie
-use Rattle.chart_value.proofs.accepted_charts.Reads as reads
-use Rattle.chart_value.proofs.accepted_charts.Lts as lts
 
 returns : tie.Need-returns
 returns c = (shown, codes-tell)

@@ -1,9 +1,6 @@
 use borrow.Author.Needs.{needs}
 use Rattle.chart_value.proofs.event_fits.Statement.{statement}
 use Rattle.chart_value.proofs.event_fits.Tie as tie
-use Rattle.chart_value.proofs.event_fits.Reads as reads
-use Rattle.chart_value.proofs.event_fits.Lts as lts
-use Rattle.bitset.proofs.within.Reads as within-reads
 
 enum-known-e : tie.Need-enum-known-e
 enum-known-e c = search needs

@@ -1,8 +1,6 @@
 use Rattle.chart_value.proofs.Guards.{never-fire}
 use Rattle.chart_value.proofs.reader_guards.Statement.{statement}
 use Rattle.chart_value.proofs.reader_guards.Tie as tie
-use Rattle.chart_value.proofs.reader_guards.Reads as reads
-use Rattle.chart_value.proofs.reader_guards.Lts as lts
 
 returns : tie.Need-returns
 returns c = never-fire

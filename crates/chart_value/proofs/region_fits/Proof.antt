@@ -2,12 +2,6 @@ use Rattle.chart_value.specs.WellFormed.{regionFits}
 use borrow.Author.Needs.{needs}
 use Rattle.chart_value.proofs.region_fits.Statement.{statement}
 use Rattle.chart_value.proofs.region_fits.Tie as tie
-use Rattle.chart_value.proofs.region_fits.Reads as reads
-use Rattle.chart_value.proofs.region_fits.Lts as lts
-use Rattle.bitset.proofs.within.Reads as within-reads
-use Rattle.chart_value.proofs.event_fits.Reads as event-fits-reads
-use Rattle.chart_value.proofs.terms_fit.Reads as terms-fit-reads
-use Rattle.model.proofs.is_bare.Reads as is-bare-reads
 
 event-fits-requires : tie.Need-event-fits-requires
 event-fits-requires c κs = search needs

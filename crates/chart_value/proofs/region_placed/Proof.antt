@@ -3,10 +3,6 @@ use Rattle.chart_value.specs.WellFormed.{regionPlaced}
 use borrow.Author.Needs.{needs}
 use Rattle.chart_value.proofs.region_placed.Statement.{statement}
 use Rattle.chart_value.proofs.region_placed.Tie as tie
-use Rattle.chart_value.proofs.region_placed.Reads as reads
-use Rattle.chart_value.proofs.region_placed.Lts as lts
-use Rattle.chart_value.proofs.is_zero_region.Reads as is-zero-region-reads
-use Rattle.chart_value.proofs.region_fits.Reads as region-fits-reads
 
 region-fits-requires : tie.Need-region-fits-requires
 region-fits-requires c κs = search needs

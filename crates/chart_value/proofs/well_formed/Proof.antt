@@ -60,8 +60,8 @@ loop-again c =
 heading-fits-requires : tie.Need-heading-fits-requires Inv-loop μ-loop
 heading-fits-requires c κs = search needs
 
-counts-fit-requires : tie.Need-counts-fit-requires Inv-loop μ-loop
-counts-fit-requires c κs = search needs
+region-counts-fit-requires : tie.Need-region-counts-fit-requires Inv-loop μ-loop
+region-counts-fit-requires c κs = search needs
 
 returns : tie.Need-returns Inv-loop μ-loop
 unfolding wellFormed
@@ -69,7 +69,7 @@ returns c =
     let l = c .before .before .before .loop in
     let e : l .i ≡ mostRegions = omega arith in
     promised (c .before .before .before .before .args .t1) _ (c .before .before .before .before .good .0) _
-    (rw (c .counts-fit .ensures, c .before .heading-fits .ensures, all-below mostRegions (l .inv .2) e))
+    (rw (c .region-counts-fit .ensures, c .before .heading-fits .ensures, all-below mostRegions (l .inv .2) e))
 
 pub well-formed-spec : {M : Type 1} → statement M
 well-formed-spec =
@@ -88,5 +88,5 @@ well-formed-spec =
     loop-less
     loop-again
     heading-fits-requires
-    counts-fit-requires
+    region-counts-fit-requires
     returns)

@@ -6,7 +6,7 @@ use borrow.Author.Needs.{needs}
 use lib.ListN.{length}
 use Rattle.model.specs.declared.Moment.{Moment}
 use Rattle.layout.specs.View.{planChart}
-use Rattle.log_reader.proofs.Places.{taken-past}
+use Rattle.log_reader.proofs.Offsets.{taken-past}
 use Rattle.judge.proofs.Fed.{fit-here, fed-none, fed-bad, fed-broken}
 use Rattle.judge.proofs.Going.{slot-covers, Going, going-start, some-left, going-end, taken-later, taken-few}
 use Rattle.judge.proofs.Going.{taken-one, going-on}

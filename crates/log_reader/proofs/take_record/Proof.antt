@@ -98,8 +98,8 @@ module _ {M : Type 1} (𝓤 : URA M) (H : Heap 𝓤) (A : Atoms 𝓤) (mem : Mem
   abbrev ReadRecord : Contract 𝓤
   ReadRecord = tripleOf 𝓤 H A read.signature (read.spec 𝓤 H A mem run)
 
-  abbrev PlaceAfter : Contract 𝓤
-  PlaceAfter = tripleOf 𝓤 H A after.signature (after.spec 𝓤 H A mem run)
+  abbrev OffsetAfter : Contract 𝓤
+  OffsetAfter = tripleOf 𝓤 H A after.signature (after.spec 𝓤 H A mem run)
 
 module _ {M : Type 1} (𝓤 : URA M) (H : Heap 𝓤) (A : Atoms 𝓤) (W : Given 𝓤 H A) (at-mem : Memory → SProp 𝓤)
     (run : Routine → Fun 𝓤) (κ κ′ : Lft) (q q′ : Share) (bounds : AllOutlive 2 (take.signature .outlives) (κ, (κ′, tt)))
@@ -173,11 +173,11 @@ module _ {M : Type 1} (𝓤 : URA M) (H : Heap 𝓤) (A : Atoms 𝓤) (W : Given
       (fact 𝓤 (ReadSaid r)))
 
   -- the call of `offset_after`, at the result r with the machine value u
-  abbrev to-after : Next → Val → PlaceAfter 𝓤 H A at-mem run .Ghost
+  abbrev to-after : Next → Val → OffsetAfter 𝓤 H A at-mem run .Ghost
   to-after r u = ((tt, tt, tt, (h .offset, (r, tt)), (vint w64 (h .offset) ∷ [], (u ∷ [], tt))), tt)
 
   goes-after : h .offset < 2 ^ 64 → (r : Next) (u : Val)
-      → ent 𝓤 (sem 𝓤 H A (S.the-row .own r (u ∷ []))) (PlaceAfter 𝓤 H A at-mem run .pre (to-after r u))
+      → ent 𝓤 (sem 𝓤 H A (S.the-row .own r (u ∷ []))) (OffsetAfter 𝓤 H A at-mem run .pre (to-after r u))
   goes-after fits r u =
       qed W (‵ (S.the-row .own r (u ∷ [])) ∷ []) ∵ nothing ! $ move ! (1 ∷ 0 ∷ []) $ fjoin ! $
       owned ! usize (Is usize) (uint-makes 𝓤 H A W w64) (h .offset) _ (refl, fits) $ fjoin ! $
@@ -209,7 +209,7 @@ module _ {M : Type 1} (𝓤 : URA M) (H : Heap 𝓤) (A : Atoms 𝓤) (W : Given
 
   module _ (C : Calls 𝓤 H) (Λ : Loops 𝓤 H) (fm : FmC 𝓤 H (W .laws) C)
       (known-read : Triple 𝓤 (C #log-reader·read-record) (ReadRecord 𝓤 H A at-mem run))
-      (known-after : Triple 𝓤 (C #log-reader·offset-after) (PlaceAfter 𝓤 H A at-mem run)) where
+      (known-after : Triple 𝓤 (C #log-reader·offset-after) (OffsetAfter 𝓤 H A at-mem run)) where
     walk : ent 𝓤 (onEntry 𝓤 H A take.signature (κ, (κ′, tt)) (q, (q′, tt)) x at)
         (WpFn 𝓤 H C Λ code.function (vptr b o ∷ []) Post)
     walk =
@@ -252,8 +252,8 @@ module _ {M : Type 1} (𝓤 : URA M) (H : Heap 𝓤) (A : Atoms 𝓤) (W : Given
         land ! (from ! (stop !)) (init ! 12 refl (EL.lawful S.the-type S′.the-laws 𝓤 H A W tt .typed r _ is .0)) $
         use1 W (‵ (S.the-row .own r (u ∷ [])) ⊛ ‵ (S.the-row .own r (u ∷ [])))
         (EL.copy S.the-type S′.the-copy 𝓤 H A W .twice r (u ∷ [])) $ split ! $
-        use1 W (raw (PlaceAfter 𝓤 H A at-mem run .pre (to-after r u))) (goes-after fits r u) $
-        calls-at ! fm (PlaceAfter 𝓤 H A at-mem run) known-after (to-after r u)
+        use1 W (raw (OffsetAfter 𝓤 H A at-mem run .pre (to-after r u))) (goes-after fits r u) $
+        calls-at ! fm (OffsetAfter 𝓤 H A at-mem run) known-after (to-after r u)
         (and-then ! (load ! (from ! (stop !)) (look ! 15 refl))
         (and-then ! (load ! (from ! (stop !)) (look ! 13 refl)) (no-more !))) (λ w.
         use1 W (later (some (λ (p : ℕ). (‵ ftrue ⊛ ‵ (usize .own p (w ∷ []))) ⊛
@@ -289,7 +289,7 @@ module _ {M : Type 1} (𝓤 : URA M) (H : Heap 𝓤) (A : Atoms 𝓤) (W : Given
     (run : Routine → Fun 𝓤) where
   take-record-walks : (C : Calls 𝓤 H) (Λ : Loops 𝓤 H) → FmC 𝓤 H (W .laws) C
       → Triple 𝓤 (C #log-reader·read-record) (ReadRecord 𝓤 H A mem run)
-      → Triple 𝓤 (C #log-reader·offset-after) (PlaceAfter 𝓤 H A mem run)
+      → Triple 𝓤 (C #log-reader·offset-after) (OffsetAfter 𝓤 H A mem run)
       → Walks 𝓤 H A take.ended stayed (WpFn 𝓤 H C Λ code.function) (take.clauses 𝓤 H A mem run)
   take-record-walks C Λ fm known-read known-after = walked 𝓤 H A take.ended stayed (take.clauses 𝓤 H A mem run)
       (WpFn 𝓤 H C Λ code.function) (λ κs. (ptr-vals, tt)) (λ κs. (mut-tells (named 0) (κs .0) (B (κs .1 .0)), tt))
@@ -300,7 +300,7 @@ module _ {M : Type 1} (𝓤 : URA M) (H : Heap 𝓤) (A : Atoms 𝓤) (W : Given
 take-record-meets : {M : Type 1} (𝓤 : URA M) (H : Heap 𝓤) (A : Atoms 𝓤) (W : Given 𝓤 H A) (mem : Memory → SProp 𝓤)
     (run : Routine → Fun 𝓤) (𝓣 : Tables 𝓤 H)
     → Triple 𝓤 (𝓣 .C #log-reader·read-record) (ReadRecord 𝓤 H A mem run)
-    → Triple 𝓤 (𝓣 .C #log-reader·offset-after) (PlaceAfter 𝓤 H A mem run)
+    → Triple 𝓤 (𝓣 .C #log-reader·offset-after) (OffsetAfter 𝓤 H A mem run)
     → Meets 𝓤 H A take.signature (WpFn 𝓤 H (𝓣 .C) (𝓣 .Λ) code.function) (take.spec 𝓤 H A mem run)
 take-record-meets 𝓤 H A W mem run 𝓣 known-read known-after = walk-meets 𝓤 H A take.ended stayed W
     (goes-ref 𝓤 H A W 2 0 tt behind, tt) (take.clauses 𝓤 H A mem run) (WpFn 𝓤 H (𝓣 .C) (𝓣 .Λ) code.function)
@@ -317,6 +317,6 @@ take-record-spec 𝓤 H 𝓜 𝓖 𝓡 =
     (cited 𝓤 H (ReadRecord 𝓤 H (𝓖 .A) (𝓜 .mem)
     (𝓡 .run)) 𝓜 𝓡 code.env #log-reader·read-record read-def.routine code.calls-log-reader·read-record
     (read-thm.met 𝓤 H 𝓜 𝓖 𝓡))
-    (cited 𝓤 H (PlaceAfter 𝓤 H (𝓖 .A) (𝓜 .mem)
+    (cited 𝓤 H (OffsetAfter 𝓤 H (𝓖 .A) (𝓜 .mem)
     (𝓡 .run)) 𝓜 𝓡 code.env #log-reader·offset-after after-def.routine code.calls-log-reader·offset-after
     (after-thm.met 𝓤 H 𝓜 𝓖 𝓡)))

@@ -1,7 +1,6 @@
 use mathlib.Core.Path.{sym, ap, _∙_}
 use borrow.Author.Needs.{needs}
 use Prim.Native.Nat.{ℕ}
-use Rattle.judge.specs.Verdict as judge
 use Rattle.chart_reader.specs.Said as read
 use Rattle.listing.specs.declared.Part.the-variants as part
 use Rattle.listing.specs.declared.Report.the-variants.{Refused}
