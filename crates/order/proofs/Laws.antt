@@ -22,13 +22,13 @@ use Rattle.order.specs.Order.{isOver, gathered, aboveSets, aboveOf, Deci
 use Rattle.order.specs.Above.{SharedLine, SameHalf, Over, Above, inPrechart, inMain, direct, halves, first, then}
 
 -- a common line is a common member
-shared : (s t : ℕ) → not (eqb (bitAnd s t) 0) ≡ true → SharedLine s t
+pub shared : (s t : ℕ) → not (eqb (bitAnd s t) 0) ≡ true → SharedLine s t
 shared s t e =
     let m = some-member (bitAnd s t) (λ z. eqb-false _ _ (not-true _ e) z) in
     let b = both (contains s (m .0)) (contains t (m .0)) (sym (contains-and s t (m .0)) ∙ m .1) in
     record { line = m .0; one = b .0; other = b .1 }
 
-not-empty : (s t : ℕ) → SharedLine s t → not (eqb (bitAnd s t) 0) ≡ true
+pub not-empty : (s t : ℕ) → SharedLine s t → not (eqb (bitAnd s t) 0) ≡ true
 not-empty s t l =
     ap not
     (ne-eqb _ _
