@@ -7,8 +7,9 @@ use lib.ListN.{length, getD}
 use Rattle.chart_command.specs.declared.Command.{Command}
 use Rattle.chart_command.specs.declared.Decoded.{Decoded}
 use Rattle.chart_command.specs.declared.Decoded.the-variants.{CutShort, Unknown}
-use Rattle.chart_command.specs.Command.{headingByte, messageByte, plainByte, clockTermByte, differenceTermByte}
-use Rattle.chart_command.specs.Command.{hotByte, resetsByte, mainByte, endByte, operands, decodeByte, decodeAt}
+use Rattle.chart_command.specs.Bytes.{headingByte, messageByte, plainByte, clockTermByte, differenceTermByte}
+use Rattle.chart_command.specs.Bytes.{hotByte, resetsByte, mainByte, endByte}
+use Rattle.chart_command.specs.Command.{operands, decodeByte, decodeAt}
 
 module _ (s : List ℕ) (at : ℕ) (P : Decoded → Type 0) (cut : P CutShort) (unknown : P Unknown)
     (taken : (n : ℕ) (c : Command) → P (operands s at n c)) where

@@ -5,39 +5,13 @@ use mathlib.Core.List.{List}
 use lib.ListN.{getD, length}
 use lib.Dec.{eqb, leb}
 use Rattle.wire.specs.Bytes.{word16, word32}
+use Rattle.chart_command.specs.Bytes.{headingByte, messageByte, plainByte, clockTermByte, differenceTermByte}
+use Rattle.chart_command.specs.Bytes.{hotByte, resetsByte, mainByte, endByte}
 use Rattle.chart_command.specs.declared.Command.{Command}
 use Rattle.chart_command.specs.declared.Command.the-variants.{Heading, Message, Plain, ClockTerm, DifferenceTerm}
 use Rattle.chart_command.specs.declared.Command.the-variants.{Hot, Resets, Main, End}
 use Rattle.chart_command.specs.declared.Decoded.{Decoded}
 use Rattle.chart_command.specs.declared.Decoded.the-variants.{CutShort, Unknown, Known}
-
--- The command bytes.
-abbrev pub headingByte : ℕ
-headingByte = 0x10
-
-abbrev pub messageByte : ℕ
-messageByte = 0x20
-
-abbrev pub plainByte : ℕ
-plainByte = 0x21
-
-abbrev pub clockTermByte : ℕ
-clockTermByte = 0x30
-
-abbrev pub differenceTermByte : ℕ
-differenceTermByte = 0x31
-
-abbrev pub hotByte : ℕ
-hotByte = 0x32
-
-abbrev pub resetsByte : ℕ
-resetsByte = 0x40
-
-abbrev pub mainByte : ℕ
-mainByte = 0x50
-
-abbrev pub endByte : ℕ
-endByte = 0x7f
 
 -- A command at `at` with n operand bytes, and the offset of the next one; or R4: 1, too few bytes are left
 abbrev pub operands : List ℕ → ℕ → ℕ → Command → Decoded

@@ -16,8 +16,9 @@ use Rattle.chart_command.specs.declared.Command.the-variants.{Heading, Message,
 use Rattle.chart_command.specs.declared.Command.the-variants.{Resets, Main, End}
 use Rattle.chart_command.specs.declared.Decoded.{Decoded}
 use Rattle.chart_command.specs.declared.Decoded.the-variants as decoded
-use Rattle.chart_command.specs.Command.{headingByte, messageByte, plainByte, clockTermByte, differenceTermByte, hotByte}
-use Rattle.chart_command.specs.Command.{resetsByte, mainByte, endByte, decodeAt, decodeByte, operands}
+use Rattle.chart_command.specs.Bytes.{headingByte, messageByte, plainByte, clockTermByte, differenceTermByte, hotByte}
+use Rattle.chart_command.specs.Bytes.{resetsByte, mainByte, endByte}
+use Rattle.chart_command.specs.Command.{decodeAt, decodeByte, operands}
 use Rattle.chart_step.specs.declared.Reading.{Reading}
 use Rattle.chart_step.specs.declared.Step.{Step}
 use Rattle.chart_step.specs.declared.Fault.{Fault}

@@ -24,7 +24,7 @@ use Rattle.model.specs.declared.Left.the-variants.{Clock, Difference}
 use Rattle.model.specs.declared.Relation.{Relation}
 use Rattle.model.specs.declared.Relation.the-variants.{Less, AtMost, Equal, AtLeast, More}
 use Rattle.model.specs.Chart.{zeroTerm, zeroRegion, absentRegion, regionAt, termAt, touched}
-use Rattle.chart_command.specs.Command.{resetsByte, mainByte, endByte}
+use Rattle.chart_command.specs.Bytes.{resetsByte, mainByte, endByte}
 use Rattle.chart_command.specs.declared.Command.the-variants.{Message, Plain}
 use Rattle.chart_step.specs.declared.Reading.{Reading}
 use Rattle.chart_step.specs.declared.Fault.the-variants.{Nothing}

@@ -18,8 +18,8 @@ use Rattle.model.specs.declared.Left.the-variants.{Clock, Difference}
 use Rattle.model.specs.declared.Relation.{Relation}
 use Rattle.model.specs.declared.Relation.the-variants.{Less, AtMost, Equal, AtLeast, More}
 use Rattle.model.specs.Chart.{regionAt, termAt}
-use Rattle.chart_command.specs.Command.{headingByte, messageByte, plainByte, clockTermByte, differenceTermByte, hotByte}
-use Rattle.chart_command.specs.Command.{resetsByte, mainByte, endByte}
+use Rattle.chart_command.specs.Bytes.{headingByte, messageByte, plainByte, clockTermByte, differenceTermByte, hotByte}
+use Rattle.chart_command.specs.Bytes.{resetsByte, mainByte, endByte}
 use Rattle.chart_value.specs.WellFormed.{leftFits, eventFits}
 use Rattle.chart_value.specs.Writer.{chartBytes, regionsBytes, regionBytes, eventBytes, termsBytes, leftBytes}
 use Rattle.chart_value.specs.Writer.{hotBytes, relationByte, two, four}

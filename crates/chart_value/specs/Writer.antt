@@ -14,8 +14,8 @@ use Rattle.model.specs.declared.Left.the-variants.{Clock, Difference}
 use Rattle.model.specs.declared.Relation.{Relation}
 use Rattle.model.specs.declared.Relation.the-variants.{Less, AtMost, Equal, AtLeast, More}
 use Rattle.model.specs.Chart.{regionAt, termAt}
-use Rattle.chart_command.specs.Command.{headingByte, messageByte, plainByte, clockTermByte, differenceTermByte, hotByte}
-use Rattle.chart_command.specs.Command.{resetsByte, mainByte, endByte}
+use Rattle.chart_command.specs.Bytes.{headingByte, messageByte, plainByte, clockTermByte, differenceTermByte, hotByte}
+use Rattle.chart_command.specs.Bytes.{resetsByte, mainByte, endByte}
 
 -- a number in two bytes, or in four, and what follows it; most significant byte first
 abbrev pub two : ℕ → List ℕ → List ℕ
