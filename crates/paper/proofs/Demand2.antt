@@ -6,7 +6,7 @@ use Rattle.paper.proofs.Prompts.{prompt-run}
 use Rattle.paper.proofs.Unique.{one-prompt}
 use Rattle.paper.proofs.Words.{delay-shifts, no-delay, no-step, no-advancement, not-silent, no-message}
 use Rattle.paper.proofs.Words.{no-synchronization, step-follows, hot-stays, holding-stays, main-in-cut}
-use Rattle.paper.proofs.Satisfying.{satisfied-exactly}
+use Rattle.paper.proofs.Satisfying.{satisfied-exactly, main-starts}
 use Rattle.paper.proofs.Taking.{same-monitor, given, only}
 use Rattle.paper.proofs.Reading.{all-given, all-only, as-rows}
 use Rattle.paper.proofs.Chains.{row-is-prompt, prompt-is-row}
@@ -25,6 +25,7 @@ demand-2 C A = record {
   prompt-is-run = prompt-run C;
   satisfied-exactly = satisfied-exactly C A;
   one-prompt = one-prompt C A;
+  main-starts = main-starts C;
   row-is-prompt = row-is-prompt C A;
   prompt-is-row = prompt-is-row C A;
   decided = λ M o s e h. decided C A (rw h at (M .fed)) e;

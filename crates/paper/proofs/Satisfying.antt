@@ -167,3 +167,9 @@ module _ (C : Chart) where
             let b : 1 ≤ left (z .cut) = counted (C .regions) (λ j. not (z .cut j)) i h (ap not q) in
             absurd (omega arith)
       ]
+
+  -- the cut to which the prechart's run leads has no region of the main chart
+  pub main-starts : {w : Snoc Letter} (S : Satisfies C (C .prechart) w) (i : ℕ) → C .prechart ≤ i
+      → S .end .cut i ≡ false
+  unfolding Maximal
+  main-starts S i h = elim (split (S .end .cut i)) [ inl q ↦ absurd (omega (arith, h, S .maximal i .0 q)) | inr q ↦ q ]

@@ -27,7 +27,7 @@ use Rattle.rounds.proofs.Moments.{chartMessages-take, chartMessages-skip}
 use Rattle.rounds.proofs.Rows.{lawful-before, one-row}
 use Rattle.rounds.proofs.Rounds.{placeOf}
 use Rattle.rounds.proofs.Endings.{ended, Comes, on, keeps, drops, breaks}
-use Rattle.rounds.proofs.Feeds.{feed-unbroken, comes-unbroken, agrees}
+use Rattle.rounds.proofs.Feeds.{feed-unbroken, comes-unbroken, besides, agrees}
 use Rattle.rounds.proofs.Exactly.{exactly}
 use Rattle.rounds.proofs.Fitness.{after-fit}
 use Rattle.paper.specs.Runs.{Config, Letter, delay, message, initial, _·_, strip, IsCut, Maximal, Prompt, Over}
@@ -240,7 +240,8 @@ module _ (C : Chart) where
       comes-here : (e : LogRecord) → refusal rs e ≡ none
           → Comes C A o s e (stands-at .row) (stands-at .lawful) (after C fs) (feed C (after C fs) e)
       comes-here e h =
-          rw (feed-unbroken C (after C fs) e (agrees C A F .1), h) (comes-unbroken C A e (after C fs) stands-at)
+          rw (feed-unbroken C (after C fs) e (agrees C A F .1), h) (comes-unbroken C A e (after C fs) stands-at
+          (besides C A F (stands-at .row) (stands-at .lawful)))
 
       pub entered-satisfies : (e : LogRecord) → feed C (after C fs) e .answer ≡ entered
           → (P : Reaches C o (s ▸ e) (configAt C (e .time) (feed C (after C fs) e .next .place)))

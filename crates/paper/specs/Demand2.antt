@@ -130,6 +130,9 @@ pub record Demand2 (C : Chart) : Type 0 where
       → (P .letters ≡ P′ .letters) × (z ≡ z′)
   -- S12, of the letters of a prompt run from the opening: its cut decides, whatever other runs take a beginning of them
   pub satisfied-exactly : {w : Snoc Letter} {z : Config} → Prompt C initial w z → SatisfiesExactly C w (z .cut)
+  -- S5: a run that satisfies the prechart ends where the main chart starts
+  pub main-starts : {w : Snoc Letter} (S : Satisfies C (C .prechart) w) (i : ℕ) → C .prechart ≤ i
+      → S .end .cut i ≡ false
   -- S16: lawful rows and prompt runs from the opening are one for one, and a row shows the configuration to which its
   -- run leads
   pub row-is-prompt : (o : ℕ) (s : Snoc LogRecord) (r : Row) → Rising o (chartMessages C s) → Lawful C o s r

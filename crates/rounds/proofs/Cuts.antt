@@ -12,7 +12,7 @@ use Rattle.rounds.specs.Machine.{Monitor, Step, after}
 use Rattle.rounds.specs.Demand3.{Unbroken, AtLast, Agrees, Meaning, Same}
 use Rattle.base.proofs.Facts.{found, none-some}
 use Rattle.rounds.proofs.Endings.{one-outcome, ended, Comes, on, keeps, drops, breaks}
-use Rattle.rounds.proofs.Feeds.{comes-unbroken, agrees}
+use Rattle.rounds.proofs.Feeds.{comes-unbroken, besides, agrees}
 
 module _ (C : Chart) (A : Accepted C) where
   meant : {fs : Snoc LogRecord} {ans : Snoc Answer} {rs : Snoc LogRecord} {es : Snoc Stretch} {last : Last}
@@ -36,7 +36,7 @@ module _ (C : Chart) (A : Accepted C) where
   extend fs e ans rs es (unended o s) F = elim (found (refusal rs e)) [
     | inl h ↦
         let T : Unbroken C o s (after C fs) = agrees C A F .1 .at-last in
-        extended F e h (T .row) (T .lawful) (comes-unbroken C A e (after C fs) T)
+        extended F e h (T .row) (T .lawful) (comes-unbroken C A e (after C fs) T (besides C A F (T .row) (T .lawful)))
     | inr f ↦ meant (one-more F (refuses (f .0) (f .1)))
   ]
 

@@ -15,7 +15,7 @@ use Rattle.rounds.specs.Machine.{Monitor, Step, goOn, keepRound, dropRou
 use Rattle.rounds.specs.Demand3.{Unbroken, AtLast, Agrees, Meaning}
 use Rattle.rounds.proofs.Rows.{one-row}
 use Rattle.rounds.proofs.Endings.{unlawful, Comes, on, keeps, drops, breaks}
-use Rattle.rounds.proofs.Feeds.{feed-unbroken, comes-unbroken, agrees}
+use Rattle.rounds.proofs.Feeds.{feed-unbroken, comes-unbroken, Besides, besides, agrees}
 
 -- the answers by kinds, of which none has two
 abbrev kind : Answer → ℕ
@@ -93,4 +93,6 @@ module _ (C : Chart) (A : Accepted C) where
   exactly {fs} M o s e p h =
       let G : Agrees C (M .accepted) (M .stretches) (unended o s) (after C fs) = rw p at (agrees C A (M .fed) .1) in
       let T : Unbroken C o s (after C fs) = G .at-last in
-      rw (feed-unbroken C (after C fs) e G, h) (exact o s e (T .row) (T .lawful) (comes-unbroken C A e (after C fs) T))
+      let B : Besides C A (unended o s) (M .accepted) = rw p at (besides C A (M .fed)) in
+      rw (feed-unbroken C (after C fs) e G, h)
+      (exact o s e (T .row) (T .lawful) (comes-unbroken C A e (after C fs) T (B (T .row) (T .lawful))))

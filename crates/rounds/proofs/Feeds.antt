@@ -1,5 +1,5 @@
 -- The machine's answers and monitor after a list of feeds are what the list means. Assumes nothing.
-use mathlib.Core.Path.{_≡_, refl, ap, ap₂, _∙_, subst, fun-ext}
+use mathlib.Core.Path.{_≡_, refl, sym, ap, ap₂, _∙_, subst, fun-ext}
 use mathlib.Core.Logic.{_≢_, inl, inr}
 use mathlib.Core.Bool.{false, not}
 use Prim.Native.Nat.{ℕ, suc}
@@ -11,7 +11,8 @@ use Rattle.model.specs.Answers.{mostRecords}
 use Rattle.rounds.specs.Chart.{Chart, Accepted}
 use Rattle.rounds.specs.Rows.{LogRecord, Row, stands, chartMessages, messageRegions, opened, resetMoment, Lawful}
 use Rattle.rounds.specs.Rows.{Full}
-use Rattle.rounds.specs.Feeds.{lastMoment, refusal, Outcome, Stretch, Last, unended, lastAfter, Ends, Answer}
+use Rattle.rounds.specs.Feeds.{lastMoment, refusal, Outcome, kept, dropped, broken, Stretch, Last, unended}
+use Rattle.rounds.specs.Feeds.{afterBreak, lastAfter, Ends, Answer}
 use Rattle.rounds.specs.Feeds.{refused, brokenAt, ending, Onward, FedOne, refuses, runs-on, ends, again, Fed}
 use Rattle.rounds.specs.Feeds.{none-yet, one-more}
 use Rattle.rounds.specs.Machine.{Monitor, Step, opening, goOn, keepRound, dropRound, breakRound, accept, feed}
@@ -60,7 +61,6 @@ module _ (C : Chart) (A : Accepted C) where
   opens-unbroken t m f c b r = record {
     row = ε;
     lawful = opens t;
-    lacks-one = opening-lacks C A;
     has-fired = f;
     has-clocks = c;
     no-break = b;
@@ -69,8 +69,37 @@ module _ (C : Chart) (A : Accepted C) where
 
   -- what an accepted record comes to
   pub comes-unbroken : {o : ℕ} {s : Snoc LogRecord} (e : LogRecord) (m : Monitor) (T : Unbroken C o s m)
+      → ¬ Full C (stands (T .row))
       → Comes C A o s e (T .row) (T .lawful) m (accept C m e)
-  comes-unbroken {o} {s} e m T = comes C A o s e (T .row) (T .lawful) m (T .has-fired) (T .has-clocks) (T .lacks-one)
+  comes-unbroken {o} {s} e m T l = comes C A o s e (T .row) (T .lawful) m (T .has-fired) (T .has-clocks) l
+
+  -- what follows from the list besides: no lawful row of the last stretch is complete; a record was accepted before a
+  -- break
+  abbrev pub Besides : Last → Snoc LogRecord → Type 0
+  Besides (unended o s) rs = (r : Row) → Lawful C o s r → ¬ Full C (stands r)
+  Besides (afterBreak k) rs = size rs ≢ 0
+
+  besides-opened : (t : ℕ) (rs : Snoc LogRecord) → Besides (unended t ε) rs
+  besides-opened t rs r L =
+      subst (λ (x : Row). ¬ Full C (stands x)) (one-row C A t ε ε r (opens t) L) (opening-lacks C A)
+
+  besides-after : (x : Outcome) (t : ℕ) (rs : Snoc LogRecord) (e : LogRecord) → Besides (lastAfter x t) (rs ▸ e)
+  besides-after kept t rs e = besides-opened t (rs ▸ e)
+  besides-after dropped t rs e = besides-opened t (rs ▸ e)
+  besides-after (broken k) t rs e = λ z. omega (arith, z)
+
+  besides-one : {rs rs′ : Snoc LogRecord} {es es′ : Snoc Stretch} {last last′ : Last} {e : LogRecord} {a : Answer}
+      → FedOne C rs es e last a rs′ es′ last′ → Besides last rs → Besides last′ rs′
+  besides-one (refuses k h) B = B
+  besides-one {e} (runs-on {o} {s} h q r a M L f O) B =
+      λ r′ L′. subst (λ (x : Row). ¬ Full C (stands x)) (one-row C A o (s ▸ e) r r′ L L′) f
+  besides-one {rs} {e} (ends h x E) B = besides-after x (e .time) rs e
+  besides-one again B = B
+
+  pub besides : {fs : Snoc LogRecord} {ans : Snoc Answer} {rs : Snoc LogRecord} {es : Snoc Stretch} {last : Last}
+      → Fed C fs ans rs es last → Besides last rs
+  besides none-yet = besides-opened 0 ε
+  besides (one-more F N) = besides-one N (besides F)
 
   record StepAgrees (a : Answer) (rs : Snoc LogRecord) (es : Snoc Stretch) (last : Last) (v : Step) : Type 0 where
     answer : v .answer ≡ a
@@ -97,7 +126,6 @@ module _ (C : Chart) (A : Accepted C) where
             at-last = record {
               row = r′;
               lawful = L′;
-              lacks-one = h′;
               has-fired = refl;
               has-clocks = refl;
               no-break = refl;
@@ -147,26 +175,28 @@ module _ (C : Chart) (A : Accepted C) where
             records = ap suc (G .records);
             kept = G .kept;
             dropped = G .dropped;
-            at-last = record { at-last-accepted = ap suc (G .records); not-zero = λ z. omega arith; of-stretch = refl };
+            at-last = record { at-last-accepted = ap suc (G .records); of-stretch = refl };
           };
         })
 
   -- one feed to a monitor that agrees
   feed-agrees : {rs rs′ : Snoc LogRecord} {es es′ : Snoc Stretch} {last last′ : Last} {e : LogRecord} {a : Answer}
       (m : Monitor)
-      → Agrees C rs es last m → FedOne C rs es e last a rs′ es′ last′ → StepAgrees a rs′ es′ last′ (feed C m e)
+      → Agrees C rs es last m → Besides last rs → FedOne C rs es e last a rs′ es′ last′
+      → StepAgrees a rs′ es′ last′ (feed C m e)
   unfolding AtLast
-  feed-agrees {e} m G (refuses k h) = rw (feed-unbroken C m e G, h) (record { answer = refl; next = G })
-  feed-agrees {rs} {es} {e} m G (runs-on {o} {s} h p r a M L nf O) =
+  feed-agrees {e} m G B (refuses k h) = rw (feed-unbroken C m e G, h) (record { answer = refl; next = G })
+  feed-agrees {rs} {es} {e} m G B (runs-on {o} {s} h p r a M L nf O) =
       let T : Unbroken C o s m = G .at-last in
       rw (feed-unbroken C m e G, h)
-      (after-on m rs es o s e (T .row) (T .lawful) G (comes-unbroken e m T) p r a M L nf O)
-  feed-agrees {rs} {es} {e} m G (ends {o} {s} h x E) =
+      (after-on m rs es o s e (T .row) (T .lawful) G (comes-unbroken e m T (B (T .row) (T .lawful))) p r a M L nf O)
+  feed-agrees {rs} {es} {e} m G B (ends {o} {s} h x E) =
       let T : Unbroken C o s m = G .at-last in
-      rw (feed-unbroken C m e G, h) (after-ends m rs es o s e (T .row) (T .lawful) G (comes-unbroken e m T) x E)
-  feed-agrees {rs} {e} m G (again {k}) =
+      rw (feed-unbroken C m e G, h)
+      (after-ends m rs es o s e (T .row) (T .lawful) G (comes-unbroken e m T (B (T .row) (T .lawful))) x E)
+  feed-agrees {rs} {e} m G B (again {k}) =
       let T : Broken k rs m = G .at-last in
-      rw (feed-broken C m e (T .not-zero))
+      rw (feed-broken C m e (λ z. B (sym (T .at-last-accepted) ∙ z)))
       (record { answer = ap₂ brokenAt (T .at-last-accepted) (T .of-stretch); next = G })
 
   starts : (answers C ε ≡ ε) × Agrees C ε ε (unended 0 ε) (after C ε)
@@ -189,7 +219,7 @@ module _ (C : Chart) (A : Accepted C) where
   unfolding answers after
   agrees none-yet = starts
   agrees (one-more {fs} {ans} {e} F N) =
-      let S = feed-agrees (after C fs) (agrees F .1) N in
+      let S = feed-agrees (after C fs) (agrees F .1) (besides F) N in
       (ap₂ {C = Snoc Answer} (λ l b. l ▸ b) (agrees F .0) (S .answer), S .next)
 
   pub monitor-agrees : {fs : Snoc LogRecord} (M : Meaning C fs)

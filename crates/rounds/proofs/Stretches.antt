@@ -1,14 +1,17 @@
 -- Each stretch of a list's meaning, by the feeds that made it: the round ran on up to each record before its end.
 -- Assumes nothing.
-use mathlib.Core.Path.{_≡_, refl, subst}
+use mathlib.Core.Path.{_≡_, refl, sym, subst, _∙_}
 use Prim.Native.Nat.{ℕ}
-use Rattle.base.specs.Lists.{Snoc, ε, _▸_, EachIn, all-of-it, shorter}
+use Rattle.base.specs.Lists.{Snoc, ε, _▸_, EachIn, Beginning, all-of-it, shorter}
 use Rattle.rounds.specs.Chart.{Chart, Accepted}
 use Rattle.rounds.specs.Rows.{LogRecord, Row, stands, Lawful, Full}
 use Rattle.rounds.specs.Feeds.{Outcome, kept, dropped, broken, Stretch, Last, unended, afterBreak, lastAfter}
+use Rattle.rounds.specs.Feeds.{Ends}
 use Rattle.rounds.specs.Feeds.{Answer, FedOne, refuses, runs-on, ends, again, Fed, none-yet, one-more}
 use Rattle.rounds.specs.Demand3.{RunsOn, Ended, Meaning}
+use Rattle.base.proofs.Facts.{snoc-same-init, snoc-same-last}
 use Rattle.rounds.proofs.Machine.{opening-lacks}
+use Rattle.rounds.proofs.Endings.{one-outcome, ended}
 use Rattle.rounds.proofs.Feeds.{opens}
 
 module _ (C : Chart) (A : Accepted C) where
@@ -59,3 +62,25 @@ module _ (C : Chart) (A : Accepted C) where
   pub last-stretch : {fs : Snoc LogRecord} (M : Meaning C fs) (o : ℕ) (s : Snoc LogRecord) → M .last ≡ unended o s
       → RunsOn C o s
   last-stretch M o s q = subst AtLast q (cuts (M .fed) .running)
+
+  -- a round that ran on up to its last record but one did not end before
+  same-end : (o : ℕ) (x y : Outcome) {l m : Snoc LogRecord} (s t : Snoc LogRecord) (d e : LogRecord)
+      → l ≡ s ▸ d → m ≡ t ▸ e → RunsOn C o s → RunsOn C o t → Ends C o s d x → Ends C o t e y → Beginning l m
+      → (l ≡ m) × (x ≡ y)
+  unfolding RunsOn
+  same-end o x y s t d e p q R U E G all-of-it =
+      let i : t ≡ s = snoc-same-init (sym q ∙ p) in
+      let j : e ≡ d = snoc-same-last (sym q ∙ p) in
+      let r = R s all-of-it in
+      (refl, one-outcome C A o s d (r .0) (r .1) E (rw (i, j) at G))
+  same-end o x y s t d e p q R U E G (shorter b) =
+      let r = U (s ▸ d) (rw (p, snoc-same-init q) at b) in
+      let n = R s all-of-it in
+      ended C A o s d (n .0) (n .1) E (r .0) (r .1) (r .2)
+
+  pub ends-once : (x y : Stretch) → Ended C x → Ended C y → x .opening ≡ y .opening
+      → Beginning (x .records) (y .records) → x ≡ y
+  ends-once x y X Y q b =
+      let s = same-end (x .opening) (x .outcome) (y .outcome) (X .before) (Y .before) (X .last) (Y .last)
+      (X .parts) (Y .parts) (X .ran-on) (rw (← q) at (Y .ran-on)) (X .ends) (rw (← q) at (Y .ends)) b in
+      λ i. record { opening = q i; records = s .0 i; outcome = s .1 i }

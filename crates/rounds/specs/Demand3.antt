@@ -1,6 +1,5 @@
 -- The third demand, of one chart: the rules on lists of feeds, rows and stretches (W9 to W29).
 use mathlib.Core.Path.{_≡_}
-use mathlib.Core.Logic.{_≢_}
 use mathlib.Core.Option.{none}
 use Prim.Native.Nat.{ℕ}
 use Rattle.base.specs.Lists.{Snoc, _▸_, size, EachIn, Beginning}
@@ -14,7 +13,6 @@ use Rattle.rounds.specs.Machine.{Monitor, feed, after, answers, Fit}
 -- W27, after a broken stretch: how many records were accepted, and its reason
 pub record Broken (k : ℕ) (rs : Snoc LogRecord) (m : Monitor) : Type 0 where
   pub at-last-accepted : m .tally .broken .at ≡ size rs
-  pub not-zero : m .tally .broken .at ≢ 0
   pub of-stretch : m .tally .broken .reason ≡ k
 
 module _ (C : Chart) where
@@ -23,7 +21,6 @@ module _ (C : Chart) where
   pub record Unbroken (o : ℕ) (s : Snoc LogRecord) (m : Monitor) : Type 0 where
     pub row : Row
     pub lawful : Lawful C o s row
-    pub lacks-one : ¬ Full C (stands row)
     pub has-fired : m .place .fired ≡ stands row
     pub has-clocks : m .place .clocks ≡ resetMoment C o (chartMessages C s) row
     pub no-break : m .tally .broken .at ≡ 0
@@ -80,6 +77,9 @@ pub record Demand3 (C : Chart) : Type 0 where
   pub each-stretch : {fs : Snoc LogRecord} (M : Meaning C fs) → EachIn (λ before x. Ended C x) (M .stretches)
   pub last-stretch : {fs : Snoc LogRecord} (M : Meaning C fs) (o : ℕ) (s : Snoc LogRecord)
       → M .last ≡ unended o s → RunsOn C o s
+  -- W14: no stretch ends twice: of two from one opening, the one a beginning of the other, both are one
+  pub ends-once : (x y : Stretch) → Ended C x → Ended C y → x .opening ≡ y .opening
+      → Beginning (x .records) (y .records) → x ≡ y
   -- W9: a stretch has one lawful row at most
   pub one-row : (o : ℕ) (s : Snoc LogRecord) (r r′ : Row) → Lawful C o s r → Lawful C o s r′ → r ≡ r′
   -- W18: and at most one if the conditions of its last record are waived
