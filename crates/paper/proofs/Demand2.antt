@@ -6,12 +6,12 @@ use Rattle.paper.proofs.Prompts.{prompt-run}
 use Rattle.paper.proofs.Unique.{one-prompt}
 use Rattle.paper.proofs.Words.{delay-shifts, no-delay, no-step, no-advancement, not-silent, no-message}
 use Rattle.paper.proofs.Words.{no-synchronization, step-follows, hot-stays, holding-stays, main-in-cut}
-use Rattle.paper.proofs.Satisfying.{satisfied-exactly, main-starts}
+use Rattle.paper.proofs.Satisfying.{satisfied-exactly, completed-whole, main-starts}
 use Rattle.paper.proofs.Taking.{same-monitor, given, only}
 use Rattle.paper.proofs.Reading.{all-given, all-only, as-rows}
 use Rattle.paper.proofs.Chains.{row-is-prompt, prompt-is-row}
 use Rattle.paper.proofs.Wholes.{monitor-is-cut, round-is-prompt, kept-satisfies, entered-satisfies, decided}
-use Rattle.paper.proofs.Wholes.{broken-violates}
+use Rattle.paper.proofs.Wholes.{broken-violates, violated-exactly}
 
 pub demand-2 : (C : Chart) → Accepted C → Demand2 C
 demand-2 C A = record {
@@ -46,5 +46,7 @@ demand-2 C A = record {
   round-is-prompt = λ M o s h. round-is-prompt C A (rw h at (M .fed));
   entered-satisfies = λ M o s e h. entered-satisfies C A (rw h at (M .fed)) e;
   kept-satisfies = λ M o s e h. kept-satisfies C A (rw h at (M .fed)) e;
+  completed-whole = completed-whole C;
   broken-violates = λ M o s e h. broken-violates C A (rw h at (M .fed)) e;
+  violated-exactly = λ M o s e h. violated-exactly C A (rw h at (M .fed)) e;
 }

@@ -11,15 +11,14 @@ use Rattle.base.specs.Lists.{Snoc, ε, _▸_}
 use Rattle.model.specs.Answers.{timeFalls, tooManyRecords, mostRecords}
 use Rattle.rounds.specs.Chart.{Chart, Accepted}
 use Rattle.rounds.specs.Rows.{LogRecord, values}
-use Rattle.rounds.specs.Feeds.{Last, unended, afterBreak, Answer, refused, brokenAt}
+use Rattle.rounds.specs.Feeds.{Answer, refused, brokenAt}
 use Rattle.rounds.specs.Machine.{Monitor, Step, fresh, feed, after, answers, Fit}
-use Rattle.rounds.specs.Demand3.{AtLast, Meaning}
+use Rattle.rounds.specs.Demand3.{Agrees, Meaning}
 use Rattle.base.proofs.Bools.{split}
 use Rattle.rounds.proofs.Feeds.{monitor-agrees}
 use Rattle.rounds.proofs.Fitness.{after-fit}
-use Rattle.paper.specs.Runs.{Config, initial, configAt, configOf}
+use Rattle.paper.specs.Runs.{Config, initial, configAt}
 use Rattle.paper.specs.Taken.{Status, statusOf, Acceptable, Read, nothing, takes, falls, overflows, stays-broken}
-use Rattle.paper.specs.Demand2.{StatusAtLast, StatusAgrees}
 use Rattle.paper.proofs.Taking.{given, only}
 
 module _ (C : Chart) where
@@ -119,29 +118,10 @@ module _ (C : Chart) (A : Accepted C) where
   pub all-only : (fs : Snoc LogRecord) (ans : Snoc Answer) (x : Status) → Read C fs ans x → ReadsAs fs ans x
   all-only fs ans x R = reads-as R
 
-  at-last-of : (last : Last) (rs : Snoc LogRecord) (m : Monitor) → AtLast C last rs m
-      → StatusAtLast C last rs (statusOf C m)
-  unfolding AtLast StatusAtLast configAt configOf
-  at-last-of (unended o s) rs m T = (
-    T .no-break,
-    T .no-reason,
-    T .row,
-    T .lawful,
-    λ i. record { cut = T .has-fired i; valuation = values C (m .tally .now) (T .has-clocks i) },
-  )
-  at-last-of (afterBreak k) rs m T = (T .at-last-accepted, T .of-stretch)
-
   pub as-rows : {fs : Snoc LogRecord} (M : Meaning C fs) (ans : Snoc Answer) (x : Status) → Read C fs ans x
-      → (ans ≡ M .ans) × StatusAgrees C (M .accepted) (M .stretches) (M .last) x
+      → (ans ≡ M .ans)
+      × (m : Monitor) × Agrees C (M .accepted) (M .stretches) (M .last) m × (x ≡ statusOf C m)
   as-rows {fs} M ans x R =
       let I = reads-as R in
-      let G = monitor-agrees C A M in (
-        I .0 ∙ G .0,
-        rw (I .1) (record {
-          now = G .1 .now;
-          records = G .1 .records;
-          kept = G .1 .kept;
-          dropped = G .1 .dropped;
-          at-last = at-last-of (M .last) (M .accepted) (after C fs) (G .1 .at-last);
-        }),
-      )
+      let G = monitor-agrees C A M in
+      (I .0 ∙ G .0, after C fs, G .1, I .1)

@@ -14,10 +14,10 @@ use Rattle.rounds.specs.Chart.{Chart, Accepted}
 use Rattle.rounds.specs.Rows.{Ready, Full, PrechartDone}
 use Rattle.base.proofs.Bools.{split, clash}
 use Rattle.base.proofs.Facts.{count-falls}
-use Rattle.paper.specs.Runs.{Config, Letter, message, silent, delay, initial, _·_, add, synchronization}
+use Rattle.paper.specs.Runs.{Config, Letter, message, silent, delay, initial, _·_, strip, add, synchronization}
 use Rattle.paper.specs.Runs.{silent-advancement, premature-termination, time-delay, Run, here, step, Maximal}
 use Rattle.paper.specs.Runs.{Satisfies, Prompt, begins, settles, goes}
-use Rattle.paper.specs.Demand2.{SatisfiesExactly}
+use Rattle.paper.specs.Demand2.{CompletedBy, SatisfiesExactly}
 use Rattle.paper.proofs.Prompts.{prompt-run}
 use Rattle.paper.proofs.Words.{run-is-cut, full-completes, done-satisfies}
 
@@ -167,6 +167,18 @@ module _ (C : Chart) where
             let b : 1 ≤ left (z .cut) = counted (C .regions) (λ j. not (z .cut j)) i h (ap not q) in
             absurd (omega arith)
       ]
+
+  -- silent letters leave nothing of a word
+  strip-silent : (w u : Snoc Letter) → strip u ≡ ε → strip (w · u) ≡ strip w
+  strip-silent w ε q = refl
+  strip-silent w (u ▸ message k) q = absurd (let z : _≡_ {A = ℕ} 0 1 = cc in omega arith)
+  strip-silent w (u ▸ silent) q = strip-silent w u q
+  strip-silent w (u ▸ delay d) q = absurd (let z : _≡_ {A = ℕ} 0 1 = cc in omega arith)
+
+  pub completed-whole : (n : ℕ) (w : Snoc Letter) (K : CompletedBy C n w) → strip (K .satisfies .prefix) ≡ strip w
+  completed-whole n w K =
+      let S : Satisfies C n w = K .satisfies in
+      sym (ap strip (S .parts) ∙ strip-silent (S .prefix) (S .rest) (K .nothing-more))
 
   -- the cut to which the prechart's run leads has no region of the main chart
   pub main-starts : {w : Snoc Letter} (S : Satisfies C (C .prechart) w) (i : ℕ) → C .prechart ≤ i

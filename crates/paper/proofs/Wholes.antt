@@ -16,7 +16,7 @@ use Rattle.rounds.specs.Rows.{LogRecord, Row, stands, chartMessage, chartMessag
 use Rattle.rounds.specs.Feeds.{lastMoment, refusal, kept, dropped, broken, Outcome, Stretch, Last, unended, afterBreak}
 use Rattle.rounds.specs.Feeds.{lastAfter, Answer, refused, brokenAt, keptNow, droppedNow, entered, moved, quiet, Onward}
 use Rattle.rounds.specs.Feeds.{completes-prechart, fires, stays, FedOne, refuses, runs-on, ends, again, Fed, none-yet}
-use Rattle.rounds.specs.Feeds.{one-more, Exactly}
+use Rattle.rounds.specs.Feeds.{one-more, SaysDroppedOrBroken, Exactly}
 use Rattle.rounds.specs.Machine.{Place, Move, stuck, fails, rests, offer, prechartDone, full, Monitor, Step, goOn}
 use Rattle.rounds.specs.Machine.{keepRound, dropRound, breakRound, conclude, accept, feed, after}
 use Rattle.rounds.specs.Demand3.{Unbroken, AtLast}
@@ -37,6 +37,7 @@ use Rattle.paper.proofs.Parts.{Failure, at-once, later}
 use Rattle.paper.proofs.Prompts.{prompt-run, goes-on, silents-prompt}
 use Rattle.paper.proofs.Steps.{failure-of}
 use Rattle.paper.proofs.Words.{run-is-cut, full-completes, message-completes, done-satisfies, main-follows}
+use Rattle.paper.proofs.Satisfying.{satisfied-exactly}
 use Rattle.paper.proofs.Chains.{shown, past, row-step, row-is-prompt, prompt-is-row}
 
 -- no other answer is a broken one
@@ -425,3 +426,30 @@ module _ (C : Chart) where
           → Violated C o (s ▸ e)
       broken-violates e n k a =
           violated e (not-refused e (brokenAt n k) (λ j u. absurd (let z : _≡_ {A = ℕ} 0 1 = cc in omega arith)) a) a
+
+      pub violated-exactly : (e : LogRecord) → refusal rs e ≡ none
+          → Violated C o (s ▸ e)
+          ↔ (SaysDroppedOrBroken (feed C (after C fs) e .answer)
+          × (u v : Snoc Letter) × (z : Config) × (word C o (s ▸ e) ≡ strip u · v) × Prompt C initial u z
+          × PrechartDone C (z .cut))
+      violated-exactly e h =
+          let D = decided e h .dropped-or-broken-exactly in (
+            λ x. (
+              D .1 (x .none-whole),
+              x .beginning,
+              x .rest,
+              x .end,
+              x .parts,
+              x .run,
+              satisfied-exactly C A (x .run) .prechart .0 (x .prechart),
+            ),
+            λ t. record {
+              beginning = t .1;
+              rest = t .2;
+              parts = t .4;
+              end = t .3;
+              run = t .5;
+              prechart = satisfied-exactly C A (t .5) .prechart .1 (t .6);
+              none-whole = D .0 (t .0);
+            },
+          )

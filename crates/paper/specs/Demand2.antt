@@ -5,34 +5,18 @@ use mathlib.Core.Logic.{_≢_, _↔_}
 use mathlib.Core.Bool.{Bool, false, So}
 use mathlib.Core.Option.{none, some}
 use Prim.Native.Nat.{ℕ, _≤_}
-use Rattle.base.specs.Lists.{Snoc, ε, _▸_, size}
+use Rattle.base.specs.Lists.{Snoc, ε, _▸_}
 use Rattle.rounds.specs.Chart.{Chart}
 use Rattle.rounds.specs.Rows.{LogRecord, Row, plain, chartMessages, Ready, Full, PrechartDone, Lawful}
-use Rattle.rounds.specs.Feeds.{lastMoment, refusal, Stretch, Last, unended, afterBreak, Answer, keptNow, brokenAt}
-use Rattle.rounds.specs.Feeds.{entered, SaysRunsOn, SaysDroppedOrBroken, keptAmong, droppedAmong}
+use Rattle.rounds.specs.Feeds.{refusal, unended, Answer, keptNow, brokenAt, entered, SaysRunsOn, SaysDroppedOrBroken}
 use Rattle.rounds.specs.Machine.{Monitor, feed, after, answers, Fit}
-use Rattle.rounds.specs.Demand3.{Meaning}
+use Rattle.rounds.specs.Demand3.{Agrees, Meaning}
 use Rattle.paper.specs.Runs.{Config, Letter, message, silent, delay, initial, _·_, strip, IsCut, shift, successor}
 use Rattle.paper.specs.Runs.{wait, Advance, by, Run, Maximal, Satisfies, Prompt, Over, configAt, configOf, lastOf}
 use Rattle.paper.specs.Runs.{Rising, spelled}
 use Rattle.paper.specs.Taken.{Status, Unmatched, Terminates, Taken, caseOf, statusOf, Acceptable, Read}
 
 module _ (C : Chart) where
-  -- what a status says of the last stretch: in an unended one, no break and the configuration that its lawful row
-  -- shows; after a broken one, the break of W27
-  unfoldable pub StatusAtLast : Last → Snoc LogRecord → Status → Type 0
-  StatusAtLast (unended o s) rs x = (x .tally .broken .at ≡ 0) × (x .tally .broken .reason ≡ 0)
-      × (r : Row) × Lawful C o s r × (x .config ≡ configOf C (x .tally .now) o (chartMessages C s) r)
-  StatusAtLast (afterBreak k) rs x = (x .tally .broken .at ≡ size rs) × (x .tally .broken .reason ≡ k)
-
-  -- a status agrees with the accepted records, the ended stretches and what follows them
-  pub record StatusAgrees (rs : Snoc LogRecord) (es : Snoc Stretch) (last : Last) (x : Status) : Type 0 where
-    pub now : x .tally .now ≡ lastMoment rs
-    pub records : x .tally .records ≡ size rs
-    pub kept : x .tally .kept ≡ keptAmong es
-    pub dropped : x .tally .dropped ≡ droppedAmong es
-    pub at-last : StatusAtLast last rs x
-
   -- S19: the word w satisfies the prechart (n = `prechart`) or the whole chart (n = `regions`), and only silent letters
   -- are left over: its last message completes it
   pub record CompletedBy (n : ℕ) (w : Snoc Letter) : Type 0 where
@@ -120,9 +104,10 @@ pub record Demand2 (C : Chart) : Type 0 where
   pub all-given : (fs : Snoc LogRecord) → Read C fs (answers C fs) (statusOf C (after C fs))
   pub all-only : (fs : Snoc LogRecord) (ans : Snoc Answer) (x : Status) → Read C fs ans x
       → (ans ≡ answers C fs) × (x ≡ statusOf C (after C fs))
-  -- and by the third demand's stretches and rows the list means the same
+  -- and by the third demand's stretches and rows the list means the same: the status is that of a monitor that agrees
   pub as-rows : {fs : Snoc LogRecord} (M : Meaning C fs) (ans : Snoc Answer) (x : Status) → Read C fs ans x
-      → (ans ≡ M .ans) × StatusAgrees C (M .accepted) (M .stretches) (M .last) x
+      → (ans ≡ M .ans)
+      × (m : Monitor) × Agrees C (M .accepted) (M .stretches) (M .last) m × (x ≡ statusOf C m)
   -- S14: a prompt run is a run (S11)
   pub prompt-is-run : {x z : Config} {w : Snoc Letter} → Prompt C x w z → Run C x w z
   -- S16: over a word at most one comes to rest, from any configuration: the same letters and the same end
@@ -163,7 +148,18 @@ pub record Demand2 (C : Chart) : Type 0 where
       → M .last ≡ unended o s
       → feed C (after C fs) e .answer ≡ keptNow
       → (z : Config) × (P : Reaches C o (s ▸ e) z) × CompletedBy C (C .regions) (P .letters)
+  -- the run that completes a word consumes each delay and each message of it
+  pub completed-whole : (n : ℕ) (w : Snoc Letter) (K : CompletedBy C n w) → strip (K .satisfies .prefix) ≡ strip w
   -- and where it is answered broken, the round violates it
   pub broken-violates : {fs : Snoc LogRecord} (M : Meaning C fs) (o : ℕ) (s : Snoc LogRecord) (e : LogRecord)
       → M .last ≡ unended o s
       → (n k : ℕ) → feed C (after C fs) e .answer ≡ brokenAt n k → Violated C o (s ▸ e)
+  -- which it does exactly if the record is answered dropped or broken after a prompt run over a beginning of the word
+  -- has fired the whole prechart: so too where a cold condition of the main chart fails
+  pub violated-exactly : {fs : Snoc LogRecord} (M : Meaning C fs) (o : ℕ) (s : Snoc LogRecord) (e : LogRecord)
+      → M .last ≡ unended o s
+      → refusal (M .accepted) e ≡ none
+      → Violated C o (s ▸ e)
+      ↔ (SaysDroppedOrBroken (feed C (after C fs) e .answer)
+      × (u v : Snoc Letter) × (z : Config) × (word C o (s ▸ e) ≡ strip u · v) × Prompt C initial u z
+      × PrechartDone C (z .cut))
