@@ -17,7 +17,8 @@ use Rattle.chart_value.specs.Given.{Given}
 use Rattle.chart_value.specs.View.{chartOf, Shown, CodesTell}
 use Rattle.chart_value.specs.Guards.{NeverFire}
 use Rattle.base.specs.Lists.{Snoc}
-use Rattle.rounds.specs.Demand3.{Demand3, Meaning}
+use Rattle.rounds.specs.Machine.{Monitor as AbstractMonitor}
+use Rattle.rounds.specs.Demand3.{Demand3, Meaning, Agrees}
 use Rattle.paper.specs.Demand2.{Demand2}
 use Rattle.stepping.specs.Answers.{answerOf}
 use Rattle.stepping.specs.declared.Step.{Step}
@@ -29,8 +30,8 @@ use Rattle.monitor.specs.History.{Feeding, ViewTells}
 use Rattle.chart_value.specs.Records.{logged}
 use Rattle.judge.specs.declared.Judgement.{Judgement}
 use Rattle.judge.specs.Verdict as judge
-use Rattle.claims.specs.Demand1.{FindsAs, Walk}
-use Rattle.claims.specs.Judged.{JudgedBy}
+use Rattle.judge.specs.Verdict.{verdictOf}
+use Rattle.claims.specs.Demand1.{FindsAs, Walk, JudgesAs, judgedLog}
 use Rattle.claims.specs.Examples.{examples, AllSaid}
 
 -- what is said of an answer fixes it: two answers of which the same is said are the same value
@@ -72,10 +73,13 @@ pub record Claims : Type 0 where
   pub guards : NeverFire
   -- of every chart that is read from bytes: the second and the third demand, and that feeding does what they say
   pub demands : (bytes : List ℕ) (c : Chart) → readChart bytes ≡ acceptedAs c → Demands c
-  -- the verdict over a log without a fault is what the stretches of its records give
+  -- the verdict over a log without a fault is what the stretches of its records give: that of each monitor that agrees
+  -- with them
   pub judged : (c : Chart) → Given c → (log : List ℕ) {es : Snoc Record} {at last : ℕ} → Walk log es at last
       → FindsAs log at (found.end at)
-      → (M : Meaning (chartOf c) (logged es)) → JudgedBy c log es M
+      → (M : Meaning (chartOf c) (logged es)) (m : AbstractMonitor)
+      → Agrees (chartOf c) (M .accepted) (M .stretches) (M .last) m
+      → JudgesAs c log (judgedLog (verdictOf (chartOf c) m))
   -- and these are the records that are fed from its bytes
   pub walked : (log : List ℕ) {es : Snoc Record} {at last : ℕ} → Walk log es at last → FindsAs log at (found.end at)
       → recordsIn log ≡ es

@@ -1,5 +1,4 @@
 pub mod Examples
 pub mod Demand1
 pub mod Watch
-pub mod Judged
 pub mod Claims
