@@ -39,7 +39,8 @@ judgedOut report out = cond (ltb (length out) places) out (reportNumbers report 
 
 -- the numbers that judging returns: 0, a chart's refusal from 1 to 11, 12, or a log's, 22, 23, 30 or 31
 abbrev pub isJudgedNumber : ℕ → Bool
-isJudgedNumber n = leb n tooShort || (eqb n timeFalls || (eqb n tooManyRecords || (eqb n cutShort || eqb n unknownByte)))
+isJudgedNumber n =
+    leb n tooShort || (eqb n timeFalls || (eqb n tooManyRecords || (eqb n cutShort || eqb n unknownByte)))
 
 -- V8: 0 printed, 12 if out may be too short
 abbrev pub printedNumber : Response → ℕ
