@@ -1,10 +1,11 @@
 -- The decimal digits of a number. Assumes nothing.
-use mathlib.Core.Path.{_≡_, refl, ap, _∙_}
+use mathlib.Core.Path.{_≡_, refl, sym, ap, ap₂, subst, _∙_}
 use mathlib.Core.Bool.{Bool, true, false, cond}
 use mathlib.Core.List.{List, [], _∷_, _++_}
 use Prim.Native.Nat.{ℕ, zero, suc, _+_, _-_, _/_, _%_, _*_, _^_, _≤_, _<_}
 use native.Mathlib.Nat.{pow-suc}
 use native.Mathlib.Omega.{arith}
+use native.Mathlib.Decide.{ℕ-discrete}
 use borrow.Author.Tests.{ltb-true, ltb-false, lt-ltb, le-ltb}
 use lib.ListN.{length, getD, length-append}
 use lib.Dec.{ltb}
@@ -117,3 +118,64 @@ spells n h = record {
   no-leading-zero = λ p. digits-lead 20 n h p;
   lone-zero = λ e. digits-one 20 n (λ z. omega arith) (omega arith) ∙ ap (λ (m : ℕ). (48 + m) ∷ []) e;
 }
+
+-- No other digits spell it: the last one is the remainder by 10, and those before it spell the quotient.
+snoc-of : (t : List ℕ) → 0 < length t → (s : List ℕ) × (d : ℕ) × (t ≡ s ++ (d ∷ []))
+snoc-of [] h = absurd (omega arith)
+snoc-of (d ∷ []) h = ([], d, refl)
+snoc-of (d ∷ (e ∷ t)) h =
+    let r = snoc-of (e ∷ t) (omega arith) in
+    (d ∷ r .0, r .1, ap (λ (x : List ℕ). d ∷ x) (r .2))
+
+digits-left : (t u : List ℕ) → Digits (t ++ u) → Digits t
+digits-left [] u a i h = absurd (omega arith)
+digits-left (d ∷ t) u a zero h = a 0 (omega arith)
+digits-left (d ∷ t) u a (suc i) h = digits-left t u (λ j g. a (suc j) (omega arith)) i (omega arith)
+
+digits-last : (t : List ℕ) (d : ℕ) → Digits (t ++ (d ∷ [])) → (48 ≤ d) × (d ≤ 57)
+digits-last [] d a = a 0 (omega arith)
+digits-last (c ∷ t) d a = digits-last t d (λ j g. a (suc j) (omega arith))
+
+spelt-grows : (n : ℕ) (t : List ℕ) → n ≤ spelt n t
+spelt-grows n [] = omega arith
+spelt-grows n (d ∷ t) = omega (arith, spelt-grows (n * 10 + (d - 48)) t)
+
+digits-only : (k n : ℕ) → n < 10 ^ k → 0 < n → (t : List ℕ) → Digits t → 48 < getD t 0 0 → spelt 0 t ≡ n
+    → t ≡ digitsOf k n
+digits-only zero n h p t a l q = absurd (omega arith)
+digits-only (suc k) n h p [] a l q = absurd (omega arith)
+digits-only (suc k) n h p (c ∷ t) a l q =
+    let S = snoc-of (c ∷ t) (omega arith) in
+    by (S .0) (S .1) (S .2) (λ g r s b l′ q′. digits-only k (n / 10) g r s b l′ q′)
+  where
+    by : (s : List ℕ) (d : ℕ) → c ∷ t ≡ s ++ (d ∷ [])
+        → (n / 10 < 10 ^ k → 0 < n / 10 → (u : List ℕ) → Digits u → 48 < getD u 0 0 → spelt 0 u ≡ n / 10
+        → u ≡ digitsOf k (n / 10))
+        → c ∷ t ≡ digitsOf (suc k) n
+    by [] d e i =
+        let b : (48 ≤ d) × (d ≤ 57) = digits-last [] d (subst Digits e a) in
+        let m : 0 * 10 + (d - 48) ≡ n = sym (ap (spelt 0) e) ∙ q in
+        let w : d ≡ 48 + n = omega (arith, b .0) in
+        e ∙ ap (λ (x : ℕ). x ∷ []) w ∙ sym (digits-one (suc k) n (λ z. omega arith) (omega (arith, b .1)))
+    by (f ∷ s) d e i =
+        let b : (48 ≤ d) × (d ≤ 57) = digits-last (f ∷ s) d (subst Digits e a) in
+        let lead : 48 < f = subst (λ (x : List ℕ). 48 < getD x 0 0) e l in
+        let m : spelt 0 (f ∷ s) * 10 + (d - 48) ≡ n
+        = sym (spelt-append 0 (f ∷ s) (d ∷ [])) ∙ sym (ap (spelt 0) e) ∙ q in
+        let g : 0 * 10 + (f - 48) ≤ spelt 0 (f ∷ s) = spelt-grows (0 * 10 + (f - 48)) s in
+        let w : 10 ^ suc k ≡ 10 ^ k * 10 = pow-suc 10 k in
+        let v : spelt 0 (f ∷ s) ≡ n / 10 = omega (arith, b .0, b .1) in
+        let r : f ∷ s ≡ digitsOf k (n / 10)
+        = i (omega arith) (omega arith) (f ∷ s) (digits-left (f ∷ s) (d ∷ []) (subst Digits e a)) lead v in
+        let y : d ≡ 48 + n % 10 = omega (arith, b .0, b .1) in
+        let j : k ≡ suc k - 1 = omega arith in
+        e ∙ ap₂ {C = List ℕ} (λ (x : List ℕ) (z : ℕ). x ++ (z ∷ [])) (r ∙ ap (λ (x : ℕ). digitsOf x (n / 10)) j) y
+        ∙ sym (digits-more (suc k) n (λ z. omega arith) (omega arith))
+
+pub spells-only : (n : ℕ) → n < 10 ^ 20 → (t : List ℕ) → Spells n t → t ≡ digitsOf 20 n
+spells-only n h t S = elim (ℕ-discrete n 0) [
+  | yes z ↦ S .lone-zero z ∙ sym (digits-one 20 n (λ y. omega arith) (omega arith) ∙ ap (λ (m : ℕ). (48 + m) ∷ []) z)
+  | no z ↦
+      let p : 0 < n = omega arith in
+      digits-only 20 n h p t (S .digits) (S .no-leading-zero p) (S .number)
+]

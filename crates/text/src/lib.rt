@@ -1,6 +1,7 @@
 // Numbers in decimal, put into a buffer that the caller lends.
 ghost use mathlib.Core.Path.{_≡_};
-ghost use Prim.Native.Nat.{_+_, _<_, _≤_};
+ghost use mathlib.Core.List.{List};
+ghost use Prim.Native.Nat.{ℕ, _+_, _<_, _≤_};
 ghost use lib.ListN.{length};
 ghost use Rattle.wire.specs.Writing.{Wrote};
 ghost use Rattle.text.specs.Text.{Spells, digitsOf, decimalOf};
@@ -37,7 +38,7 @@ fn put_digits(out: &mut [u8], at: usize, n: u64, places: usize) -> usize
 pub fn put_decimal(out: &mut [u8], at: usize, n: u64) -> usize
     requires { ⌜ at + length (decimalOf n) ≤ length (now out) ⌝ }
     ensures text { λ r. ⌜ Wrote (now (out .entry)) at (decimalOf n) (now (out .exit)) r ⌝ }
-    ensures spelling { λ r. ⌜ Spells n (decimalOf n) ⌝ }
+    ensures spelling { λ r. ⌜ Spells n (decimalOf n) × ((t : List ℕ) → Spells n t → t ≡ decimalOf n) ⌝ }
 {
     put_digits(out, at, n, MOST_DIGITS)
 }

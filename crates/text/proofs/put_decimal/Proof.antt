@@ -1,6 +1,6 @@
 use native.Mathlib.Omega.{arith}
 use borrow.Author.Needs.{needs}
-use Rattle.text.proofs.Laws.{spells}
+use Rattle.text.proofs.Laws.{spells, spells-only}
 use Rattle.text.proofs.put_decimal.Statement.{statement}
 use Rattle.text.proofs.put_decimal.Tie as tie
 
@@ -11,7 +11,8 @@ same-length : tie.Need-same-length
 same-length c = search needs
 
 returns : tie.Need-returns
-returns c = (c .before .before .put-digits .ensures, spells _ (omega arith))
+returns c =
+    (c .before .before .put-digits .ensures, (spells _ (omega arith), λ t S. spells-only _ (omega arith) t S))
 
 pub put-decimal-spec : {M : Type 1} → statement M
 put-decimal-spec = tie.close (tie.spec put-digits-requires same-length returns)
