@@ -34,7 +34,7 @@ fn put_digits(out: &mut [u8], at: usize, n: u64, places: usize) -> usize
     wire::put_byte(out, next, digit(n % TEN))
 }
 
-// A number in decimal: its digits spell it, and the first is no zero, unless it is 0 itself.
+// A number in decimal (P9): its digits spell it so, and no other text does.
 pub fn put_decimal(out: &mut [u8], at: usize, n: u64) -> usize
     requires { ⌜ at + length (decimalOf n) ≤ length (now out) ⌝ }
     ensures text { λ r. ⌜ Wrote (now (out .entry)) at (decimalOf n) (now (out .exit)) r ⌝ }
