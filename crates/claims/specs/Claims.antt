@@ -8,6 +8,7 @@ use Rattle.model.specs.declared.Chart.{Chart}
 use Rattle.model.specs.declared.Monitor.{Monitor}
 use Rattle.model.specs.declared.Record.{Record}
 use Rattle.model.specs.declared.Answer.{Answer}
+use Rattle.condition.specs.Table.{TableRule}
 use Rattle.chart_reader.specs.declared.ChartRead.{ChartRead}
 use Rattle.chart_reader.specs.Said as read
 use Rattle.chart_reader.specs.Read.{readChart}
@@ -69,6 +70,8 @@ pub record Claims : Type 0 where
   pub shown : (c : Chart) → Given c → Shown c
   -- messages with the same code are the same
   pub codes-tell : CodesTell
+  -- each entry of the table that decides terms is yes exactly if its relation holds for differences of its sign
+  pub relations : TableRule
   -- the guards of the reader's definition never fire
   pub guards : NeverFire
   -- of every chart that is read from bytes: the second and the third demand, and that feeding does what they say

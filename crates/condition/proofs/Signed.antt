@@ -1,17 +1,17 @@
--- A comparison of unsigned numbers is the one of signed numbers: one fact for all relations and terms. Assumes nothing.
+-- Differences of signed numbers, and their order, by sums that are not negative: one fact for all relations and for both
+-- kinds of term. Assumes nothing.
 use mathlib.Core.Path.{_≡_, refl, sym, ap, ap₂, _∙_}
 use mathlib.Core.Bool.{Bool, true, false, cond, not, _&&_}
 use Prim.Native.Nat.{ℕ, zero, suc, _+_, _-_, _≤_, _<_}
-use native.Mathlib.Nat.{le-antisymm}
 use native.Mathlib.Omega.{arith}
-use borrow.Author.Tests.{le-leb, lt-leb, leb-true, leb-false, lt-ltb, le-ltb, ltb-true, ltb-false, eq-eqb, ne-eqb}
-use lib.Dec.{leb, ltb, eqb}
+use borrow.Author.Tests.{le-leb, lt-leb, leb-true, leb-false, lt-ltb, le-ltb, ltb-true, ltb-false}
+use lib.Dec.{leb, ltb}
 use lib.IntN.{ℤ, pos, negsuc, subℕ, _-ℤ_}
 use lib.Signed.{leZ, ltZ}
 use Rattle.model.specs.declared.Relation.{Relation}
 use Rattle.model.specs.declared.Relation.the-variants.{Less, AtMost, Equal, AtLeast, More}
 use Rattle.condition.specs.Condition.{signed, related}
-use Rattle.condition.specs.Parts.{inRelation, positivePart, negativePart}
+use Rattle.condition.specs.Rows.{bias, biased}
 
 leb-same : (m n m′ n′ : ℕ) → (m ≤ n → m′ ≤ n′) → (n < m → n′ < m′) → leb m n ≡ leb m′ n′
 leb-same m n m′ n′ f g = by (leb m n) refl
@@ -27,22 +27,79 @@ ltb-not x y = by (ltb x y) refl
     by true e = ap not (sym (lt-leb y x (ltb-true x y e)))
     by false e = ap not (sym (le-leb y x (ltb-false x y e)))
 
-eqb-both : (x y : ℕ) → eqb x y ≡ (leb x y && leb y x)
-eqb-both x y = by (leb x y) (leb y x) refl refl
-  where
-    by : (t u : Bool) → leb x y ≡ t → leb y x ≡ u → eqb x y ≡ (t && u)
-    by true true e f = eq-eqb x y (le-antisymm (leb-true x y e) (leb-true y x f))
-    by true false e f = ne-eqb x y (λ z. omega (arith, leb-false y x f))
-    by false u e f = ne-eqb x y (λ z. omega (arith, leb-false x y e))
-
 ltZ-not : (x y : ℤ) → ltZ x y ≡ not (leZ y x)
 ltZ-not (pos a) (pos b) = ltb-not a b
 ltZ-not (pos a) (negsuc b) = refl
 ltZ-not (negsuc a) (pos b) = refl
 ltZ-not (negsuc a) (negsuc b) = ltb-not b a
 
--- Differences are ordered as the sums across; each relation of both kinds of term follows from this.
-order : (a b m k : ℕ) → leZ (subℕ a b) (subℕ m k) ≡ leb (a + k) (m + b)
+-- every relation is decided by the order, both ways
+module _ (x y x′ y′ : ℤ) (l : leZ x y ≡ leZ x′ y′) (g : leZ y x ≡ leZ y′ x′) where
+  pub related-by : (e : Relation) → related e x y ≡ related e x′ y′
+  related-by Less = ltZ-not x y ∙ ap not g ∙ sym (ltZ-not x′ y′)
+  related-by AtMost = l
+  related-by Equal = ap₂ _&&_ l g
+  related-by AtLeast = g
+  related-by More = ltZ-not y x ∙ ap not l ∙ sym (ltZ-not y′ x′)
+
+module _ (a b : ℕ) where
+  sub-above : b ≤ a → subℕ a b ≡ pos (a - b)
+  sub-above h = rw (le-ltb a b h)
+
+  sub-below : a < b → subℕ a b ≡ negsuc (b - suc a)
+  sub-below h = rw (lt-ltb a b h)
+
+-- the same difference
+pub sub-same : (a b m k : ℕ) → a + k ≡ m + b → subℕ a b ≡ subℕ m k
+sub-same a b m k e = by (ltb a b) refl
+  where
+    by : (t : Bool) → ltb a b ≡ t → subℕ a b ≡ subℕ m k
+    by true f =
+        let l : a < b = ltb-true a b f in
+        let q : b - suc a ≡ k - suc m = omega arith in
+        sub-below a b l ∙ ap negsuc q ∙ sym (sub-below m k (omega arith))
+    by false f =
+        let l : b ≤ a = ltb-false a b f in
+        let q : a - b ≡ m - k = omega arith in
+        sub-above a b l ∙ ap pos q ∙ sym (sub-above m k (omega arith))
+
+pub minus : (a b : ℕ) → pos a -ℤ pos b ≡ subℕ a b
+minus a zero = rw (le-ltb a 0 (omega arith)) (let e : a + 0 ≡ a - 0 = omega arith in ap pos e)
+minus a (suc b) = refl
+
+minus-below : (a b : ℕ) → negsuc a -ℤ pos b ≡ negsuc (a + b)
+minus-below a zero = sub-below 0 (suc a) (omega arith) ∙ (let e : suc a - suc 0 ≡ a + 0 = omega arith in ap negsuc e)
+minus-below a (suc b) = let e : suc (a + b) ≡ a + suc b = omega arith in ap negsuc e
+
+-- a difference of differences is one of sums across
+pub sub-sub : (a b m k : ℕ) → subℕ a b -ℤ subℕ m k ≡ subℕ (a + k) (m + b)
+sub-sub a b m k = by (ltb a b) (ltb m k) refl refl
+  where
+    by : (t u : Bool) → ltb a b ≡ t → ltb m k ≡ u → subℕ a b -ℤ subℕ m k ≡ subℕ (a + k) (m + b)
+    by true true e f =
+        let l : a < b = ltb-true a b e in
+        let h : m < k = ltb-true m k f in
+        ap₂ _-ℤ_ (sub-below a b l) (sub-below m k h)
+        ∙ sub-same (suc (k - suc m)) (suc (b - suc a)) (a + k) (m + b) (omega arith)
+    by true false e f =
+        let l : a < b = ltb-true a b e in
+        let h : k ≤ m = ltb-false m k f in
+        let q : (b - suc a) + (m - k) ≡ (m + b) - suc (a + k) = omega arith in
+        ap₂ _-ℤ_ (sub-below a b l) (sub-above m k h) ∙ minus-below (b - suc a) (m - k) ∙ ap negsuc q
+        ∙ sym (sub-below (a + k) (m + b) (omega arith))
+    by false true e f =
+        let l : b ≤ a = ltb-false a b e in
+        let h : m < k = ltb-true m k f in
+        let q : (a - b) + suc (k - suc m) ≡ (a + k) - (m + b) = omega arith in
+        ap₂ _-ℤ_ (sub-above a b l) (sub-below m k h) ∙ ap pos q ∙ sym (sub-above (a + k) (m + b) (omega arith))
+    by false false e f =
+        let l : b ≤ a = ltb-false a b e in
+        let h : k ≤ m = ltb-false m k f in
+        ap₂ _-ℤ_ (sub-above a b l) (sub-above m k h) ∙ minus (a - b) (m - k)
+        ∙ sub-same (a - b) (m - k) (a + k) (m + b) (omega arith)
+
+-- differences are ordered as the sums across
+pub order : (a b m k : ℕ) → leZ (subℕ a b) (subℕ m k) ≡ leb (a + k) (m + b)
 order a b m k = by (ltb a b) (ltb m k) refl refl
   where
     by : (t u : Bool) → ltb a b ≡ t → ltb m k ≡ u
@@ -57,43 +114,18 @@ order a b m k = by (ltb a b) (ltb m k) refl refl
         leb-same (a - b) (m - k) (a + k) (m + b) (λ h. omega (arith, ltb-true, ltb-false))
         (λ h. omega (arith, ltb-true, ltb-false))
 
-minus : (a b : ℕ) → pos a -ℤ pos b ≡ subℕ a b
-minus a zero = rw (le-ltb a 0 (omega arith)) (let e : a + 0 ≡ a - 0 = omega arith in ap pos e)
-minus a (suc b) = refl
-
-signed-is : (n : ℕ) → n < 0x1_0000_0000 → signed n ≡ subℕ (positivePart n) (negativePart n)
-signed-is n h = by (ltb n 0x8000_0000) refl
+-- C11: the number with bias added, less bias
+pub signed-is : (n : ℕ) → signed n ≡ pos (biased n) -ℤ pos bias
+signed-is n = by (ltb n bias) refl
   where
-    by : (t : Bool) → ltb n 0x8000_0000 ≡ t
-        → cond t (pos n) (pos n -ℤ pos 0x1_0000_0000) ≡ subℕ (cond t n 0) (cond t 0 (0x1_0000_0000 - n))
-    by true e = rw (le-ltb n 0 (omega arith)) (let q : n ≡ n - 0 = omega arith in ap pos q)
+    by : (t : Bool) → ltb n bias ≡ t
+        → cond t (pos n) (pos n -ℤ pos 0x1_0000_0000) ≡ pos (cond t (bias + n) (n - bias)) -ℤ pos bias
+    by true e =
+        let q : n ≡ (bias + n) - bias = omega arith in
+        ap pos q ∙ sym (sub-above (bias + n) bias (omega arith)) ∙ sym (minus (bias + n) bias)
     by false e =
-        let l : 0 < 0x1_0000_0000 - n = omega arith in
-        let q : 0x1_0000_0000 - suc n ≡ (0x1_0000_0000 - n) - suc 0 = omega arith in
-        minus n 0x1_0000_0000 ∙ rw (lt-ltb n 0x1_0000_0000 h, lt-ltb 0 (0x1_0000_0000 - n) l) (ap negsuc q)
-
-module _ (a b n : ℕ) (h : n < 0x1_0000_0000) where
-  le : leZ (pos a -ℤ pos b) (signed n) ≡ leb (a + negativePart n) (b + positivePart n)
-  le =
-      let c : positivePart n + b ≡ b + positivePart n = omega arith in
-      rw (minus a b, signed-is n h, order a b (positivePart n) (negativePart n)) (ap (leb (a + negativePart n)) c)
-
-  ge : leZ (signed n) (pos a -ℤ pos b) ≡ leb (b + positivePart n) (a + negativePart n)
-  ge =
-      let c : positivePart n + b ≡ b + positivePart n = omega arith in
-      rw (minus a b, signed-is n h, order (positivePart n) (negativePart n) a b)
-      (ap (λ (z : ℕ). leb z (a + negativePart n)) c)
-
-  -- the code's test on unsigned sums is the relation of the exact signed difference to n
-  pub compares-exactly : (rel : Relation) → inRelation rel (a + negativePart n) (b + positivePart n) ≡ related rel
-      (pos a -ℤ pos b) (signed n)
-  compares-exactly Less =
-      ltb-not (a + negativePart n) (b + positivePart n) ∙ ap not (sym ge) ∙ sym (ltZ-not (pos a -ℤ pos b) (signed n))
-  compares-exactly AtMost = sym le
-  compares-exactly Equal = eqb-both (a + negativePart n) (b + positivePart n) ∙ ap₂ _&&_ (sym le) (sym ge)
-  compares-exactly AtLeast = sym ge
-  compares-exactly More =
-      ltb-not (b + positivePart n) (a + negativePart n) ∙ ap not (sym le) ∙ sym (ltZ-not (signed n) (pos a -ℤ pos b))
+        let l : bias ≤ n = ltb-false n bias e in
+        minus n 0x1_0000_0000 ∙ sub-same n 0x1_0000_0000 (n - bias) bias (omega arith) ∙ sym (minus (n - bias) bias)
 
 -- a clock alone is its difference from 0
 pub one-clock : (a : ℕ) → pos a -ℤ pos 0 ≡ pos a

@@ -1,2 +1,3 @@
 pub mod Condition
-pub mod Parts
+pub mod Table
+pub mod Rows

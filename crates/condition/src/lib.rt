@@ -1,85 +1,131 @@
-// Conditions: whether a term holds, given the clocks' values as lengths of time.
-use model::Left;
+// Conditions: terms are decided by one table, of five relations by three signs of a difference.
 use model::Length;
-use model::MOST_CLOCKS;
 use model::Relation;
-use model::Term;
 ghost use mathlib.Core.Path.{_≡_};
-ghost use Prim.Native.Nat.{_≤_};
+ghost use Prim.Native.Nat.{ℕ, _<_, _+_, _%_};
 ghost use lib.IntN.{pos, _-ℤ_};
-ghost use Rattle.condition.specs.Condition.{signed, related, termHolds};
-ghost use Rattle.condition.specs.Parts.{inRelation, positivePart, negativePart, valueIn};
+ghost use Rattle.condition.specs.Condition.{signed, related};
+ghost use Rattle.condition.specs.Table.{rowOf, columnOf, signOf, tableSays, TableRule};
+ghost use Rattle.condition.specs.Rows.{bit, rowBits, rowSays, biased, compared};
+
+// The sign of a difference: it is below zero, zero, or above zero.
+pub enum Sign {
+    Below,
+    Same,
+    Above,
+}
+
+// C18, the table: a row for each relation, <, ≤, =, ≥ and >, with an entry for each sign.
+const SAYS: [bool; 15] = [
+    true, // <, below
+    false, // <, same
+    false, // <, above
+    true, // ≤, below
+    true, // ≤, same
+    false, // ≤, above
+    false, // =, below
+    true, // =, same
+    false, // =, above
+    false, // ≥, below
+    true, // ≥, same
+    true, // ≥, above
+    false, // >, below
+    false, // >, same
+    true, // >, above
+];
+
+// Added to a signed number of 32 bits so that the sum is not negative.
+const BIAS: u64 = 0x8000_0000;
 
 // From here on the 32 bits of n stand for a negative number.
 const SIGN: u32 = 0x8000_0000;
 
-const CLOCKS: usize = MOST_CLOCKS as usize;
-
-// Two numbers stand in a relation.
-fn in_relation(relation: Relation, a: u64, b: u64) -> bool
-    ensures { λ r. ⌜ r ≡ inRelation relation a b ⌝ }
+// The relation's row.
+fn row_of(e: Relation) -> usize
+    ensures value { λ r. ⌜ r ≡ rowOf e ⌝ }
+    ensures bound { λ r. ⌜ r < 5 ⌝ }
 {
-    match relation {
-        Relation::Less => a < b,
-        Relation::AtMost => a <= b,
-        Relation::Equal => a == b,
-        Relation::AtLeast => b <= a,
-        Relation::More => b < a,
+    match e {
+        Relation::Less => 0,
+        Relation::AtMost => 1,
+        Relation::Equal => 2,
+        Relation::AtLeast => 3,
+        Relation::More => 4,
     }
 }
 
-fn wide(x: u32) -> u64
-    ensures { λ r. ⌜ r ≡ x ⌝ }
+// The sign's place in a row.
+fn column_of(s: Sign) -> usize
+    ensures value { λ r. ⌜ r ≡ columnOf s ⌝ }
+    ensures bound { λ r. ⌜ r < 3 ⌝ }
 {
-    x as u64
+    match s {
+        Sign::Below => 0,
+        Sign::Same => 1,
+        Sign::Above => 2,
+    }
 }
 
-fn positive_part(n: u32) -> u64
-    ensures value { λ r. ⌜ r ≡ positivePart n ⌝ }
-    ensures bound { λ r. ⌜ r ≤ 0x8000_0000 ⌝ }
+// The table's entry: whether the relation holds for differences of this sign.
+pub fn says(e: Relation, s: Sign) -> bool
+    ensures entry { λ r. ⌜ r ≡ tableSays e s ⌝ }
+    ensures rule { λ r. ⌜ TableRule ⌝ }
 {
-    if n < SIGN {
-        return wide(n);
+    SAYS[row_of(e) * 3 + column_of(s)]
+}
+
+// 1 for yes.
+fn bit(b: bool) -> u64
+    ensures value { λ r. ⌜ r ≡ bit b ⌝ }
+    ensures bound { λ r. ⌜ r < 2 ⌝ }
+{
+    if b {
+        return 1;
     }
     0
 }
 
-fn negative_part(n: u32) -> u64
-    ensures value { λ r. ⌜ r ≡ negativePart n ⌝ }
-    ensures bound { λ r. ⌜ r ≤ 0x8000_0000 ⌝ }
+// The relation's row, an entry a bit. A row is looked up once, when a chart is compiled, and its terms keep it.
+pub fn row_bits(e: Relation) -> u64
+    ensures value { λ r. ⌜ r ≡ rowBits e ⌝ }
+    ensures bound { λ r. ⌜ r < 8 ⌝ }
+{
+    bit(says(e, Sign::Below)) + bit(says(e, Sign::Same)) * 2 + bit(says(e, Sign::Above)) * 4
+}
+
+// The number that n's 32 bits stand for, with BIAS added.
+pub fn biased(n: u32) -> u64
+    ensures value { λ r. ⌜ r ≡ biased n ⌝ }
+    ensures bound { λ r. ⌜ r < 0x1_0000_0000 ⌝ }
 {
     if n < SIGN {
-        return 0;
+        return BIAS + wire::wide64(n);
     }
-    0x1_0000_0000 - wide(n)
+    wire::wide64(n) - BIAS
 }
 
-// `first - second RELATION n`, exactly; n is the 32 bits of a signed number. For one clock the second is 0.
-pub fn compares(relation: Relation, first: Length, second: Length, n: u32) -> bool
-    ensures { λ r. ⌜ r ≡ related relation (pos (first .0) -ℤ pos (second .0)) (signed n) ⌝ }
+// The row's entry at the sign of a less b: below zero, above zero, zero. In this form each test becomes a branch.
+fn row_says(row: u64, a: u64, b: u64) -> bool
+    ensures { λ r. ⌜ r ≡ rowSays row (signOf (pos a -ℤ pos b)) ⌝ }
 {
-    let a = wide(first.0) + negative_part(n);
-    let b = wide(second.0) + positive_part(n);
-    in_relation(relation, a, b)
-}
-
-fn value_in(values: [Length; CLOCKS], k: u8) -> Length
-    ensures { λ r. ⌜ r .0 ≡ valueIn values k ⌝ }
-{
-    let i = k as usize;
-    if i < CLOCKS { values[i] } else { Length(0) }
-}
-
-// A term, by the clocks' values.
-pub fn term_holds(t: Term, values: [Length; CLOCKS]) -> bool
-    ensures { λ r. ⌜ r ≡ termHolds t (valueIn values) ⌝ }
-{
-    let left = t.left;
-    let relation = t.relation;
-    match left {
-        Left::Clock(k) => compares(relation, value_in(values, k), Length(0), t.n),
-        Left::Difference(a, b) => {
-            compares(relation, value_in(values, a), value_in(values, b), t.n)
-        }
+    if a < b {
+        return row % 2 == 1;
     }
+    if b < a && row / 4 % 2 == 0 {
+        return false;
+    }
+    a != b || row / 2 % 2 == 1
+}
+
+// A term's test: the entry of its relation's row at the sign of the exact difference, `first - second` less the number
+// n, which has BIAS added. For a term of one clock the second length is 0.
+pub fn compares(row: u64, first: Length, second: Length, n: u64) -> bool
+    requires { ⌜ n < 0x10_0000_0000_0000 ⌝ }
+    ensures value { λ r. ⌜ r ≡ compared row (first .0) (second .0) n ⌝ }
+    ensures exact { λ r. ⌜ ((e : Relation) (m : ℕ) → row % 8 ≡ rowBits e → n ≡ biased m
+        → r ≡ related e (pos (first .0) -ℤ pos (second .0)) (signed m)) ⌝ }
+{
+    let x = BIAS + wire::wide64(first.0);
+    let y = n + wire::wide64(second.0);
+    row_says(row, x, y)
 }

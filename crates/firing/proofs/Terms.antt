@@ -1,26 +1,26 @@
 -- The test of a term's word by the clocks that it names is its test by every clock's value. Assumes nothing.
 use mathlib.Core.Path.{_≡_, sym, ap, ap₂, fun-ext}
 use mathlib.Core.Logic.{_⊎_, inl, inr}
-use mathlib.Core.Bool.{Bool, true, cond}
+use mathlib.Core.Bool.{Bool, true, cond, _||_}
 use mathlib.Core.List.{List}
 use Prim.Native.Nat.{ℕ, _+_, _*_, _-_, _%_, _≤_, _<_}
 use native.Mathlib.Decide.{ℕ-discrete}
 use native.Mathlib.Omega.{arith}
-use borrow.Author.Tests.{lt-ltb, le-ltb}
-use lib.Dec.{ltb}
+use borrow.Author.Tests.{lt-ltb, le-ltb, ne-eqb}
+use lib.Dec.{eqb, ltb}
 use lib.ListN.{getD}
 use Rattle.model.specs.declared.Moment.{Moment}
 use Rattle.model.specs.Chart.{mostClocks, mostTerms}
 use Rattle.base.specs.Lists.{allBelow}
 use Rattle.layout.specs.declared.Head.{Head}
 use Rattle.firing.specs.Places.{momentsOf}
-use Rattle.layout.specs.View.{bias, boundOf, firstOf, secondOf, bounded, holdsBy, conditionBy, InChart, Compiled}
+use Rattle.layout.specs.View.{firstOf, secondOf, tested, holdsBy, conditionBy, InChart, Compiled}
 use Rattle.firing.specs.Parts.{valueAt, Testable}
 
 -- the word's term holds, by the moments
 unfoldable pub heldAt : ℕ → ℕ → List Moment → Bool
-heldAt w t resets = bounded w (bias + (t - momentsOf resets (firstOf w % mostClocks)))
-    (boundOf w + cond (ltb (secondOf w) mostClocks) (t - momentsOf resets (secondOf w % mostClocks)) 0)
+heldAt w t resets = eqb w 0 || tested w (t - momentsOf resets (firstOf w % mostClocks))
+    (cond (ltb (secondOf w) mostClocks) (t - momentsOf resets (secondOf w % mostClocks)) 0)
 
 pub testable : {h : Head} {keys above resets terms : List ℕ} → Compiled h keys above resets terms
     → Testable (h .clocks) terms
@@ -43,7 +43,7 @@ module _ {clocks : ℕ} {terms : List ℕ} (T : Testable clocks terms) (t : ℕ)
   word-tested : (w : ℕ) → InChart clocks w → holdsBy w (valueAt clocks t resets) ≡ heldAt w t resets
   unfolding holdsBy heldAt
   word-tested w I =
-      ap₂ (λ (x y : ℕ). bounded w (bias + x) (boundOf w + y)) (value-here (firstOf w) (I .first))
+      ap₂ (λ (x y : ℕ). eqb w 0 || tested w x y) (value-here (firstOf w) (I .first))
       (second-here (secondOf w) (I .second))
 
   same-test : (k : ℕ) → Dec (getD terms k 0 ≡ 0)
@@ -67,6 +67,6 @@ module _ {clocks : ℕ} {terms : List ℕ} (T : Testable clocks terms) (t : ℕ)
 pub term-held : (w t : ℕ) (resets : List Moment) (x y : ℕ) (r : Bool)
     → x ≡ t - momentsOf resets (firstOf w % mostClocks)
     → y ≡ cond (ltb (secondOf w) mostClocks) (t - momentsOf resets (secondOf w % mostClocks)) 0
-    → r ≡ bounded w (bias + x) (boundOf w + y) → heldAt w t resets ≡ r
+    → r ≡ tested w x y → ¬ (w ≡ 0) → heldAt w t resets ≡ r
 unfolding heldAt
-term-held w t resets x y r p q e = rw (← p, ← q) (sym e)
+term-held w t resets x y r p q e z = rw (← p, ← q, ne-eqb w 0 z) (sym e)

@@ -1,7 +1,7 @@
 -- What the numbers of a compiled chart stand for: an abstract chart.
 use mathlib.Core.Path.{_≡_}
 use mathlib.Core.Logic.{_⊎_}
-use mathlib.Core.Bool.{Bool, So, cond, not, _&&_}
+use mathlib.Core.Bool.{Bool, So, cond, _||_}
 use mathlib.Core.List.{List}
 use Prim.Native.Nat.{ℕ, _+_, _*_, _/_, _%_, _≤_, _<_}
 use lib.Dec.{eqb, ltb}
@@ -9,26 +9,20 @@ use lib.ListN.{getD}
 use Rattle.bitset.specs.Set.{contains}
 use Rattle.model.specs.Chart.{mostClocks, mostRegions, mostTerms}
 use Rattle.base.specs.Lists.{allBelow}
+use Rattle.condition.specs.Rows.{compared}
 use Rattle.rounds.specs.Chart.{Chart, Accepted}
 use Rattle.layout.specs.declared.Head.{Head}
 
--- A term as one number, its word. Every relation bounds the difference d, the first clock's value less the second's, by
--- a number k: from above, d ≤ k, from below, k ≤ d, or from both sides. The word has the first clock, then the second
--- clock, the sides and bias + k, each at its place. A term of one clock has, as its second clock, a number from 8 on.
+-- A term as one number, its word: the first clock, then the second clock, the row of its relation and its number with
+-- bias added, each at its place. A term of one clock has, as its second clock, a number from 8 on.
 abbrev pub secondPlace : ℕ
 secondPlace = 0x10
 
-abbrev pub upperPlace : ℕ
-upperPlace = 0x100
+abbrev pub rowPlace : ℕ
+rowPlace = 0x100
 
-abbrev pub lowerPlace : ℕ
-lowerPlace = 0x200
-
-abbrev pub boundPlace : ℕ
-boundPlace = 0x400
-
-abbrev pub bias : ℕ
-bias = 0x1_0000_0000
+abbrev pub numberPlace : ℕ
+numberPlace = 0x1000
 
 -- how many numbers a word has room for, for each of its clocks
 abbrev pub clockCodes : ℕ
@@ -40,21 +34,17 @@ firstOf w = w % clockCodes
 abbrev pub secondOf : ℕ → ℕ
 secondOf w = w / secondPlace % clockCodes
 
-abbrev pub boundOf : ℕ → ℕ
-boundOf w = w / boundPlace
-
 -- the second clock's value; a term of one clock has no second clock: 0
 abbrev pub secondValue : ℕ → (ℕ → ℕ) → ℕ
 secondValue w v = cond (ltb (secondOf w) mostClocks) (v (secondOf w)) 0
 
--- x is not beyond y on a side on which the word bounds
-abbrev pub bounded : ℕ → ℕ → ℕ → Bool
-bounded w x y = not (eqb (w / upperPlace % 2) 1 && ltb y x) && not (eqb (w / lowerPlace % 2) 1 && ltb x y)
+-- the term's test, given the values of its clocks
+abbrev pub tested : ℕ → ℕ → ℕ → Bool
+tested w a b = compared (w / rowPlace) a b (w / numberPlace)
 
--- the word's term holds, given each clock's value; word 0, without a side, is no term. The sums are d and k with bias
--- and the second clock's value added: no number is negative.
+-- the word's term holds, given each clock's value; word 0 is no term
 unfoldable pub holdsBy : ℕ → (ℕ → ℕ) → Bool
-holdsBy w v = bounded w (bias + v (firstOf w)) (boundOf w + secondValue w v)
+holdsBy w v = eqb w 0 || tested w (v (firstOf w)) (secondValue w v)
 
 -- the condition of region i: its four words
 abbrev pub conditionBy : List ℕ → ℕ → (ℕ → ℕ) → Bool

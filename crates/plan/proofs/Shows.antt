@@ -23,7 +23,7 @@ use Rattle.rounds.specs.Chart.{Accepted}
 use Rattle.chart_value.specs.View.{codeOf, keyOf, regionOf, chartOf}
 use Rattle.chart_value.proofs.Facts.{WellFormed}
 use Rattle.chart_value.proofs.Order.{fits-at}
-use Rattle.layout.specs.View.{bias, conditionBy, planChart, InChart, Words}
+use Rattle.layout.specs.View.{conditionBy, planChart, InChart, Words}
 use Rattle.plan.specs.declared.Plan.{Plan}
 use Rattle.plan.specs.Words.{wordOf, wordAt}
 use Rattle.plan.specs.Plan.{Compiles}
@@ -100,9 +100,7 @@ module _ (c : Chart) (i : ℕ) where
       (simp length-set (omega arith)) e₂)
       (simp length-set (omega arith)) e₃
 
-module _ (c : Chart) (w : WellFormed c)
-    (numbers : (i j : ℕ) → i < mostRegions → j < mostTerms → termAt (regionAt c i) j .n < bias)
-    (terms : List ℕ) (F : Filled 0 (words-of c) (c .count * mostTerms) terms) where
+module _ (c : Chart) (w : WellFormed c) (terms : List ℕ) (F : Filled 0 (words-of c) (c .count * mostTerms) terms) where
   -- the words of region i
   words-in : (i j : ℕ) → i < c .count → j < mostTerms → getD terms (i * mostTerms + j) 0 ≡ wordAt (regionAt c i) j
   words-in i j h l =
@@ -125,8 +123,7 @@ module _ (c : Chart) (w : WellFormed c)
           let t = fits-at c w i h .terms in
           let n : regionAt c i .count ≤ mostTerms = t .count in
           words-hold (regionAt c i) v (λ j. getD terms (i * mostTerms + j) 0) n (λ j l. words-in i j h l)
-          (λ j l. word-holds (c .clocks) (termAt (regionAt c i) j) (w .clocks) (t .used j l)
-          (numbers i j (omega arith) (omega arith)) v)
+          (λ j l. word-holds (c .clocks) (termAt (regionAt c i) j) (w .clocks) (t .used j l) v)
           ∙ ap (λ (b : Bool). conditionHolds (cond b (regionAt c i) zeroRegion) v) (sym (lt-ltb i (c .count) h))
       by (no h) =
           let l : c .count ≤ i = omega arith in
@@ -157,8 +154,7 @@ module _ (c : Chart) (w : WellFormed c)
           ∙ rw (lt-ltb k (c .count * mostTerms) h, lt-ltb (k % mostTerms) (regionAt c (k / mostTerms) .count) d) in
           subst (InChart (c .clocks)) (sym e)
           (word-named (c .clocks) (termAt (regionAt c (k / mostTerms)) (k % mostTerms)) (w .clocks)
-          (t .used (k % mostTerms) d)
-          (numbers (k / mostTerms) (k % mostTerms) (omega arith) (omega arith)))
+          (t .used (k % mostTerms) d))
 
   words-end : (i j k : ℕ) → j ≤ k → k < mostTerms → getD terms (i * mostTerms + j) 0 ≡ 0
       → getD terms (i * mostTerms + k) 0 ≡ 0
@@ -217,7 +213,6 @@ module _ {c : Chart} {i plain hot : ℕ} {keys resets terms : List ℕ} (P : Par
 
 -- the parts together
 module _ (c : Chart) (p : Plan) (w : WellFormed c) (accepted : Accepted (chartOf c))
-    (numbers : (i j : ℕ) → i < mostRegions → j < mostTerms → termAt (regionAt c i) j .n < bias)
     (heading : (p .head .count ≡ c .count) × (p .head .prechart ≡ c .prechart) × (p .head .clocks ≡ c .clocks))
     (above : p .above ≡ aboveOf c)
     (P : Parts c (c .count) (p .head .plain) (p .head .hot) (p .keys) (p .resets) (p .terms)) where
@@ -233,7 +228,7 @@ module _ (c : Chart) (p : Plan) (w : WellFormed c) (accepted : Accepted (chartOf
         above = λ a b. above-set a b x;
         clocks = heading .2 x;
         resets = λ i k. resets-show c (p .resets) (P .resets-at) i k x;
-        condition = λ i v. terms-show c w numbers (p .terms) (P .word-at) i v x;
+        condition = λ i v. terms-show c w (p .terms) (P .word-at) i v x;
         hot = λ i. hot-shows c (p .head .hot) (P .hot-set) i x;
       }
 
@@ -249,7 +244,7 @@ module _ (c : Chart) (p : Plan) (w : WellFormed c) (accepted : Accepted (chartOf
         few = rw (heading .0) (w .room);
         own = λ i m. rw (heading .0) (gathered-below (P .plain-set) i m);
       };
-      words = rw (heading .2) (words-are c w numbers (p .terms) (P .word-at));
+      words = rw (heading .2) (words-are c w (p .terms) (P .word-at));
       accepted = subst Accepted (sym shows) accepted;
     };
   }

@@ -1,10 +1,9 @@
 // A chart compiled into numbers for stepping: it shows the same abstract chart as the chart's value.
-use layout::BIAS;
-use layout::BOUND_PLACE;
 use layout::Head;
+use layout::NUMBER_PLACE;
+use layout::ROW_PLACE;
 use layout::SECOND_PLACE;
 use layout::TERM_PLACES;
-use layout::UPPER_PLACE;
 use model::Chart;
 use model::Event;
 use model::Left;
@@ -14,7 +13,6 @@ use model::MOST_TERMS;
 use model::Message;
 use model::Record;
 use model::Region;
-use model::Relation;
 use model::Term;
 ghost use mathlib.Core.Path.{_≡_};
 ghost use mathlib.Core.Bool.{true, cond};
@@ -23,8 +21,7 @@ ghost use Rattle.bitset.specs.Set.{inserted};
 ghost use Rattle.model.specs.Chart.{mostRegions, mostTerms};
 ghost use Rattle.chart_value.specs.WellFormed.{wellFormed};
 ghost use Rattle.chart_value.specs.View.{codeOf, keyOf};
-ghost use Rattle.plan.specs.Words.{sidesOf, biased, raisedBy, loweredBy, boundBy, firstClock, secondClock};
-ghost use Rattle.plan.specs.Words.{wordOf, wordAt};
+ghost use Rattle.plan.specs.Words.{firstClock, secondClock, wordOf, wordAt};
 ghost use Rattle.plan.specs.Slots.{slotCount, slotOf, Slotted};
 ghost use Rattle.plan.specs.Plan.{Compiles};
 ghost use Rattle.chart_value.specs.Records.{recordCode};
@@ -37,13 +34,12 @@ const SOURCE_PLACE: u64 = 0x100;
 // The second clock of a term of one clock.
 const NO_CLOCK: u64 = MOST_CLOCKS as u64;
 
-// From here on the 32 bits of n stand for a negative number.
-const SIGN: u32 = 0x8000_0000;
-
 // A message's regions are found by its slot: the highest byte of its code's low word times SPREAD.
 pub const SLOTS: usize = 256;
 
 const SPREAD: u64 = 0x9E37_79B1;
+
+const LOW_WORD: u64 = 0x1_0000_0000;
 
 const HIGHEST_BYTE: u64 = 0x100_0000;
 
@@ -116,68 +112,6 @@ fn insert_if(set: u32, i: usize, b: bool) -> u32
     set
 }
 
-// The sides on which a relation bounds the difference: 1 above, 2 below, 3 both.
-fn sides_of(e: Relation) -> u64
-    ensures value { λ r. ⌜ r ≡ sidesOf e ⌝ }
-    ensures bound { λ r. ⌜ r < 4 ⌝ }
-{
-    match e {
-        Relation::Less => 1,
-        Relation::AtMost => 1,
-        Relation::Equal => 3,
-        Relation::AtLeast => 2,
-        Relation::More => 2,
-    }
-}
-
-// The number that n's 32 bits stand for, with BIAS added.
-fn biased_number(n: u32) -> u64
-    ensures value { λ r. ⌜ r ≡ biased n ⌝ }
-    ensures bound { λ r. ⌜ (0 < r) × (r < 0x2_0000_0000) ⌝ }
-{
-    if n < SIGN {
-        return BIAS + wire::wide64(n);
-    }
-    wire::wide64(n)
-}
-
-// 1 where the bound lies above the number.
-fn raised(e: Relation) -> u64
-    ensures value { λ r. ⌜ r ≡ raisedBy e ⌝ }
-    ensures bound { λ r. ⌜ r < 2 ⌝ }
-{
-    match e {
-        Relation::Less => 0,
-        Relation::AtMost => 0,
-        Relation::Equal => 0,
-        Relation::AtLeast => 0,
-        Relation::More => 1,
-    }
-}
-
-// 1 where the bound lies below the number.
-fn lowered(e: Relation) -> u64
-    ensures value { λ r. ⌜ r ≡ loweredBy e ⌝ }
-    ensures bound { λ r. ⌜ r < 2 ⌝ }
-{
-    match e {
-        Relation::Less => 1,
-        Relation::AtMost => 0,
-        Relation::Equal => 0,
-        Relation::AtLeast => 0,
-        Relation::More => 0,
-    }
-}
-
-// The bound that a relation with this number gives.
-fn bound_by(e: Relation, b: u64) -> u64
-    requires { ⌜ (0 < b) × (b < 0x2_0000_0000) ⌝ }
-    ensures value { λ r. ⌜ r ≡ boundBy e b ⌝ }
-    ensures bound { λ r. ⌜ r < 0x4_0000_0000 ⌝ }
-{
-    b + raised(e) - lowered(e)
-}
-
 // The clock of a term, or the first of two.
 fn first_clock(l: Left) -> u64
     ensures value { λ r. ⌜ r ≡ firstClock l ⌝ }
@@ -206,8 +140,8 @@ fn word_of(t: Term) -> u64
 {
     let l = t.left;
     let e = t.relation;
-    let bound = bound_by(e, biased_number(t.n)) * BOUND_PLACE + sides_of(e) * UPPER_PLACE;
-    bound + second_clock(l) * SECOND_PLACE + first_clock(l)
+    let high = condition::biased(t.n) * NUMBER_PLACE + condition::row_bits(e) * ROW_PLACE;
+    high + second_clock(l) * SECOND_PLACE + first_clock(l)
 }
 
 // The word of term j; 0 where there is no such term.
@@ -226,7 +160,7 @@ pub fn slot_of(code: u64) -> usize
     ensures value { λ r. ⌜ r ≡ slotOf code ⌝ }
     ensures bound { λ r. ⌜ r < slotCount ⌝ }
 {
-    ((code % BIAS * SPREAD) % BIAS / HIGHEST_BYTE) as usize
+    ((code % LOW_WORD * SPREAD) % LOW_WORD / HIGHEST_BYTE) as usize
 }
 
 // For each slot the set of the regions whose key has it.

@@ -145,5 +145,6 @@ fn run_long() {
 fn main() {
     run_file(b"charts");
     run_file(b"logs");
+    run_file(b"relations");
     run_long();
 }

@@ -1,5 +1,6 @@
 -- Each claim, by the work that proves it; the examples by computation. Assumes nothing.
 use mathlib.Core.Path.{refl}
+use Rattle.condition.proofs.Table.{table-rule}
 use Rattle.chart_value.proofs.Shown.{shown, codes-tell}
 use Rattle.chart_value.proofs.Guards.{never-fire}
 use Rattle.monitor.proofs.History.{view-tells}
@@ -18,6 +19,7 @@ returns c =
       faults = faults;
       shown = shown;
       codes-tell = codes-tell;
+      relations = table-rule;
       guards = never-fire;
       demands = demands-read;
       judged = judged-walk;

@@ -1,52 +1,48 @@
--- `condition::compares` meets its contract: the sums across compare as the exact difference does. Assumes nothing.
-use mathlib.Core.Path.{_∙_}
-use Prim.Native.Nat.{_+_}
-use native.Mathlib.Omega.{arith}
-use Rattle.condition.specs.Parts.{inRelation}
-use Rattle.condition.proofs.Signed.{compares-exactly}
+-- The sums have the exact difference; for a term's row and number, the table's rule. Assumes nothing.
+use mathlib.Core.Path.{_∙_, ap, ap₂}
+use Prim.Native.Nat.{ℕ, _+_}
+use lib.IntN.{pos, _-ℤ_}
+use Rattle.condition.specs.Table.{signOf}
+use Rattle.condition.specs.Rows.{bias, rowSays, compared}
+use Rattle.condition.proofs.Rows.{exact-sums, compared-exactly}
 use borrow.Author.Needs.{needs}
 use Rattle.condition.proofs.compares.Statement.{statement}
 use Rattle.condition.proofs.compares.Tie as tie
 
-wide-requires : tie.Need-wide-requires
-wide-requires c κs = search needs
+wide64-requires : tie.Need-wide64-requires
+wide64-requires c κs = search needs
 
-negative-part-requires : tie.Need-negative-part-requires
-negative-part-requires c κs = search needs
+add-x : tie.Need-add-x
+add-x c = search needs
 
-add-a : tie.Need-add-a
-add-a c = search needs
+wide64-requires-2 : tie.Need-wide64-requires-2
+wide64-requires-2 c κs = search needs
 
-wide-requires-2 : tie.Need-wide-requires-2
-wide-requires-2 c κs = search needs
+add-y : tie.Need-add-y
+add-y c = search needs
 
-positive-part-requires : tie.Need-positive-part-requires
-positive-part-requires c κs = search needs
-
-add-b : tie.Need-add-b
-add-b c = search needs
-
-in-relation-requires : tie.Need-in-relation-requires
-in-relation-requires c κs = search needs
+row-says-requires : tie.Need-row-says-requires
+row-says-requires c κs = search needs
 
 returns : tie.Need-returns
 returns c =
-    let p = c .before .before .before .before in
-    let s = p .before .args in
-    c .in-relation .ensures
-    ∙ (λ i. inRelation (s .relation) (p .wide .ensures i + c .before .before .before .negative-part .ensures .0 i)
-    (c .before .before .wide2 .ensures i + c .before .positive-part .ensures .0 i))
-    ∙ compares-exactly (s .first .0) (s .second .0) (s .n) (omega arith) (s .relation)
+    let a = c .before .before .before .args in
+    let value = c .row-says .ensures
+    ∙ ap₂ (λ (x y : ℕ). rowSays (a .row) (signOf (pos (bias + x) -ℤ pos (a .n + y)))) (c .before .before .wide64 .ensures .0)
+    (c .before .wide642 .ensures .0)
+    ∙ exact-sums (a .row) (a .first .0) (a .second .0) (a .n) in (
+      value,
+      λ e m h q. value ∙ ap (compared (a .row) (a .first .0) (a .second .0)) q
+          ∙ compared-exactly e (a .row) (a .first .0) (a .second .0) m h,
+    )
 
 pub compares-spec : {M : Type 1} → statement M
 compares-spec =
     tie.close
     (tie.spec
-    wide-requires
-    negative-part-requires
-    add-a
-    wide-requires-2
-    positive-part-requires
-    add-b
-    in-relation-requires
+    wide64-requires
+    add-x
+    wide64-requires-2
+    add-y
+    row-says-requires
     returns)

@@ -68,7 +68,7 @@ returns-2 c = λ clocks T.
     let j = c .before .before .before .before .before .before .before .before .before .loop .j in
     let e = term-held (getD (a .terms .now) (a .i * mostTerms + j) 0) (a .t .0) (a .t2) _ _ _
     (c .before .before .before .before .since .ensures) (c .before .before .second-value .ensures)
-    (c .before .word-holds .ensures)
+    (c .before .word-holds .ensures) (c .before .before .before .before .before .before .if1 .left)
     ∙ not-true _ (c .if2 .taken) in
     sym (one-fails (λ k. heldAt (getD (a .terms .now) (a .i * mostTerms + k) 0) (a .t .0) (a .t2)) j mostTerms
     (omega arith) e) ∙ condition-tested T (a .t .0) (a .t2) (a .i)
@@ -87,7 +87,7 @@ loop-again c =
       one-more (L .inv .1)
           (term-held (getD (a .terms .now) (a .i * mostTerms + L .j) 0) (a .t .0) (a .t2) _ _ _
           (c .before .before .before .before .since .ensures) (c .before .before .second-value .ensures)
-          (c .before .word-holds .ensures)
+          (c .before .word-holds .ensures) (c .before .before .before .before .before .before .if1 .left)
           ∙ not-false _ (c .if2 .left)),
     )
 

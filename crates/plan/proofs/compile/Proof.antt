@@ -8,7 +8,6 @@ use borrow.Author.Needs.{needs}
 use Rattle.model.specs.Chart.{mostRegions, mostTerms}
 use Rattle.chart_value.proofs.Facts.{wf-of}
 use Rattle.chart_value.proofs.Exact.{exact-test}
-use Rattle.chart_value.proofs.Owned.{owned-at}
 use Rattle.chart_value.proofs.Shown.{shown}
 use Rattle.plan.proofs.Shows.{Parts, parts-none, parts-next, compiles}
 use Rattle.plan.proofs.compile.Statement.{statement}
@@ -152,7 +151,7 @@ returns c =
     let e : l .i ≡ s .args .t1 .count = omega arith in
     compiles (s .args .t1) _ (wf-of (s .args .t1) (s .pre))
     (shown (s .args .t1) (exact-test (s .args .t1) _ (s .good .0) true (sym (s .pre)) .1 .0 refl) .accepted)
-    (λ i j h m. owned-at (s .args .t1) _ (s .good .0) i h .numbers j m) (refl, refl, refl) (c .above-sets .ensures .0)
+    (refl, refl, refl) (c .above-sets .ensures .0)
     (rw e at (l .inv .5))
 
 pub compile-spec : {M : Type 1} → statement M

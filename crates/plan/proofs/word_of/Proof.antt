@@ -3,23 +3,20 @@ use borrow.Author.Needs.{needs}
 use Rattle.plan.proofs.word_of.Statement.{statement}
 use Rattle.plan.proofs.word_of.Tie as tie
 
-biased-number-requires : tie.Need-biased-number-requires
-biased-number-requires c κs = search needs
+biased-requires : tie.Need-biased-requires
+biased-requires c κs = search needs
 
-bound-by-requires : tie.Need-bound-by-requires
-bound-by-requires c κs = search needs
+mul-high : tie.Need-mul-high
+mul-high c = search needs
 
-mul-bound : tie.Need-mul-bound
-mul-bound c = search needs
+row-bits-requires : tie.Need-row-bits-requires
+row-bits-requires c κs = search needs
 
-sides-of-requires : tie.Need-sides-of-requires
-sides-of-requires c κs = search needs
+mul-high-2 : tie.Need-mul-high-2
+mul-high-2 c = search needs
 
-mul-bound-2 : tie.Need-mul-bound-2
-mul-bound-2 c = search needs
-
-add-bound : tie.Need-add-bound
-add-bound c = search needs
+add-high : tie.Need-add-high
+add-high c = search needs
 
 second-clock-requires : tie.Need-second-clock-requires
 second-clock-requires c κs = search needs
@@ -41,21 +38,19 @@ returns c =
     rw (
       c .first-clock .ensures .0,
       c .before .second-clock .ensures .0,
-      c .before .before .sides-of .ensures .0,
-      c .before .before .before .bound-by .ensures .0,
-      c .before .before .before .before .biased-number .ensures .0,
+      c .before .before .row-bits .ensures .0,
+      c .before .before .before .biased .ensures .0,
     )
 
 pub word-of-spec : {M : Type 1} → statement M
 word-of-spec =
     tie.close
     (tie.spec
-    biased-number-requires
-    bound-by-requires
-    mul-bound
-    sides-of-requires
-    mul-bound-2
-    add-bound
+    biased-requires
+    mul-high
+    row-bits-requires
+    mul-high-2
+    add-high
     second-clock-requires
     mul-result
     add-result
