@@ -7,7 +7,7 @@ use native.Mathlib.Omega.{arith}
 use borrow.Author.Tests.{le-leb, lt-leb, lt-ltb, le-ltb, ltb-true, ltb-false}
 use lib.Dec.{leb, ltb}
 use lib.IntN.{ℤ, pos, negsuc, subℕ, _-ℤ_}
-use lib.Signed.{leZ, ltZ}
+use lib.Signed.{leZ}
 use lib.ListN.{getD}
 use Rattle.base.specs.Lists.{allBelow}
 use Rattle.base.proofs.Facts.{all-at}
@@ -17,7 +17,7 @@ use Rattle.condition.specs.declared.Sign.{Sign}
 use Rattle.condition.specs.declared.Sign.the-variants.{Below, Same, Above}
 use Rattle.condition.specs.Condition.{related}
 use Rattle.condition.specs.Table.{signOf, table, rowOf, columnOf, tableSays, TableRule}
-use Rattle.condition.proofs.Signed.{related-by, sub-sub, order, minus}
+use Rattle.condition.proofs.Signed.{related-by, sub-sub, order}
 
 abbrev relationAt : ℕ → Relation
 relationAt zero = Less

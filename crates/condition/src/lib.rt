@@ -2,7 +2,7 @@
 use model::Length;
 use model::Relation;
 ghost use mathlib.Core.Path.{_≡_};
-ghost use Prim.Native.Nat.{ℕ, _<_, _+_, _%_};
+ghost use Prim.Native.Nat.{ℕ, _<_, _%_};
 ghost use lib.IntN.{pos, _-ℤ_};
 ghost use Rattle.condition.specs.Condition.{signed, related};
 ghost use Rattle.condition.specs.Table.{rowOf, columnOf, signOf, tableSays, TableRule};
@@ -85,12 +85,26 @@ fn bit(b: bool) -> u64
     0
 }
 
-// The relation's row, an entry a bit. A row is looked up once, when a chart is compiled, and its terms keep it.
-pub fn row_bits(e: Relation) -> u64
+// The relation's row, an entry a bit.
+fn look_up_row(e: Relation) -> u64
     ensures value { λ r. ⌜ r ≡ rowBits e ⌝ }
     ensures bound { λ r. ⌜ r < 8 ⌝ }
 {
     bit(says(e, Sign::Below)) + bit(says(e, Sign::Same)) * 2 + bit(says(e, Sign::Above)) * 4
+}
+
+// The same. An arm knows its relation, so that the compiler looks its row up.
+pub fn row_bits(e: Relation) -> u64
+    ensures value { λ r. ⌜ r ≡ rowBits e ⌝ }
+    ensures bound { λ r. ⌜ r < 8 ⌝ }
+{
+    match e {
+        Relation::Less => look_up_row(Relation::Less),
+        Relation::AtMost => look_up_row(Relation::AtMost),
+        Relation::Equal => look_up_row(Relation::Equal),
+        Relation::AtLeast => look_up_row(Relation::AtLeast),
+        Relation::More => look_up_row(Relation::More),
+    }
 }
 
 // The number that n's 32 bits stand for, with BIAS added.
