@@ -118,7 +118,8 @@ pub fn biased(n: u32) -> u64
     wire::wide64(n) - BIAS
 }
 
-// The row's entry at the sign of a less b: below zero, above zero, zero. In this form each test becomes a branch.
+// The row's entry at the sign of a less b: below zero, above zero, zero. Unequal numbers that reach the last line are
+// above zero, with a yes. In this form each test becomes a branch.
 fn row_says(row: u64, a: u64, b: u64) -> bool
     ensures { λ r. ⌜ r ≡ rowSays row (signOf (pos a -ℤ pos b)) ⌝ }
 {
