@@ -10,9 +10,9 @@ use lib.IntN.{ℤ, pos, subℕ, _-ℤ_}
 use Rattle.model.specs.declared.Relation.{Relation}
 use Rattle.condition.specs.declared.Sign.{Sign}
 use Rattle.condition.specs.declared.Sign.the-variants.{Below, Same, Above}
-use Rattle.condition.specs.Condition.{signed, related}
+use Rattle.condition.specs.Condition.{related}
 use Rattle.condition.specs.Table.{signOf, tableSays, TableRule}
-use Rattle.condition.specs.Rows.{bit, rowBits, rowSays, bias, biased, compared}
+use Rattle.condition.specs.Rows.{bit, rowBits, rowSays, bias, biased, compared, TestsExactly}
 use Rattle.condition.proofs.Signed.{minus, sub-sub, signed-is}
 use Rattle.condition.proofs.Table.{signBy, sub-sign, table-rule}
 
@@ -51,12 +51,12 @@ module _ (R : TableRule) (e : Relation) (row : ℕ) (h : row % 8 ≡ rowBits e) 
       by Same q = same-bit (tableSays e Below) (tableSays e Same) (tableSays e Above) row h ∙ R .same e x y q
       by Above q = above-bit (tableSays e Below) (tableSays e Same) (tableSays e Above) row h ∙ R .above e x y q
 
--- a term's test, for both kinds of term: the relation of the exact difference to n
-pub compared-exactly : (e : Relation) (row a b n : ℕ) → row % 8 ≡ rowBits e
-    → compared row a b (biased n) ≡ related e (pos a -ℤ pos b) (signed n)
-compared-exactly e row a b n h =
-    row-related table-rule e row h (pos a -ℤ pos b) (pos (biased n) -ℤ pos bias)
-    ∙ ap (related e (pos a -ℤ pos b)) (sym (signed-is n))
+pub tests-exactly : TestsExactly
+tests-exactly =
+    record {
+      exact = λ e row a b n h. row-related table-rule e row h (pos a -ℤ pos b) (pos (biased n) -ℤ pos bias)
+          ∙ ap (related e (pos a -ℤ pos b)) (sym (signed-is n));
+    }
 
 -- the entry by the order of two numbers
 module _ (row a b : ℕ) where

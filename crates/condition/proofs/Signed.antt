@@ -43,10 +43,10 @@ module _ (x y x′ y′ : ℤ) (l : leZ x y ≡ leZ x′ y′) (g : leZ y x ≡ 
   related-by More = ltZ-not y x ∙ ap not l ∙ sym (ltZ-not y′ x′)
 
 module _ (a b : ℕ) where
-  sub-above : b ≤ a → subℕ a b ≡ pos (a - b)
+  pub sub-above : b ≤ a → subℕ a b ≡ pos (a - b)
   sub-above h = rw (le-ltb a b h)
 
-  sub-below : a < b → subℕ a b ≡ negsuc (b - suc a)
+  pub sub-below : a < b → subℕ a b ≡ negsuc (b - suc a)
   sub-below h = rw (lt-ltb a b h)
 
 -- the same difference

@@ -4,7 +4,7 @@ use mathlib.Core.Path.{_≡_, refl, sym, ap, ap₂, _∙_}
 use mathlib.Core.Bool.{Bool, true, false, So, cond, not}
 use Prim.Native.Nat.{ℕ, zero, suc, _+_, _-_, _*_, _/_, _%_, _≤_, _<_}
 use native.Mathlib.Omega.{arith}
-use borrow.Author.Tests.{le-leb, lt-leb, lt-ltb, le-ltb, ltb-true, ltb-false}
+use borrow.Author.Tests.{le-leb, lt-leb, ltb-true, ltb-false}
 use lib.Dec.{leb, ltb}
 use lib.IntN.{ℤ, pos, negsuc, subℕ, _-ℤ_}
 use lib.Signed.{leZ}
@@ -17,7 +17,7 @@ use Rattle.condition.specs.declared.Sign.{Sign}
 use Rattle.condition.specs.declared.Sign.the-variants.{Below, Same, Above}
 use Rattle.condition.specs.Condition.{related}
 use Rattle.condition.specs.Table.{signOf, table, rowOf, columnOf, tableSays, TableRule}
-use Rattle.condition.proofs.Signed.{related-by, sub-sub, order}
+use Rattle.condition.proofs.Signed.{related-by, sub-below, sub-sub, minus, order, one-clock}
 
 abbrev relationAt : ℕ → Relation
 relationAt zero = Less
@@ -48,10 +48,10 @@ alike-is false true t = t
 alike-is false false t = refl
 
 -- entry k has the answer of its relation for a difference of its sign
-abbrev right : ℕ → Bool
-right k = alike (getD table k false) (related (relationAt (k / 3)) (sample (signAt (k % 3))) (pos 0))
+abbrev entry-right : ℕ → Bool
+entry-right k = alike (getD table k false) (related (relationAt (k / 3)) (sample (signAt (k % 3))) (pos 0))
 
-all-right : So (allBelow 15 right)
+all-right : So (allBelow 15 entry-right)
 all-right = refl
 
 row-at : (e : Relation) → (rowOf e < 5) × (relationAt (rowOf e) ≡ e)
@@ -72,7 +72,7 @@ entry-is e s =
     let h : k < 15 = omega (arith, row-at e .0, column-at s .0) in
     let d : k / 3 ≡ rowOf e = omega (arith, column-at s .0) in
     let m : k % 3 ≡ columnOf s = omega (arith, column-at s .0) in
-    alike-is _ _ (all-at 15 right all-right k h)
+    alike-is _ _ (all-at 15 entry-right all-right k h)
     ∙ ap₂ (λ (i j : ℕ). related (relationAt i) (sample (signAt j)) (pos 0)) d m
     ∙ ap₂ (λ (r : Relation) (c : Sign). related r (sample c) (pos 0)) (row-at e .1) (column-at s .1)
 
@@ -124,32 +124,33 @@ down (pos n) = 0
 down (negsuc n) = suc n
 
 as-sub : (x : ℤ) → x ≡ subℕ (up x) (down x)
-as-sub (pos n) = rw (le-ltb n 0 (omega arith)) (let e : n ≡ n - 0 = omega arith in ap pos e)
-as-sub (negsuc n) = rw (lt-ltb 0 (suc n) (omega arith)) (let e : n ≡ suc n - suc 0 = omega arith in ap negsuc e)
+as-sub (pos n) = sym (one-clock n) ∙ minus n 0
+as-sub (negsuc n) =
+    let e : n ≡ suc n - suc 0 = omega arith in ap negsuc e ∙ sym (sub-below 0 (suc n) (omega arith))
 
 module _ (x y : ℤ) where
-  abbrev left : ℕ
-  left = up x + down y
+  abbrev ups : ℕ
+  ups = up x + down y
 
-  abbrev right-hand : ℕ
-  right-hand = up y + down x
+  abbrev downs : ℕ
+  downs = up y + down x
 
-  sign-is : signOf (x -ℤ y) ≡ signBy left right-hand
+  sign-is : signOf (x -ℤ y) ≡ signBy ups downs
   sign-is =
-      ap signOf (ap₂ _-ℤ_ (as-sub x) (as-sub y) ∙ sub-sub (up x) (down x) (up y) (down y)) ∙ sub-sign left right-hand
+      ap signOf (ap₂ _-ℤ_ (as-sub x) (as-sub y) ∙ sub-sub (up x) (down x) (up y) (down y)) ∙ sub-sign ups downs
 
-  le-is : leZ x y ≡ leb left right-hand
+  le-is : leZ x y ≡ leb ups downs
   le-is = ap₂ leZ (as-sub x) (as-sub y) ∙ order (up x) (down x) (up y) (down y)
 
-  ge-is : leZ y x ≡ leb right-hand left
+  ge-is : leZ y x ≡ leb downs ups
   ge-is = ap₂ leZ (as-sub y) (as-sub x) ∙ order (up y) (down y) (up x) (down x)
 
   -- a relation depends on the sign of the difference alone
   by-sign : (e : Relation) → related e (sample (signOf (x -ℤ y))) (pos 0) ≡ related e x y
   by-sign e =
       related-by (sample (signOf (x -ℤ y))) (pos 0) x y
-      (ap (λ (s : Sign). leZ (sample s) (pos 0)) sign-is ∙ sample-le left right-hand ∙ sym le-is)
-      (ap (λ (s : Sign). leZ (pos 0) (sample s)) sign-is ∙ sample-ge left right-hand ∙ sym ge-is) e
+      (ap (λ (s : Sign). leZ (sample s) (pos 0)) sign-is ∙ sample-le ups downs ∙ sym le-is)
+      (ap (λ (s : Sign). leZ (pos 0) (sample s)) sign-is ∙ sample-ge ups downs ∙ sym ge-is) e
 
 says-by : (e : Relation) (s : Sign) (x y : ℤ) → signOf (x -ℤ y) ≡ s → tableSays e s ≡ related e x y
 says-by e s x y q = entry-is e s ∙ ap (λ (z : Sign). related e (sample z) (pos 0)) (sym q) ∙ by-sign x y e

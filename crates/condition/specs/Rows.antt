@@ -1,4 +1,5 @@
 -- How a term is tested on numbers that are not negative, by its relation's row of the table.
+use mathlib.Core.Path.{_≡_}
 use mathlib.Core.Bool.{Bool, cond}
 use Prim.Native.Nat.{ℕ, _+_, _-_, _*_, _/_, _%_}
 use lib.IntN.{pos, _-ℤ_}
@@ -6,6 +7,7 @@ use lib.Dec.{ltb, eqb}
 use Rattle.model.specs.declared.Relation.{Relation}
 use Rattle.condition.specs.declared.Sign.{Sign}
 use Rattle.condition.specs.declared.Sign.the-variants.{Below, Same, Above}
+use Rattle.condition.specs.Condition.{signed, related}
 use Rattle.condition.specs.Table.{signOf, tableSays}
 
 abbrev pub bit : Bool → ℕ
@@ -31,3 +33,8 @@ biased n = cond (ltb n bias) (bias + n) (n - bias)
 -- the entry at the sign of the exact difference, a less b, from the number n, which has bias added
 abbrev pub compared : ℕ → ℕ → ℕ → ℕ → Bool
 compared row a b n = rowSays row (signOf ((pos a -ℤ pos b) -ℤ (pos n -ℤ pos bias)))
+
+-- with a relation's row and n's number, for terms of both kinds: the relation of the exact difference to n
+pub record TestsExactly : Type 0 where
+  pub exact : (e : Relation) (row a b n : ℕ) → row % 8 ≡ rowBits e
+      → compared row a b (biased n) ≡ related e (pos a -ℤ pos b) (signed n)

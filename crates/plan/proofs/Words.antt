@@ -20,7 +20,7 @@ use Rattle.model.specs.Chart.{mostClocks, mostTerms, termAt}
 use Rattle.condition.specs.Condition.{signed, related, leftOf, termHolds, termsHold, conditionHolds}
 use Rattle.condition.specs.Rows.{rowBits, biased, compared}
 use Rattle.condition.proofs.Signed.{one-clock}
-use Rattle.condition.proofs.Rows.{compared-exactly}
+use Rattle.condition.proofs.Rows.{tests-exactly}
 use Rattle.base.specs.Lists.{allBelow}
 use Rattle.chart_value.specs.WellFormed.{leftFits}
 use Rattle.layout.specs.View.{secondPlace, rowPlace, numberPlace, clockCodes, firstOf, secondOf}
@@ -106,7 +106,7 @@ module _ (clocks : ℕ) (t : Term) (k : clocks ≤ mostClocks) (f : leftFits clo
       ap (λ (b : Bool). b || tested w (v (firstOf w)) (secondValue w v)) (ne-eqb w 0 (word-is t))
       ∙ unpack (biased (t .n)) (rowBits (t .relation)) (secondClock (t .left)) (firstClock (t .left))
       (row-fits (t .relation) .1) (N .codes .1) (N .codes .0) v
-      ∙ compared-exactly (t .relation) (w / rowPlace) (v (firstClock (t .left))) s (t .n)
+      ∙ tests-exactly .exact (t .relation) (w / rowPlace) (v (firstClock (t .left))) s (t .n)
       (row-of (biased (t .n)) (rowBits (t .relation)) (secondClock (t .left)) (firstClock (t .left))
       (row-fits (t .relation) .1) (N .codes .1) (N .codes .0))
       ∙ ap (λ (x : ℤ). related (t .relation) x (signed (t .n))) (N .value v)

@@ -1,10 +1,10 @@
--- The sums have the exact difference; for a term's row and number, the table's rule. Assumes nothing.
-use mathlib.Core.Path.{_∙_, ap, ap₂}
+-- The sums have the exact difference. Assumes nothing.
+use mathlib.Core.Path.{_∙_, ap₂}
 use Prim.Native.Nat.{ℕ, _+_}
 use lib.IntN.{pos, _-ℤ_}
 use Rattle.condition.specs.Table.{signOf}
-use Rattle.condition.specs.Rows.{bias, rowSays, compared}
-use Rattle.condition.proofs.Rows.{exact-sums, compared-exactly}
+use Rattle.condition.specs.Rows.{bias, rowSays}
+use Rattle.condition.proofs.Rows.{exact-sums, tests-exactly}
 use borrow.Author.Needs.{needs}
 use Rattle.condition.proofs.compares.Statement.{statement}
 use Rattle.condition.proofs.compares.Tie as tie
@@ -26,14 +26,12 @@ row-says-requires c κs = search needs
 
 returns : tie.Need-returns
 returns c =
-    let a = c .before .before .before .args in
-    let value = c .row-says .ensures
-    ∙ ap₂ (λ (x y : ℕ). rowSays (a .row) (signOf (pos (bias + x) -ℤ pos (a .n + y)))) (c .before .before .wide64 .ensures .0)
-    (c .before .wide642 .ensures .0)
-    ∙ exact-sums (a .row) (a .first .0) (a .second .0) (a .n) in (
-      value,
-      λ e m h q. value ∙ ap (compared (a .row) (a .first .0) (a .second .0)) q
-          ∙ compared-exactly e (a .row) (a .first .0) (a .second .0) m h,
+    let a = c .before .before .before .args in (
+      c .row-says .ensures
+          ∙ ap₂ (λ (x y : ℕ). rowSays (a .row) (signOf (pos (bias + x) -ℤ pos (a .n + y))))
+          (c .before .before .wide64 .ensures .0) (c .before .wide642 .ensures .0)
+          ∙ exact-sums (a .row) (a .first .0) (a .second .0) (a .n),
+      tests-exactly,
     )
 
 pub compares-spec : {M : Type 1} → statement M
