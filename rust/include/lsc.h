@@ -38,8 +38,8 @@ extern "C" {
 #define LSC_STANDS_BROKEN 3   /* broken, for good */
 
 /* Places of a verdict, and the room that lsc_print wants. */
-#define LSC_VERDICT_PLACES 6
-#define LSC_TEXT_ROOM 169
+#define LSC_VERDICT_PLACES 8
+#define LSC_TEXT_ROOM 223
 
 /* The part at fault, after a refused lsc_judge. */
 #define LSC_PART_CHART 1
@@ -49,10 +49,14 @@ extern "C" {
  * Judges a whole log by a chart. The chart is read first, then the whole log is checked,
  * then its records are taken up to the end or a break.
  *
- * Returns 0, and out[0..5] = standing, kept, dropped, records, break, reason; or the
- * refusal's number (chart 1 to 11; log 22, 23, 30, 31), and out[0..5] = part, number, offset
- * within the part, 0, 0, 0; or 12 if out has fewer than 6 places, and out stays as it was.
- * Places of out beyond the sixth stay as they were.
+ * Returns 0, and out[0..7] = standing, kept, dropped, records, break, reason, region, term; or
+ * the refusal's number (chart 1 to 11; log 22, 23, 30, 31), and out[0..7] = part, number,
+ * offset within the part and five zeros; or 12 if out has fewer than 8 places, and out stays as
+ * it was. Places of out beyond the eighth stay as they were.
+ *
+ * Region and term, both from 1, are those of the hot condition that broke the chart: its region,
+ * and the first of its terms that failed, in the order of the bytes. They are 0 unless the reason
+ * is 2.
  */
 uint8_t lsc_judge(const uint8_t *chart, size_t chart_length,
                   const uint8_t *log, size_t log_length,
@@ -63,20 +67,20 @@ uint8_t lsc_judge(const uint8_t *chart, size_t chart_length,
  * the log. Two lines with the verdict, or one with the refusal, are written to the start of
  * out, without a zero byte after.
  *
- * Returns 0, and *written is the text's length; or 12 if out has fewer than 169 bytes, then
+ * Returns 0, and *written is the text's length; or 12 if out has fewer than 223 bytes, then
  * *written is 0 and out stays as it was. Bytes after the text stay as they were.
  */
 uint8_t lsc_print(const uint8_t *input, size_t input_length,
                   uint8_t *out, size_t out_length, uint64_t *written);
 
 /*
- * The size of a live monitor: 65 bytes more than its chart has, or SIZE_MAX if that is too
+ * The size of a live monitor: 67 bytes more than its chart has, or SIZE_MAX if that is too
  * large. It refuses nothing.
  */
 size_t lsc_live_size(size_t chart_length);
 
 /*
- * Reads a chart and makes a fresh live monitor in live: the monitor's image (57 bytes), the
+ * Reads a chart and makes a fresh live monitor in live: the monitor's image (59 bytes), the
  * chart's length (8 bytes), the chart. The bytes may be copied and stored.
  *
  * Returns 0, and *at is the size of the live monitor; or the chart's refusal (1 to 11), and
@@ -98,6 +102,19 @@ uint8_t lsc_feed_message(uint8_t *live, size_t live_length, uint8_t source,
                          uint8_t destination, uint16_t label, uint32_t time);
 
 /*
+ * Feeds one message, as lsc_feed_message does, and says which condition decided. Returns what
+ * that function returns, and changes the same bytes.
+ *
+ * *region and *term, both from 1, are a region and the first of its terms that failed: after
+ * LSC_BROKEN those that the monitor holds, also when it was broken earlier; after LSC_DROPPED
+ * those of the cold condition that failed. They are 0 if no condition decided (a message that no
+ * ready region has), with every other answer and with every refusal. Both are always written.
+ */
+uint8_t lsc_feed_message_why(uint8_t *live, size_t live_length, uint8_t source,
+                             uint8_t destination, uint16_t label, uint32_t time,
+                             uint64_t *region, uint64_t *term);
+
+/*
  * Feeds one record of time to a live monitor: time passes, no message comes. Answers, refusals
  * and what stays are those of lsc_feed_message.
  */
@@ -106,9 +123,10 @@ uint8_t lsc_feed_time(uint8_t *live, size_t live_length, uint32_t time);
 /*
  * How a live monitor stands after the records fed so far. It changes nothing in live.
  *
- * Returns 0, and out[0..5] = standing, kept, dropped, records, break, reason; or 20 if live
- * holds no live monitor, 21 if the monitor is unfit, 12 if out has fewer than 6 places. A
- * refusal leaves out as it was. Places of out beyond the sixth stay as they were.
+ * Returns 0, and out[0..7] = standing, kept, dropped, records, break, reason, region, term, as
+ * lsc_judge has them; or 20 if live holds no live monitor, 21 if the monitor is unfit, 12 if out
+ * has fewer than 8 places. A refusal leaves out as it was. Places of out beyond the eighth stay
+ * as they were.
  */
 uint8_t lsc_standing(const uint8_t *live, size_t live_length,
                      uint64_t *out, size_t out_length);

@@ -1,16 +1,16 @@
 -- Facts on searches, on the lowest number that passes a test, and on lists that grow at their end. Assumes nothing.
-use mathlib.Core.Path.{_≡_, refl, ap}
+use mathlib.Core.Path.{_≡_, refl, sym, ap, _∙_}
 use mathlib.Core.Logic.{_⊎_, inl, inr}
 use mathlib.Core.Bool.{Bool, false, not, So, _||_}
 use mathlib.Core.Option.{Option, none, some}
-use Prim.Native.Nat.{ℕ, zero, suc, _≤_, _<_}
+use Prim.Native.Nat.{ℕ, zero, suc, _+_, _≤_, _<_}
 use native.Mathlib.Nat.{not-suc-le-zero}
 use native.Mathlib.Omega.{arith}
-use native.Mathlib.Decide.{ℕ-discrete}
-use lib.Dec.{eqb}
-use borrow.Author.Tests.{eq-eqb, ne-eqb}
+use native.Mathlib.Decide.{decLt, ℕ-discrete}
+use lib.Dec.{eqb, ltb}
+use borrow.Author.Tests.{eq-eqb, ne-eqb, lt-ltb, le-ltb, not-true, not-false}
 use Rattle.base.proofs.Bools.{split, clash, and-both, and-left, and-right}
-use Rattle.base.specs.Lists.{Snoc, ε, _▸_, size, each, allBelow, countBelow, first}
+use Rattle.base.specs.Lists.{Snoc, ε, _▸_, size, each, allBelow, countBelow, first, failsAt}
 
 -- a search's value, with the equation
 pub found : {A : Type 0} (o : Option A) → (o ≡ none) ⊎ ((a : A) × (o ≡ some a))
@@ -79,6 +79,64 @@ first-is-none k t h = elim (found (first k t)) [
   | inr f ↦ absurd (h (f .0) (first-some k t (f .0) (f .1) .below) (first-some k t (f .0) (f .1) .passes))
 ]
 
+-- i is the lowest number below n that fails
+pub record FailsFirst (n : ℕ) (t : ℕ → Bool) (i : ℕ) : Type 0 where
+  pub below : i < n
+  pub fails : t i ≡ false
+  pub before : (j : ℕ) → j < i → So (t j)
+
+pub pass-or-fail : (n : ℕ) (t : ℕ → Bool) → ((j : ℕ) → j < n → So (t j)) ⊎ ((i : ℕ) × FailsFirst n t i)
+pass-or-fail n t = elim (found (first n (λ j. not (t j)))) [
+  | inl e ↦ inl (λ j l. not-false (t j) (first-none n (λ i. not (t i)) e j l))
+  | inr f ↦
+      let L : Lowest n (λ j. not (t j)) (f .0) = first-some n (λ j. not (t j)) (f .0) (f .1) in
+      inr (
+        f .0,
+        record {
+          below = L .below;
+          fails = not-true (t (f .0)) (L .passes);
+          before = λ j l. elim (split (t j)) [
+            | inl p ↦ p
+            | inr p ↦ absurd (omega (arith, L .lowest j (omega (arith, L .below)) (rw p)))
+          ];
+        },
+      )
+]
+
+-- the lowest number that fails, counted from 1
+pub fails-none : (n : ℕ) (t : ℕ → Bool) → ((j : ℕ) → j < n → So (t j)) → failsAt n t ≡ 0
+fails-none n t h = rw (first-is-none n (λ j. not (t j)) (λ j l e. clash (h j l) (not-true (t j) e)))
+
+pub fails-is : (n : ℕ) (t : ℕ → Bool) (i : ℕ) → FailsFirst n t i → failsAt n t ≡ i + 1
+fails-is n t i F = rw (first-is n (λ j. not (t j)) i (record {
+  below = F .below;
+  passes = rw (F .fails);
+  lowest = λ j l e. elim (decLt j i) [ yes b ↦ clash (F .before j b) (not-true (t j) e) | no b ↦ omega arith ];
+}))
+
+pub fails-bound : (n : ℕ) (t : ℕ → Bool) → failsAt n t ≤ n
+fails-bound n t = elim (pass-or-fail n t) [
+  | inl h ↦ omega (arith, fails-none n t h)
+  | inr f ↦ omega (arith, f .1 .below, fails-is n t (f .0) (f .1))
+]
+
+-- it is the same for two tests that agree below n, if the second passes every number from n on
+pub fails-same : (n m : ℕ) (t u : ℕ → Bool) → n ≤ m → ((j : ℕ) → j < n → t j ≡ u j)
+    → ((j : ℕ) → n ≤ j → j < m → So (u j)) → failsAt m u ≡ failsAt n t
+fails-same n m t u l same rest = elim (pass-or-fail n t) [
+  | inl h ↦ fails-none m u (λ j k. elim (decLt j n) [
+    | yes b ↦ sym (same j b) ∙ h j b
+    | no b ↦ rest j (omega arith) k
+  ]) ∙ sym (fails-none n t h)
+  | inr f ↦
+      let F : FailsFirst n t (f .0) = f .1 in
+      fails-is m u (f .0) (record {
+        below = omega (arith, F .below);
+        fails = sym (same (f .0) (F .below)) ∙ F .fails;
+        before = λ j k. sym (same j (omega (arith, F .below))) ∙ F .before j k;
+      }) ∙ sym (fails-is n t (f .0) F)
+]
+
 pub all-of : (k : ℕ) (t : ℕ → Bool) → ((j : ℕ) → j < k → So (t j)) → So (allBelow k t)
 all-of zero t h = refl
 all-of (suc k) t h = and-both (all-of k t (λ j l. h j (omega arith))) (h k (omega arith))
@@ -107,6 +165,42 @@ count-falls (suc k) f i h u = elim (ℕ-discrete k i) [
     | inl p ↦ rw (ne-eqb k i q, p, count-falls k f i (omega arith) u)
     | inr p ↦ rw (ne-eqb k i q, p, count-falls k f i (omega arith) u)
   ]
+]
+
+pub count-bound : (n : ℕ) (t : ℕ → Bool) → countBelow n t ≤ n
+count-bound zero t = omega arith
+count-bound (suc n) t = elim (split (t n)) [
+  | inl p ↦ rw p (omega (arith, count-bound n t))
+  | inr p ↦ rw p (omega (arith, count-bound n t))
+]
+
+-- the numbers below n pass, and none after them
+pub count-is : (n m : ℕ) (t : ℕ → Bool) → n ≤ m → ((j : ℕ) → j < n → So (t j))
+    → ((j : ℕ) → n ≤ j → j < m → t j ≡ false) → countBelow m t ≡ n
+count-is n zero t l pass rest = omega arith
+count-is n (suc m) t l pass rest = elim (ℕ-discrete n (suc m)) [
+  | yes q ↦
+      let r : countBelow m t ≡ m = count-is m m t (omega arith) (λ j k. pass j (omega arith))
+      (λ j a b. absurd (omega arith)) in
+      rw (pass m (omega arith), r) (sym q)
+  | no q ↦ rw (rest m (omega (arith, q)) (omega arith))
+      (count-is n m t (omega (arith, q)) pass (λ j a b. rest j a (omega arith)))
+]
+
+-- if none passes after one that fails, those that pass are the ones below their count
+pub count-below : (n : ℕ) (t : ℕ → Bool) → ((j k : ℕ) → j ≤ k → k < n → t j ≡ false → t k ≡ false)
+    → (j : ℕ) → j < n → t j ≡ ltb j (countBelow n t)
+count-below n t closed j l = elim (pass-or-fail n t) [
+  | inl h ↦
+      rw (count-is n n t (omega arith) h (λ k a b. absurd (omega arith)), lt-ltb j n l) (h j l)
+  | inr f ↦
+      let F : FailsFirst n t (f .0) = f .1 in
+      let e : countBelow n t ≡ f .0 = count-is (f .0) n t (omega (arith, F .below)) (F .before)
+      (λ k a b. closed (f .0) k a b (F .fails)) in
+      elim (decLt j (f .0)) [
+        | yes b ↦ rw (e, lt-ltb j (f .0) b) (F .before j b)
+        | no b ↦ rw (e, le-ltb j (f .0) (omega arith)) (closed (f .0) j (omega arith) l (F .fails))
+      ]
 ]
 
 pub size-each : {A B : Type 0} (f : A → B) (l : Snoc A) → size (each f l) ≡ size l

@@ -1,6 +1,5 @@
 -- What a loop over the numbers below a bound keeps. Assumes nothing.
 use mathlib.Core.Path.{_≡_, refl}
-use mathlib.Core.Logic.{inl, inr}
 use mathlib.Core.Bool.{Bool, true, false, or-true, _&&_}
 use mathlib.Core.Option.{none, some}
 use Prim.Native.Nat.{ℕ, zero, suc, _+_, _≤_, _<_}
@@ -8,9 +7,9 @@ use native.Mathlib.Decide.{decLt, ℕ-discrete}
 use native.Mathlib.Nat.{not-suc-le-zero}
 use native.Mathlib.Numerals.{add-one}
 use native.Mathlib.Omega.{arith}
-use Rattle.base.specs.Lists.{allBelow, someBelow, first}
-use Rattle.base.proofs.Bools.{split, clash}
-use Rattle.base.proofs.Facts.{first-is, first-is-none, all-of, all-at}
+use Rattle.base.specs.Lists.{allBelow, someBelow, first, failsAt}
+use Rattle.base.proofs.Bools.{clash}
+use Rattle.base.proofs.Facts.{first-is, first-is-none, fails-none, fails-is}
 
 -- the test gave b for every number below k
 pub record SoFar (t : ℕ → Bool) (b : Bool) (k : ℕ) : Type 0 where
@@ -32,15 +31,12 @@ first-passes {t} {k} n S h l = first-is n t k (record {
   lowest = λ j m e. elim (decLt j k) [ yes b ↦ clash e (S .is j b) | no b ↦ omega arith ];
 })
 
-pub all-pass : {t : ℕ → Bool} {k : ℕ} (n : ℕ) → SoFar t true k → k ≡ n → allBelow n t ≡ true
-all-pass {t} n S q = all-of n t (λ j l. S .is j (omega arith))
+pub none-fails : {t : ℕ → Bool} {k : ℕ} (n : ℕ) → SoFar t true k → ((j : ℕ) → k ≤ j → j < n → t j ≡ true)
+    → failsAt n t ≡ 0
+none-fails {t} {k} n S h = fails-none n t (λ j l. elim (decLt j k) [ yes b ↦ S .is j b | no b ↦ h j (omega arith) l ])
 
-pub rest-pass : {t : ℕ → Bool} {k : ℕ} (n : ℕ) → SoFar t true k → ((j : ℕ) → k ≤ j → j < n → t j ≡ true)
-    → allBelow n t ≡ true
-rest-pass {t} {k} n S h = all-of n t (λ j l. elim (decLt j k) [ yes b ↦ S .is j b | no b ↦ h j (omega arith) l ])
-
-pub one-fails : (t : ℕ → Bool) (k n : ℕ) → k < n → t k ≡ false → allBelow n t ≡ false
-one-fails t k n l h = elim (split (allBelow n t)) [ inl p ↦ clash (all-at n t p k l) h | inr p ↦ p ]
+pub first-fails : {t : ℕ → Bool} {k : ℕ} (n : ℕ) → SoFar t true k → t k ≡ false → k < n → failsAt n t ≡ k + 1
+first-fails {t} {k} n S h l = fails-is n t k (record { below = l; fails = h; before = S .is })
 
 pub one-passes : (t : ℕ → Bool) (k n : ℕ) → k < n → t k ≡ true → someBelow n t ≡ true
 one-passes t k zero l h = absurd (not-suc-le-zero l)

@@ -1,7 +1,7 @@
 -- Lists that grow at their end, and tests over the numbers below a bound.
-use mathlib.Core.Bool.{Bool, true, false, cond, _&&_, _||_}
+use mathlib.Core.Bool.{Bool, true, false, not, cond, _&&_, _||_}
 use mathlib.Core.Option.{Option, none, some}
-use Prim.Native.Nat.{ℕ, zero, suc}
+use Prim.Native.Nat.{ℕ, zero, suc, _+_}
 
 infixl 50 _▸_
 -- `l ▸ a` is the list l followed by a: rows, stretches and lists of feeds grow this way
@@ -62,3 +62,7 @@ first (suc k) t = orElse (first k t) (cond (t k) (some k) none)
 abbrev pub onFound : {A B : Type 0} → Option A → B → (A → B) → B
 onFound none b f = b
 onFound (some a) b f = f a
+
+-- the lowest number below the bound that fails, counted from 1; 0 if every one passes
+abbrev pub failsAt : ℕ → (ℕ → Bool) → ℕ
+failsAt n t = onFound (first n (λ j. not (t j))) 0 (λ j. j + 1)

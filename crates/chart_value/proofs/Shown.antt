@@ -10,15 +10,17 @@ use lib.Dec.{ltb, leb, eqb}
 use borrow.Author.Tests.{ltb-true, lt-ltb, le-ltb, lt-leb}
 use Rattle.bitset.specs.Set.{contains}
 use Rattle.base.proofs.Bools.{both, and-both}
+use Rattle.base.proofs.Facts.{fails-bound}
 use Rattle.bitset.proofs.Laws.{member-lt, contains-empty}
 use Rattle.model.specs.declared.Chart.{Chart}
 use Rattle.model.specs.declared.Region.{Region}
 use Rattle.model.specs.declared.Event.{Event}
 use Rattle.model.specs.declared.Message.{Message}
 use Rattle.model.specs.declared.Event.the-variants as event
-use Rattle.model.specs.Chart.{zeroRegion, regionAt, touchedAt}
+use Rattle.model.specs.Chart.{zeroRegion, regionAt, termAt, touchedAt}
 use Rattle.order.specs.Above.{AboveIn, halves, first}
 use Rattle.order.proofs.Laws.{decides}
+use Rattle.condition.specs.Condition.{termHolds}
 use Rattle.chart_reader.specs.Read.{readChart}
 use Rattle.chart_reader.specs.Said.{acceptedAs}
 use Rattle.rounds.specs.Chart.{Accepted}
@@ -112,6 +114,7 @@ module _ (c : Chart) (w : WellFormed c) where
         has-main = w .main;
         cold-prechart = cold-prechart;
         own-clocks = own-clocks;
+        own-terms = λ i value. fails-bound (regionOf c i .count) (λ j. termHolds (termAt (regionOf c i) j) value);
       }
     where
       pick : (a b : ℕ) → a < c .count → b < c .count → AboveIn c a b ⊎ AboveIn c b a

@@ -14,7 +14,7 @@ use Rattle.model.specs.declared.Event.the-variants as event
 use Rattle.model.specs.Chart.{zeroRegion, regionAt}
 use Rattle.order.specs.Above.{AboveIn}
 use Rattle.order.specs.Order.{aboveOf}
-use Rattle.condition.specs.Condition.{conditionHolds}
+use Rattle.condition.specs.Condition.{failingTerm}
 use Rattle.rounds.specs.Chart.{Chart as Abstract, Accepted}
 
 -- C8: one number for label, source and destination; 0 is left for a plain region
@@ -38,7 +38,8 @@ chartOf c =
       above = λ a b. ltb b (c .count) && contains (getD (aboveOf c) b 0) a;
       clocks = c .clocks;
       resets = λ i k. contains (regionOf c i .resets) k;
-      condition = λ i value. conditionHolds (regionOf c i) value;
+      terms = λ i. regionOf c i .count;
+      failing = λ i value. failingTerm (regionOf c i) value;
       hot = λ i. regionOf c i .hot;
     }
 

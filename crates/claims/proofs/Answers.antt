@@ -75,9 +75,9 @@ judgements-tell x y e =
 
 ans : AbstractAnswer → Answer
 ans (refused k) = Refused (feedRefusal k)
-ans (brokenAt n k) = Broken n k
+ans (brokenAt n k x) = Broken n k x
 ans keptNow = Kept
-ans droppedNow = Dropped
+ans (droppedNow x) = Dropped x
 ans entered = Entered
 ans moved = Moved
 ans quiet = Quiet
@@ -85,9 +85,9 @@ ans quiet = Quiet
 answered-answer : (x : Answer) → ans (answerOf x) ≡ x
 unfolding ans
 answered-answer (Refused k) = ap Refused (feed-refusal k)
-answered-answer (Broken n k) = refl
+answered-answer (Broken n k x) = refl
 answered-answer Kept = refl
-answered-answer Dropped = refl
+answered-answer (Dropped x) = refl
 answered-answer Entered = refl
 answered-answer Moved = refl
 answered-answer Quiet = refl

@@ -2,13 +2,13 @@
 use mathlib.Core.Path.{refl}
 use Rattle.bitset.specs.Set.{contains, single, inserted, union, isSubset, within}
 use Rattle.order.specs.Order.{isOver, gathered, aboveSets}
-use Rattle.condition.specs.Condition.{termsHold}
 use Rattle.chart_reader.specs.Read.{readChart, readFrom, advanceOf}
 use Rattle.chart_value.specs.WellFormed.{isZeroTerm, termPlaced, termsFit, regionFits, isZeroRegion, touchedBefore}
 use Rattle.chart_value.specs.WellFormed.{regionPlaced, wellFormed}
+use Rattle.rounds.specs.Chart.{conditionOf}
 use Rattle.rounds.specs.Rows.{chartMessage, plain, values, opened}
-use Rattle.rounds.specs.Machine.{ready, readyFor, readyPlain, fire, unfired, settle, offer, opening, full, prechartDone}
-use Rattle.rounds.specs.Machine.{goOn, keepRound, dropRound, breakRound, conclude, accept, feed, after}
+use Rattle.rounds.specs.Machine.{ready, readyFor, readyPlain, fire, unfired, tryRegion, settle, offer, opening, full}
+use Rattle.rounds.specs.Machine.{prechartDone, goOn, keepRound, dropRound, breakRound, conclude, accept, feed, after}
 use Rattle.log_reader.specs.Records.{recordsFrom, recordsIn}
 use Rattle.judge.specs.Check.{stepAt, checkFrom, checkLog}
 use Rattle.judge.specs.Judge.{judgeOf}
@@ -17,5 +17,5 @@ use Rattle.respond.specs.Respond.{partsReport}
 use Rattle.claims.specs.Examples.{examples, AllSaid}
 
 pub examples-said : AllSaid examples
-unfolding contains single inserted union isSubset within isOver gathered aboveSets termsHold readChart readFrom advanceOf isZeroTerm termPlaced termsFit regionFits isZeroRegion touchedBefore regionPlaced wellFormed chartMessage plain values opened ready readyFor readyPlain fire unfired settle offer opening full prechartDone goOn keepRound dropRound breakRound conclude accept feed after recordsFrom recordsIn stepAt checkFrom checkLog standingOf judgeOf partsReport
+unfolding contains single inserted union isSubset within isOver gathered aboveSets readChart readFrom advanceOf isZeroTerm termPlaced termsFit regionFits isZeroRegion touchedBefore regionPlaced wellFormed conditionOf chartMessage plain values opened ready readyFor readyPlain fire unfired tryRegion settle offer opening full prechartDone goOn keepRound dropRound breakRound conclude accept feed after recordsFrom recordsIn stepAt checkFrom checkLog standingOf judgeOf partsReport
 examples-said = (refl, (refl, (refl, (refl, (refl, (refl, (refl, (refl, (refl, (refl, (refl, (refl, tt))))))))))))

@@ -6,6 +6,7 @@ use Prim.Native.Nat.{ℕ, _-_, _<_}
 use lib.ListN.{length}
 use borrow.Author.Tests.{ne-eqb}
 use Rattle.model.specs.declared.Chart.{Chart}
+use Rattle.model.specs.declared.Cause.{Cause}
 use Rattle.model.specs.declared.Monitor.{Monitor}
 use Rattle.model.specs.declared.Record.{Record}
 use Rattle.model.specs.declared.Verdict.{Verdict}
@@ -120,21 +121,21 @@ standing-broken C m n = rw (ne-eqb (m .tally .broken .at) 0 n)
 -- monitors that agree with the stretches have one verdict
 module _ (C : Abstract) (A : Accepted C) {fs : Snoc LogRecord} (M : Meaning C fs) (m : AbstractMonitor)
     (G : Agrees C (M .accepted) (M .stretches) (M .last) m) where
-  same-broken : {k : ℕ} → M .last ≡ afterBreak k → verdictOf C m ≡ verdictOf C (after C fs)
+  same-broken : {k : ℕ} {x : Cause} → M .last ≡ afterBreak k x → verdictOf C m ≡ verdictOf C (after C fs)
   unfolding AtLast
-  same-broken {k} q =
+  same-broken {k} {x} q =
       let t = agrees-only C A M m G .0 in
-      let H : Agrees C (M .accepted) (M .stretches) (afterBreak k) (after C fs) = rw q at (monitor-agrees C A M .1) in
-      let B : Besides C A (afterBreak k) (M .accepted) = rw q at (besides C A (M .fed)) in
+      let H : Agrees C (M .accepted) (M .stretches) (afterBreak k x) (after C fs) = rw q at (monitor-agrees C A M .1) in
+      let B : Besides C A (afterBreak k x) (M .accepted) = rw q at (besides C A (M .fed)) in
       let n : after C fs .tally .broken .at ≢ 0 = λ z. B (sym (H .at-last .at-last-accepted) ∙ z) in
-      let w : m .tally .broken .at ≢ 0 = λ z. n (sym (ap (λ (x : Tally). x .broken .at) t) ∙ z) in
+      let w : m .tally .broken .at ≢ 0 = λ z. n (sym (ap (λ (u : Tally). u .broken .at) t) ∙ z) in
       ap (λ (s : ℕ). verdictWith s (m .tally)) (standing-broken C m w)
       ∙ ap (verdictWith broken) t
       ∙ sym (ap (λ (s : ℕ). verdictWith s (after C fs .tally)) (standing-broken C (after C fs) n))
 
   same-verdict : (l : Last) → M .last ≡ l → verdictOf C m ≡ verdictOf C (after C fs)
   same-verdict (unended o s) q = ap (verdictOf C) (agrees-only C A M m G .1 o s q)
-  same-verdict (afterBreak k) q = same-broken q
+  same-verdict (afterBreak k x) q = same-broken q
 
 -- the verdict, by the stretches
 pub judged-walk : (c : Chart) → Given c → (log : List ℕ) {es : Snoc Record} {at last : ℕ} → Walk log es at last

@@ -1,5 +1,6 @@
 -- The claims, on one page.
 use mathlib.Core.Path.{_≡_}
+use mathlib.Core.Logic.{_↔_}
 use mathlib.Core.List.{List}
 use Prim.Native.Nat.{ℕ}
 use lib.ListN.{getD}
@@ -8,6 +9,7 @@ use Rattle.model.specs.declared.Chart.{Chart}
 use Rattle.model.specs.declared.Monitor.{Monitor}
 use Rattle.model.specs.declared.Record.{Record}
 use Rattle.model.specs.declared.Answer.{Answer}
+use Rattle.condition.specs.Condition.{Tells}
 use Rattle.condition.specs.Table.{TableRule}
 use Rattle.chart_reader.specs.declared.ChartRead.{ChartRead}
 use Rattle.chart_reader.specs.Said as read
@@ -15,7 +17,7 @@ use Rattle.chart_reader.specs.Read.{readChart}
 use Rattle.chart_reader.specs.Said.{acceptedAs}
 use Rattle.chart_faults.specs.Claims.{Faults}
 use Rattle.chart_value.specs.Given.{Given}
-use Rattle.chart_value.specs.View.{chartOf, Shown, CodesTell}
+use Rattle.chart_value.specs.View.{regionOf, chartOf, Shown, CodesTell}
 use Rattle.chart_value.specs.Guards.{NeverFire}
 use Rattle.base.specs.Lists.{Snoc}
 use Rattle.rounds.specs.Machine.{Monitor as AbstractMonitor}
@@ -52,6 +54,7 @@ pub record Views (m : Monitor) : Type 0 where
   pub dropped : monitorAt m .tally .dropped ≡ m .tally .dropped
   pub break : monitorAt m .tally .broken .at ≡ m .tally .broken .at
   pub reason : monitorAt m .tally .broken .reason ≡ m .tally .broken .reason
+  pub cause : monitorAt m .tally .broken .cause ≡ m .tally .broken .cause
 
 -- the second and the third demand of the abstract chart that c shows; and that the real operation gives what the
 -- machine gives of which they speak
@@ -72,6 +75,10 @@ pub record Claims : Type 0 where
   pub codes-tell : CodesTell
   -- each entry of the table that decides terms is yes exactly if its relation holds for differences of its sign
   pub relations : TableRule
+  -- C19: the test of a region's condition gives 0 exactly if every term holds, and a term exactly if it fails and each
+  -- before it holds
+  pub which-term : (c : Chart) (i : ℕ) (value : ℕ → ℕ) (k : ℕ)
+      → (chartOf c .failing i value ≡ k) ↔ Tells (regionOf c i) value k
   -- the guards of the reader's definition never fire
   pub guards : NeverFire
   -- of every chart that is read from bytes: the second and the third demand, and that feeding does what they say

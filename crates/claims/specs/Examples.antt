@@ -37,9 +37,13 @@ abbrev pub references : ℕ → List ℕ → List ℕ
 references time rest = message 2 3 3 time rest
 
 -- a chart and a log, with the numbers that are printed
-abbrev pub judged : List ℕ → List ℕ → ℕ → ℕ → ℕ → ℕ → ℕ → ℕ → Example
-judged chart log standing kept dropped records break reason =
-    record { chart = chart; log = log; report = Judged (verdictFrom standing kept dropped records break reason) }
+abbrev pub judged : List ℕ → List ℕ → ℕ → ℕ → ℕ → ℕ → ℕ → ℕ → ℕ → ℕ → Example
+judged chart log standing kept dropped records break reason region term =
+    record {
+      chart = chart;
+      log = log;
+      report = Judged (verdictFrom standing kept dropped records break reason region term);
+    }
 
 -- a chart that is refused, with an empty log
 abbrev pub refusedChart : List ℕ → ℕ → ℕ → Example
@@ -48,19 +52,19 @@ refusedChart chart number offset = record { chart = chart; log = []; report = Re
 abbrev pub examples : List Example
 examples =
     -- X3 and X4
-    judged chartU (undo 100 (references 120 (headings 140 []))) 0 1 0 3 0 0
-    ∷ judged chartU (undo 100 (references 120 (headings 141 []))) 3 0 0 3 3 2
+    judged chartU (undo 100 (references 120 (headings 140 []))) 0 1 0 3 0 0 0 0
+    ∷ judged chartU (undo 100 (references 120 (headings 141 []))) 3 0 0 3 3 2 2 1
     -- X5 and X6
-    ∷ judged chartU (undo 100 (headings 120 [])) 2 0 0 2 0 0
-    ∷ judged chartU (undo 100 (headings 120 (headings 130 []))) 3 0 0 3 3 1
+    ∷ judged chartU (undo 100 (headings 120 [])) 2 0 0 2 0 0 0 0
+    ∷ judged chartU (undo 100 (headings 120 (headings 130 []))) 3 0 0 3 3 1 0 0
     -- X7
-    ∷ judged chartU (undo 100 (undo 110 [])) 3 0 0 2 2 1
+    ∷ judged chartU (undo 100 (undo 110 [])) 3 0 0 2 2 1 0 0
     -- X8
-    ∷ judged chartU (headings 5 []) 0 0 1 1 0 0
+    ∷ judged chartU (headings 5 []) 0 0 1 1 0 0 0 0
     -- X9
-    ∷ judged chartU (undo 100 (message 3 2 3 110 [])) 2 0 0 2 0 0
+    ∷ judged chartU (undo 100 (message 3 2 3 110 [])) 2 0 0 2 0 0 0 0
     -- X10
-    ∷ judged chartU [] 0 0 0 0 0 0
+    ∷ judged chartU [] 0 0 0 0 0 0 0 0
     -- X11
     ∷ record { chart = chartU; log = undo 100 (headings 99 []); report = Refused Log 22 9 }
     -- X13 (two charts) and X14

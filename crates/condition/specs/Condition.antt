@@ -1,9 +1,11 @@
--- When a condition holds (C9 to C12), over the exact signed numbers.
-use Prim.Native.Nat.{ℕ, zero, suc}
-use mathlib.Core.Bool.{Bool, true, cond, _&&_}
+-- When a condition holds, and which term fails (C9 to C12, C19), over the exact signed numbers.
+use mathlib.Core.Path.{_≡_}
+use mathlib.Core.Bool.{Bool, false, cond, So, _&&_}
+use Prim.Native.Nat.{ℕ, _+_, _<_}
 use lib.IntN.{ℤ, pos, _-ℤ_}
 use lib.Signed.{leZ, ltZ}
 use lib.Dec.{ltb}
+use Rattle.base.specs.Lists.{failsAt}
 use Rattle.model.specs.declared.Relation.{Relation}
 use Rattle.model.specs.declared.Relation.the-variants.{Less, AtMost, Equal, AtLeast, More}
 use Rattle.model.specs.declared.Left.{Left}
@@ -32,11 +34,12 @@ leftOf (Difference a b) value = pos (value a) -ℤ pos (value b)
 abbrev pub termHolds : Term → (ℕ → ℕ) → Bool
 termHolds t value = related (t .relation) (leftOf (t .left) value) (signed (t .n))
 
--- each of the first j terms holds
-unfoldable pub termsHold : ℕ → Region → (ℕ → ℕ) → Bool
-termsHold zero g value = true
-termsHold (suc j) g value = termsHold j g value && termHolds (termAt g j) value
+-- C9, C19: the test of a region's condition: 0 if all terms hold, otherwise the first that fails, counted from 1
+abbrev pub failingTerm : Region → (ℕ → ℕ) → ℕ
+failingTerm g value = failsAt (g .count) (λ j. termHolds (termAt g j) value)
 
--- C9: a region's condition; without a term it holds
-abbrev pub conditionHolds : Region → (ℕ → ℕ) → Bool
-conditionHolds g value = termsHold (g .count) g value
+-- C19, said without a search: the number that the test of a region's condition gives
+pub data Tells (g : Region) (value : ℕ → ℕ) : ℕ → Type 0 where
+  all-hold : ((j : ℕ) → j < g .count → So (termHolds (termAt g j) value)) → Tells g value 0
+  first-fails : (j : ℕ) → j < g .count → termHolds (termAt g j) value ≡ false
+      → ((i : ℕ) → i < j → So (termHolds (termAt g i) value)) → Tells g value (j + 1)

@@ -1,13 +1,14 @@
 // Feeds logs to charts record by record. Standard input has a line for each: a name, ':', the chart's bytes in
-// hexadecimal, '/', the log's. For each record it writes the answer's number, and of the monitor then handed back:
-// fired regions as a set, now, records, kept, dropped, break, reason, and each clock's reset moment. The expected
-// lines, in the file stdout, are worked out from the rules.
+// hexadecimal, '/', the log's. For each record it writes the answer's number, its region and term, and of the monitor
+// then handed back: fired regions as a set, now, records, kept, dropped, break, reason, region, term, and each clock's
+// reset moment. The expected lines, in the file stdout, are worked out from the rules.
 use hex::COLON;
 use hex::LINE_FEED;
 use libc::STDIN_FILENO;
 use libc::STDOUT_FILENO;
 use log_reader::Next;
 use model::CLOCK_PLACES;
+use model::Cause;
 use model::Moment;
 use model::Monitor;
 use stepping::Step;
@@ -23,6 +24,11 @@ fn put_number(n: u32) {
     io::print_decimal(STDOUT_FILENO, n as u64);
 }
 
+fn put_cause(x: Cause) {
+    put_number(x.region as u32);
+    put_number(x.term as u32);
+}
+
 fn put_moments(moments: [Moment; CLOCK_PLACES]) {
     let mut k: usize = 0;
     while k < CLOCK_PLACES {
@@ -35,20 +41,23 @@ fn put_moments(moments: [Moment; CLOCK_PLACES]) {
 fn put_monitor(m: Monitor) {
     let at = m.place;
     let tally = m.tally;
+    let broken = tally.broken;
     let moments = at.resets;
     put_number(at.fired);
     put_number(tally.now.0);
     put_number(tally.records);
     put_number(tally.kept);
     put_number(tally.dropped);
-    put_number(tally.broken.at);
-    put_number(tally.broken.reason as u32);
+    put_number(broken.at);
+    put_number(broken.reason as u32);
+    put_cause(broken.cause);
     put_moments(moments);
 }
 
 fn put_step(s: Step) {
     let answer = s.answer;
     put_number(model::answer_number(answer) as u32);
+    put_cause(model::answer_cause(answer));
     put_monitor(s.next);
     put(b"\n");
 }

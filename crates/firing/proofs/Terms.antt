@@ -11,10 +11,10 @@ use lib.Dec.{eqb, ltb}
 use lib.ListN.{getD}
 use Rattle.model.specs.declared.Moment.{Moment}
 use Rattle.model.specs.Chart.{mostClocks, mostTerms}
-use Rattle.base.specs.Lists.{allBelow}
+use Rattle.base.specs.Lists.{failsAt}
 use Rattle.layout.specs.declared.Head.{Head}
 use Rattle.firing.specs.Places.{momentsOf}
-use Rattle.layout.specs.View.{firstOf, secondOf, tested, holdsBy, conditionBy, InChart, Compiled}
+use Rattle.layout.specs.View.{firstOf, secondOf, tested, holdsBy, failingBy, InChart, Compiled}
 use Rattle.firing.specs.Parts.{valueAt, Testable}
 
 -- the word's term holds, by the moments
@@ -52,10 +52,10 @@ module _ {clocks : ℕ} {terms : List ℕ} (T : Testable clocks terms) (t : ℕ)
   same-test k (yes e) = rw e
   same-test k (no e) = word-tested (getD terms k 0) (T .words .named k e)
 
-  pub condition-tested : (i : ℕ) → allBelow mostTerms
-      (λ j. heldAt (getD terms (i * mostTerms + j) 0) t resets) ≡ conditionBy terms i (valueAt clocks t resets)
+  pub condition-tested : (i : ℕ) → failsAt mostTerms
+      (λ j. heldAt (getD terms (i * mostTerms + j) 0) t resets) ≡ failingBy terms i (valueAt clocks t resets)
   condition-tested i =
-      ap (allBelow mostTerms)
+      ap (failsAt mostTerms)
       (fun-ext (λ j. sym (same-test (i * mostTerms + j) (ℕ-discrete (getD terms (i * mostTerms + j) 0) 0))))
 
   -- from the first word without a term on

@@ -11,8 +11,7 @@ use Rattle.model.specs.declared.Place.{Place}
 use Rattle.model.specs.Chart.{mostClocks}
 use Rattle.base.specs.Lists.{someBelow, first, onFound}
 use Rattle.rounds.specs.Chart.{Chart}
-use Rattle.rounds.specs.Rows.{values}
-use Rattle.rounds.specs.Machine.{Place as AbstractPlace, Move, fails, rests, fire, settle, unfired}
+use Rattle.rounds.specs.Machine.{Place as AbstractPlace, Move, fails, rests, fire, tryRegion, settle, unfired}
 use Rattle.firing.specs.declared.Rest.{Rest}
 use Rattle.firing.specs.declared.Rest.the-variants.{Rests, Fails}
 use Rattle.firing.specs.declared.Settled.{Settled}
@@ -55,14 +54,12 @@ fireBy resets t p i = record {
 
 -- steps 3 and 4 at moment t, once the ready region i that has the message is found
 abbrev pub takenAt : Chart → ℕ → AbstractPlace → ℕ → Move
-takenAt C t p i = cond (C .condition i (values C t (p .clocks)))
-    (settle C t (unfired C (fire C t p i .fired)) (fire C t p i))
-    (fails i p)
+takenAt C t p i = tryRegion C t p i (settle C t (unfired C (fire C t p i .fired)) (fire C t p i))
 
 -- how steps 3 and 4 ended
 abbrev restOf : Rest → AbstractPlace → Move
 restOf Rests p = rests p
-restOf (Fails i) p = fails i p
+restOf (Fails i term) p = fails i term p
 
 abbrev pub moveOf : Settled → Move
 moveOf s = restOf (s .rest) (placeAt (s .place))

@@ -20,7 +20,7 @@ ghost use Rattle.base.specs.Lists.{first, allBelow, someBelow};
 ghost use Rattle.rounds.specs.Chart.{Chart};
 ghost use Rattle.rounds.specs.Rows.{Ready};
 ghost use Rattle.rounds.specs.Machine.{opening as opened};
-ghost use Rattle.layout.specs.View.{Within, Covers, conditionBy, planChart, Compiled};
+ghost use Rattle.layout.specs.View.{Within, Covers, failingBy, planChart, Compiled};
 ghost use Rattle.firing.specs.declared.Rest.the-variants.{Fails as FailsAt};
 ghost use Rattle.firing.specs.Places.{momentsOf, placeAt};
 ghost use Rattle.firing.specs.Parts.{readyBy, foundOf, soughtBy};
@@ -136,30 +136,31 @@ fn second_value(b: usize, m: Moment, t: Moment) -> Length
     Length(0)
 }
 
-// All terms of region i hold at moment t. The array of moments is read here and not passed on: a call that takes it by
-// value would copy it for each clock.
-fn holds(terms: &[u64; TERM_PLACES], resets: [Moment; CLOCK_PLACES], i: usize, t: Moment) -> bool
+// C19: the test of region i's condition at moment t: 0 if all its terms hold, otherwise the first that fails, counted
+// from 1. The array of moments is read here and not passed on: a call that takes it by value would copy it for each
+// clock.
+fn failing(terms: &[u64; TERM_PLACES], resets: [Moment; CLOCK_PLACES], i: usize, t: Moment) -> u8
     requires { ⌜ i < mostRegions ⌝ }
     requires { ⌜ ((c : ℕ) → momentsOf resets c ≤ t .0) ⌝ }
     ensures { λ r. ⌜ ((clocks : ℕ) → Testable clocks (now (terms .entry))
-        → r ≡ conditionBy (now (terms .entry)) i (valueAt clocks (t .0) resets)) ⌝ }
+        → r ≡ failingBy (now (terms .entry)) i (valueAt clocks (t .0) resets)) ⌝ }
 {
     let mut j: usize = 0;
     while j < MOST_TERMS {
         let word = terms[i * MOST_TERMS + j];
         if word == 0 {
-            return true;
+            return 0;
         }
         let a = (word % CLOCK_CODES) as usize;
         let b = (word / SECOND_PLACE % CLOCK_CODES) as usize;
         let first = t.since(resets[a % CLOCK_PLACES]);
         let second = second_value(b, resets[b % CLOCK_PLACES], t);
         if !layout::word_holds(word, first, second) {
-            return false;
+            return j as u8 + 1;
         }
         j += 1;
     }
-    true
+    0
 }
 
 // The reset moments after the clocks of the set are reset at moment t.
@@ -194,10 +195,10 @@ fn fire(resets: &[u32; MOST_REGIONS], p: Place, i: usize, t: Moment) -> Place
     }
 }
 
-// How steps 3 and 4 end: nothing more is ready, or a region's condition fails.
+// How steps 3 and 4 end: nothing more is ready, or a region's condition fails, with its first failing term.
 pub enum Rest {
     Rests,
-    Fails(usize),
+    Fails(usize, u8),
 }
 
 // How they end, and the place then; if a region fails, the place before it.
@@ -223,15 +224,16 @@ pub fn take_region<'a>(
     ensures place { λ r. ⌜ moveOf r
         ≡ takenAt (planChart h (now (keys .entry)) (now (above .entry)) (now (resets .entry)) (now (terms .entry)))
         (t .0) (placeAt p) i ⌝ }
-    ensures region { λ r. ⌜ ((j : ℕ) → r .rest ≡ FailsAt j → j < mostRegions) ⌝ }
+    ensures region { λ r. ⌜ ((j term : ℕ) → r .rest ≡ FailsAt j term → j < mostRegions) ⌝ }
 {
     let mut q = p;
     let mut k = i;
     loop {
         let clocks = q.resets;
-        if !holds(terms, clocks, k, t) {
+        let term = failing(terms, clocks, k, t);
+        if term != 0 {
             return Settled {
-                rest: Rest::Fails(k),
+                rest: Rest::Fails(k, term),
                 place: q,
             };
         }

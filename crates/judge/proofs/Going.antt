@@ -16,6 +16,7 @@ use Rattle.model.specs.declared.Record.{Record}
 use Rattle.model.specs.Chart.{mostRegions}
 use Rattle.model.specs.Monitor.{zeroMonitor}
 use Rattle.model.specs.Answers.{mostRecords}
+use Rattle.model.specs.Monitor.{noCause, causeOf}
 use Rattle.rounds.specs.Chart.{Chart as Abstract}
 use Rattle.rounds.specs.Rows.{LogRecord, chartMessage}
 use Rattle.rounds.specs.Feeds.{noReadyRegion, conditionFails, entered, moved, quiet}
@@ -84,10 +85,11 @@ module _ (C : Abstract) (m : AbstractMonitor) (e : LogRecord) where
   conclude-counted : (v : Move) → Counted (conclude C m e v)
   unfolding conclude goOn keepRound dropRound breakRound
   conclude-counted stuck =
-      either-counted (prechartDone C (m .place .fired)) (breakRound C m e noReadyRegion (m .place)) (dropRound C m e)
+      either-counted (prechartDone C (m .place .fired)) (breakRound C m e noReadyRegion noCause (m .place))
+      (dropRound C m e noCause)
       (record { now = refl; records = refl }) (record { now = refl; records = refl })
-  conclude-counted (fails i p) =
-      either-counted (C .hot i) (breakRound C m e conditionFails p) (dropRound C m e)
+  conclude-counted (fails i term p) =
+      either-counted (C .hot i) (breakRound C m e conditionFails (causeOf i term) p) (dropRound C m e (causeOf i term))
       (record { now = refl; records = refl }) (record { now = refl; records = refl })
   conclude-counted (rests p) =
       either-counted (full C (p .fired)) (keepRound C m e)

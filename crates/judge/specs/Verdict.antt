@@ -44,6 +44,7 @@ standingOf C m =
 abbrev pub verdictWith : ℕ → Tally → Verdict
 verdictWith standing t =
     verdictFrom standing (t .kept) (t .dropped) (t .records) (t .broken .at) (t .broken .reason)
+    (t .broken .cause .region) (t .broken .cause .term)
 
 abbrev pub verdictOf : Abstract → AbstractMonitor → Verdict
 verdictOf C m = verdictWith (standingOf C m) (m .tally)

@@ -207,13 +207,17 @@ pub fn verdict_of(prechart: usize, m: Monitor) -> Verdict
     ensures { λ r. ⌜ r ≡ verdictBy prechart m ⌝ }
 {
     let tally = m.tally;
+    let broken = tally.broken;
+    let cause = broken.cause;
     Verdict {
         standing: standing(prechart, m),
         kept: tally.kept,
         dropped: tally.dropped,
         records: tally.records,
-        broken: tally.broken.at,
-        reason: tally.broken.reason,
+        broken: broken.at,
+        reason: broken.reason,
+        region: cause.region,
+        term: cause.term,
     }
 }
 

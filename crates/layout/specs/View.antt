@@ -1,14 +1,14 @@
 -- What the numbers of a compiled chart stand for: an abstract chart.
 use mathlib.Core.Path.{_≡_}
 use mathlib.Core.Logic.{_⊎_}
-use mathlib.Core.Bool.{Bool, So, cond, _||_}
+use mathlib.Core.Bool.{Bool, So, not, cond, _||_}
 use mathlib.Core.List.{List}
 use Prim.Native.Nat.{ℕ, _+_, _*_, _/_, _%_, _≤_, _<_}
 use lib.Dec.{eqb, ltb}
 use lib.ListN.{getD}
 use Rattle.bitset.specs.Set.{contains}
 use Rattle.model.specs.Chart.{mostClocks, mostRegions, mostTerms}
-use Rattle.base.specs.Lists.{allBelow}
+use Rattle.base.specs.Lists.{countBelow, failsAt}
 use Rattle.condition.specs.Rows.{compared}
 use Rattle.rounds.specs.Chart.{Chart, Accepted}
 use Rattle.layout.specs.declared.Head.{Head}
@@ -46,9 +46,13 @@ tested w a b = compared (w / rowPlace) a b (w / numberPlace)
 unfoldable pub holdsBy : ℕ → (ℕ → ℕ) → Bool
 holdsBy w v = eqb w 0 || tested w (v (firstOf w)) (secondValue w v)
 
--- the condition of region i: its four words
-abbrev pub conditionBy : List ℕ → ℕ → (ℕ → ℕ) → Bool
-conditionBy terms i v = allBelow mostTerms (λ j. holdsBy (getD terms (i * mostTerms + j) 0) v)
+-- the test of region i's condition (C19), by its four words
+abbrev pub failingBy : List ℕ → ℕ → (ℕ → ℕ) → ℕ
+failingBy terms i v = failsAt mostTerms (λ j. holdsBy (getD terms (i * mostTerms + j) 0) v)
+
+-- how many terms region i has: its words that are not 0
+abbrev pub termsBy : List ℕ → ℕ → ℕ
+termsBy terms i = countBelow mostTerms (λ j. not (eqb (getD terms (i * mostTerms + j) 0) 0))
 
 -- the chart that the numbers stand for
 abbrev pub planChart : Head → List ℕ → List ℕ → List ℕ → List ℕ → Chart
@@ -59,7 +63,8 @@ planChart h keys above resets terms = record {
   key = λ i. getD keys i 0;
   above = λ a i. contains (getD above i 0) a;
   resets = λ i c. contains (getD resets i 0) c;
-  condition = conditionBy terms;
+  terms = termsBy terms;
+  failing = failingBy terms;
   hot = contains (h .hot);
 }
 

@@ -7,22 +7,23 @@ use Rattle.text.specs.Text.{bytesOf, decimalOf}
 use Rattle.listing.specs.declared.Part.{Part}
 use Rattle.listing.specs.declared.Part.the-variants.{Input, Chart, Log}
 use Rattle.listing.specs.Listing.{joined, verdictLines, refusalLine}
-use Rattle.listing.specs.Parts.{fieldText, threeFields, partText}
+use Rattle.listing.specs.Parts.{fieldText, fourFields, partText}
 
--- a header h, six texts, spaces s between them and n after the last
-six : (h a b c d e f s n : List ℕ)
-    → (h ++ (((a ++ s) ++ (b ++ s)) ++ (c ++ s))) ++ (((d ++ s) ++ (e ++ s)) ++ (f ++ n))
-    ≡ joined (h ∷ a ∷ s ∷ b ∷ s ∷ c ∷ s ∷ d ∷ s ∷ e ∷ s ∷ f ∷ n ∷ [])
-six h a b c d e f s n = simp (append-assoc, append-nil)
+-- a header h, eight texts, spaces s between them and l after the last
+eight : (h a b c d e f g i s l : List ℕ)
+    → (h ++ ((((a ++ s) ++ (b ++ s)) ++ (c ++ s)) ++ (d ++ s))) ++ ((((e ++ s) ++ (f ++ s)) ++ (g ++ s)) ++ (i ++ l))
+    ≡ joined (h ∷ a ∷ s ∷ b ∷ s ∷ c ∷ s ∷ d ∷ s ∷ e ∷ s ∷ f ∷ s ∷ g ∷ s ∷ i ∷ l ∷ [])
+eight h a b c d e f g i s l = simp (append-assoc, append-nil)
 
 pub verdict-joined : (v : Verdict)
-    → (bytesOf "STANDING KEPT DROPPED RECORDS BREAK REASON\n" ++ threeFields (v .standing) (v .kept) (v .dropped) 32)
-    ++ threeFields (v .records) (v .broken) (v .reason) 10 ≡ verdictLines v
+    → (bytesOf "STANDING KEPT DROPPED RECORDS BREAK REASON REGION TERM\n"
+    ++ fourFields (v .standing) (v .kept) (v .dropped) (v .records) 32)
+    ++ fourFields (v .broken) (v .reason) (v .region) (v .term) 10 ≡ verdictLines v
 unfolding verdictLines bytesOf
 verdict-joined v =
-    six (bytesOf "STANDING KEPT DROPPED RECORDS BREAK REASON\n") (decimalOf (v .standing)) (decimalOf (v .kept))
-    (decimalOf (v .dropped)) (decimalOf (v .records)) (decimalOf (v .broken)) (decimalOf (v .reason)) (32 ∷ [])
-    (10 ∷ [])
+    eight (bytesOf "STANDING KEPT DROPPED RECORDS BREAK REASON REGION TERM\n") (decimalOf (v .standing))
+    (decimalOf (v .kept)) (decimalOf (v .dropped)) (decimalOf (v .records)) (decimalOf (v .broken))
+    (decimalOf (v .reason)) (decimalOf (v .region)) (decimalOf (v .term)) (32 ∷ []) (10 ∷ [])
 
 refusal : (p a t b s n : List ℕ) → ((p ++ (a ++ s)) ++ t) ++ (b ++ n) ≡ p ++ (a ++ ((s ++ t) ++ (b ++ (n ++ []))))
 refusal p a t b s n = simp (append-assoc, append-nil)

@@ -18,10 +18,10 @@ joined (t ∷ ts) = t ++ joined ts
 unfoldable pub verdictLines : Verdict → List ℕ
 verdictLines v =
     joined (
-    bytesOf "STANDING KEPT DROPPED RECORDS BREAK REASON\n" ∷
+    bytesOf "STANDING KEPT DROPPED RECORDS BREAK REASON REGION TERM\n" ∷
     decimalOf (v .standing) ∷ bytesOf " " ∷ decimalOf (v .kept) ∷ bytesOf " " ∷ decimalOf (v .dropped) ∷ bytesOf " " ∷
-    decimalOf (v .records) ∷ bytesOf " " ∷ decimalOf (v .broken) ∷ bytesOf " " ∷ decimalOf (v .reason) ∷
-    bytesOf "\n" ∷ [])
+    decimalOf (v .records) ∷ bytesOf " " ∷ decimalOf (v .broken) ∷ bytesOf " " ∷ decimalOf (v .reason) ∷ bytesOf " " ∷
+    decimalOf (v .region) ∷ bytesOf " " ∷ decimalOf (v .term) ∷ bytesOf "\n" ∷ [])
 
 abbrev pub partName : Part → List ℕ
 partName Input = bytesOf "input"
@@ -45,4 +45,4 @@ listed buffer text = text ++ drop (length text) buffer
 
 -- P12: so many bytes are enough for every listing
 abbrev pub room : ℕ
-room = 43 + 6 * 21
+room = 55 + 8 * 21

@@ -9,9 +9,9 @@ use Rattle.listing.specs.declared.Part.the-variants.{Input, Chart, Log}
 abbrev pub fieldText : ℕ → ℕ → List ℕ
 fieldText n end = decimalOf n ++ (end ∷ [])
 
--- three numbers, a space (32) between them
-abbrev pub threeFields : ℕ → ℕ → ℕ → ℕ → List ℕ
-threeFields x y z end = (fieldText x 32 ++ fieldText y 32) ++ fieldText z end
+-- four numbers, a space (32) between them
+abbrev pub fourFields : ℕ → ℕ → ℕ → ℕ → ℕ → List ℕ
+fourFields w x y z end = ((fieldText w 32 ++ fieldText x 32) ++ fieldText y 32) ++ fieldText z end
 
 abbrev pub partText : Part → List ℕ
 partText Input = bytesOf "refused input "

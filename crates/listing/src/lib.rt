@@ -5,7 +5,7 @@ ghost use Prim.Native.Nat.{_+_, _≤_};
 ghost use lib.ListN.{length};
 ghost use Rattle.wire.specs.Writing.{Wrote};
 ghost use Rattle.listing.specs.Listing.{listingOf, listed, room, verdictLines, refusalLine};
-ghost use Rattle.listing.specs.Parts.{fieldText, threeFields, partText};
+ghost use Rattle.listing.specs.Parts.{fieldText, fourFields, partText};
 
 // The part of the input that a refusal speaks of.
 pub enum Part {
@@ -30,37 +30,44 @@ fn put_field(out: &mut [u8], at: usize, n: u64, end: u8) -> usize
     wire::put_byte(out, next, end)
 }
 
-fn put_three(out: &mut [u8], at: usize, x: u64, y: u64, z: u64, end: u8) -> usize
-    requires { ⌜ at + 63 ≤ length (now out) ⌝ }
-    ensures text { λ r. ⌜ Wrote (now (out .entry)) at (threeFields x y z end) (now (out .exit)) r ⌝ }
-    ensures short { λ r. ⌜ r ≤ at + 63 ⌝ }
+fn put_four(out: &mut [u8], at: usize, w: u64, x: u64, y: u64, z: u64, end: u8) -> usize
+    requires { ⌜ at + 84 ≤ length (now out) ⌝ }
+    ensures text { λ r. ⌜ Wrote (now (out .entry)) at (fourFields w x y z end) (now (out .exit)) r ⌝ }
+    ensures short { λ r. ⌜ r ≤ at + 84 ⌝ }
 {
-    let second = put_field(out, at, x, b' ');
-    let third = put_field(out, second, y, b' ');
-    put_field(out, third, z, end)
+    let second = put_field(out, at, w, b' ');
+    let third = put_field(out, second, x, b' ');
+    let fourth = put_field(out, third, y, b' ');
+    put_field(out, fourth, z, end)
 }
 
-// P8: the header, and the six numbers.
+// P8: the header, and the eight numbers.
 fn put_verdict(out: &mut [u8], v: Verdict) -> usize
     requires { ⌜ room ≤ length (now out) ⌝ }
     ensures text { λ r. ⌜ Wrote (now (out .entry)) 0 (verdictLines v) (now (out .exit)) r ⌝ }
     ensures short { λ r. ⌜ r ≤ room ⌝ }
 {
-    let first = wire::put_bytes(out, 0, b"STANDING KEPT DROPPED RECORDS BREAK REASON\n");
-    let second = put_three(
+    let first = wire::put_bytes(
+        out,
+        0,
+        b"STANDING KEPT DROPPED RECORDS BREAK REASON REGION TERM\n",
+    );
+    let second = put_four(
         out,
         first,
         v.standing as u64,
         v.kept as u64,
         v.dropped as u64,
+        v.records as u64,
         b' ',
     );
-    put_three(
+    put_four(
         out,
         second,
-        v.records as u64,
         v.broken as u64,
         v.reason as u64,
+        v.region as u64,
+        v.term as u64,
         b'\n',
     )
 }

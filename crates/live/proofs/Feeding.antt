@@ -10,6 +10,7 @@ use lib.Dec.{eqb, ltb, leb}
 use lib.ListN.{length, drop, length-append, length-drop}
 use lib.Seq.{drop-at}
 use Rattle.base.proofs.Bools.{either, split}
+use Rattle.model.specs.declared.Cause.{Cause}
 use Rattle.model.specs.declared.Chart.{Chart}
 use Rattle.model.specs.declared.Monitor.{Monitor}
 use Rattle.model.specs.declared.Record.{Record}
@@ -43,9 +44,9 @@ use Rattle.live.proofs.Charts.{same-chart, live-exact, zero-refused}
 answered-20 : (a : Answer) → answerOf a ≡ refused (feedRefusalNumber NotAChart)
     → answerNumber a ≡ feedRefusalNumber NotAChart
 answered-20 (Refused k) e = cc
-answered-20 (Broken n k) e = let z : _≡_ {A = ℕ} 0 1 = cc in absurd (omega arith)
+answered-20 (Broken n k x) e = let z : _≡_ {A = ℕ} 0 1 = cc in absurd (omega arith)
 answered-20 Kept e = let z : _≡_ {A = ℕ} 0 1 = cc in absurd (omega arith)
-answered-20 Dropped e = let z : _≡_ {A = ℕ} 0 1 = cc in absurd (omega arith)
+answered-20 (Dropped x) e = let z : _≡_ {A = ℕ} 0 1 = cc in absurd (omega arith)
 answered-20 Entered e = let z : _≡_ {A = ℕ} 0 1 = cc in absurd (omega arith)
 answered-20 Moved e = let z : _≡_ {A = ℕ} 0 1 = cc in absurd (omega arith)
 answered-20 Quiet e = let z : _≡_ {A = ℕ} 0 1 = cc in absurd (omega arith)
@@ -59,9 +60,9 @@ zeros-fed m e = rw zero-refused
 answered-as : (a : Answer) → answerNumber a ≡ feedRefusalNumber NotAChart
     → answerOf a ≡ refused (feedRefusalNumber NotAChart)
 answered-as (Refused k) e = ap refused e
-answered-as (Broken n k) e = absurd (omega arith)
+answered-as (Broken n k x) e = absurd (omega arith)
 answered-as Kept e = absurd (omega arith)
-answered-as Dropped e = absurd (omega arith)
+answered-as (Dropped x) e = absurd (omega arith)
 answered-as Entered e = absurd (omega arith)
 answered-as Moved e = absurd (omega arith)
 answered-as Quiet e = absurd (omega arith)
@@ -69,7 +70,7 @@ answered-as Quiet e = absurd (omega arith)
 same-number : {a b : ℕ} → refused a ≡ refused b → a ≡ b
 same-number e = cc
 
-broken-clashes : {a b n : ℕ} → brokenAt a b ≡ refused n → ⊥
+broken-clashes : {a b n : ℕ} {x : Cause} → brokenAt a b x ≡ refused n → ⊥
 broken-clashes e = let z : _≡_ {A = ℕ} 0 1 = cc in omega arith
 
 machine-never : (C : Abstract) (m : AbstractMonitor) (e : LogRecord)
@@ -115,16 +116,16 @@ monitor-at-start {l} {n} m w h =
 
 refused-for : (a : Answer) → isRefused a ≡ true → (k : FeedRefusal) × (a ≡ Refused k)
 refused-for (Refused k) e = (k, refl)
-refused-for (Broken n k) e = absurd (false≢true e)
+refused-for (Broken n k x) e = absurd (false≢true e)
 refused-for Kept e = absurd (false≢true e)
-refused-for Dropped e = absurd (false≢true e)
+refused-for (Dropped x) e = absurd (false≢true e)
 refused-for Entered e = absurd (false≢true e)
 refused-for Moved e = absurd (false≢true e)
 refused-for Quiet e = absurd (false≢true e)
 
 module _ (c : Chart) (l : List ℕ) (m : Monitor) (e : Record) (s : Step) (q : m ≡ monitorIn l)
-    (f : stepOf s ≡ feedOf c m e) (r : ℕ)
-    (t : r ≡ answerNumber (s .answer)) where
+    (f : stepOf s ≡ feedOf c m e) (r : Answer)
+    (t : r ≡ s .answer) where
   fed-in : stepOf s ≡ feedOf c (monitorIn l) e
   fed-in = f ∙ ap (λ (m : Monitor). feedOf c m e) q
 
@@ -155,7 +156,7 @@ module _ (c : Chart) (l : List ℕ) (m : Monitor) (e : Record) (s : Step) (q : m
   }
 
 -- bytes that hold no chart: 20, and they stay as they were
-pub fed-none : (l : List ℕ) (e : Record) → chartIn l ≡ zeroChart → LiveFed l e (feedRefusalNumber NotAChart) l
+pub fed-none : (l : List ℕ) (e : Record) → chartIn l ≡ zeroChart → LiveFed l e (Refused NotAChart) l
 unfolding bytesFed
 fed-none l e z = record {
   by-chart = record {
@@ -179,15 +180,15 @@ chart-stays l s false h =
     (length-append (monitorBytes (s .next)) (drop monitorSize l) ∙ omega (arith, size, length-drop monitorSize l))
     (drop-at (monitorBytes (s .next)) (drop monitorSize l) monitorSize size)
 
-pub fed-live : {l n : List ℕ} {e : Record} {r : ℕ} (c : Chart) → c ≡ chartIn l → monitorSize ≤ length l
+pub fed-live : {l n : List ℕ} {e : Record} {r : Answer} (c : Chart) → c ≡ chartIn l → monitorSize ≤ length l
     → LiveFedBy c l e r n → LiveFed l e r n
 unfolding bytesFed
 fed-live {l} {n} {e} {r} c p h F = record {
   by-chart = subst (λ (c : Chart). LiveFedBy c l e r n) p F;
   chart = ap chartIn (F .bytes) ∙ chart-stays l (F .taken) (isRefused (F .taken .answer) || isBroken (monitorIn l)) h;
   none = (
-    λ x. F .ans ∙ exact .0 (ap wellFormed p ∙ sym (live-exact l) ∙ x),
-    λ n. live-exact l ∙ ap wellFormed (sym p) ∙ exact .1 (sym (F .ans) ∙ n),
+    λ x. ap answerNumber (F .ans) ∙ exact .0 (ap wellFormed p ∙ sym (live-exact l) ∙ x),
+    λ n. live-exact l ∙ ap wellFormed (sym p) ∙ exact .1 (sym (ap answerNumber (F .ans)) ∙ n),
   );
 }
   where

@@ -4,6 +4,7 @@ use mathlib.Core.List.{List}
 use Rattle.model.specs.declared.Chart.{Chart}
 use Rattle.model.specs.declared.Monitor.{Monitor}
 use Rattle.model.specs.declared.Record.{Record}
+use Rattle.model.specs.declared.Answer.{Answer}
 use Rattle.chart_reader.specs.Read.{readChart}
 use Rattle.base.specs.Lists.{Snoc, ε, _▸_}
 use Rattle.rounds.specs.Feeds.{Answer as AbstractAnswer}
@@ -24,15 +25,16 @@ chart-kept (then-fed q F) = F .chart ∙ chart-kept q
 goes : {chart l : List ℕ} {es : Snoc Record} {ans : Snoc AbstractAnswer} → LiveHistory chart es ans l
     → History (readChart chart .chart) es ans (monitorIn l)
 goes {chart} (opened H) = subst (λ (m : Monitor). History (readChart chart .chart) ε ε m) (sym (H .fresh)) none-yet
-goes {chart} (then-fed {es} {ans} {l} {n} {e} q F) =
+goes {chart} (then-fed {es} {ans} {l} {n} {e} {a} q F) =
     let s = F .by-chart .taken in
-    subst (λ (m : Monitor). History (readChart chart .chart) (es ▸ e) (ans ▸ answerOf (s .answer)) m)
+    rw (F .by-chart .ans) (subst
+    (λ (m : Monitor). History (readChart chart .chart) (es ▸ e) (ans ▸ answerOf (s .answer)) m)
     (sym (F .by-chart .next))
-    (one-more e s (goes q) (F .by-chart .fed ∙ ap (λ (c : Chart). feedOf c (monitorIn l) e) (chart-kept q)))
+    (one-more e s (goes q) (F .by-chart .fed ∙ ap (λ (c : Chart). feedOf c (monitorIn l) e) (chart-kept q))))
 
 -- one more feed
-pub runs-on : {l n : List ℕ} {e : Record} {number : ℕ} → LiveFed l e number n → Extends l e number n
-runs-on F = λ chart es ans q. (F .by-chart .taken .answer, F .by-chart .ans, then-fed q F)
+pub runs-on : {l n : List ℕ} {e : Record} {a : Answer} → LiveFed l e a n → Extends l e a n
+runs-on F = λ chart es ans q. then-fed q F
 
 pub live-claims : LiveClaims
 live-claims = record { exact = live-exact; histories = goes }

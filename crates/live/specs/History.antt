@@ -4,7 +4,6 @@ use mathlib.Core.List.{List}
 use Prim.Native.Nat.{ℕ}
 use Rattle.model.specs.declared.Record.{Record}
 use Rattle.model.specs.declared.Answer.{Answer}
-use Rattle.model.specs.Answers.{answerNumber}
 use Rattle.chart_reader.specs.Read.{readChart}
 use Rattle.chart_value.specs.WellFormed.{wellFormed}
 use Rattle.base.specs.Lists.{Snoc, ε, _▸_}
@@ -17,15 +16,14 @@ use Rattle.live.specs.Live.{chartIn, isLive, Holds, LiveFed}
 -- bytes opened for a chart, then fed one record after the other: the records, the answers, and the bytes after them
 pub data LiveHistory (chart : List ℕ) : Snoc Record → Snoc AbstractAnswer → List ℕ → Type 0 where
   opened : {l : List ℕ} → Holds chart l → LiveHistory chart ε ε l
-  then-fed : {es : Snoc Record} {ans : Snoc AbstractAnswer} {l n : List ℕ} {e : Record} {number : ℕ}
-      → LiveHistory chart es ans l → (F : LiveFed l e number n)
-      → LiveHistory chart (es ▸ e) (ans ▸ answerOf (F .by-chart .taken .answer)) n
+  then-fed : {es : Snoc Record} {ans : Snoc AbstractAnswer} {l n : List ℕ} {e : Record} {a : Answer}
+      → LiveHistory chart es ans l → LiveFed l e a n
+      → LiveHistory chart (es ▸ e) (ans ▸ answerOf a) n
 
--- one more feed, which returns this number: with it every list of feeds that led to the bytes l is longer by one, and
--- the number is that of its answer
-abbrev pub Extends : List ℕ → Record → ℕ → List ℕ → Type 0
-Extends l e number n = (chart : List ℕ) (es : Snoc Record) (ans : Snoc AbstractAnswer) → LiveHistory chart es ans l
-    → (a : Answer) × (number ≡ answerNumber a) × LiveHistory chart (es ▸ e) (ans ▸ answerOf a) n
+-- one more feed, with this answer: with it every list of feeds that led to the bytes l is longer by one
+abbrev pub Extends : List ℕ → Record → Answer → List ℕ → Type 0
+Extends l e a n = (chart : List ℕ) (es : Snoc Record) (ans : Snoc AbstractAnswer) → LiveHistory chart es ans l
+    → LiveHistory chart (es ▸ e) (ans ▸ answerOf a) n
 
 pub record LiveClaims : Type 0 where
   -- V3: bytes hold a live monitor exactly if what `chartIn` gives for them is a chart

@@ -32,12 +32,12 @@ use Rattle.live.specs.declared.LiveVerdict.{LiveVerdict}
 
 -- the monitor's image and the chart's length
 abbrev pub headSize : ℕ
-headSize = 65
+headSize = 67
 
 abbrev pub lengthIn : List ℕ → ℕ
 lengthIn l = word64 l monitorSize
 
--- V3: they are 65 at least, and the length is not more than what follows the first 65
+-- V3: they are 67 at least, and the length is not more than what follows the first 67
 abbrev pub isFramed : List ℕ → Bool
 isFramed l = leb headSize (length l) && leb (lengthIn l) (length l - headSize)
 
@@ -87,9 +87,9 @@ pub record Holds (chart l : List ℕ) : Type 0 where
 -- whether the answer is a refusal, and whether the monitor is broken
 abbrev pub isRefused : Answer → Bool
 isRefused (Refused k) = true
-isRefused (Broken n k) = false
+isRefused (Broken n k x) = false
 isRefused Kept = false
-isRefused Dropped = false
+isRefused (Dropped x) = false
 isRefused Entered = false
 isRefused Moved = false
 isRefused Quiet = false
@@ -103,21 +103,21 @@ unfoldable pub bytesFed : List ℕ → Step → List ℕ
 bytesFed l s = cond (isRefused (s .answer) || isBroken (monitorIn l)) l (monitorBytes (s .next) ++ drop monitorSize l)
 
 -- One record fed for the chart c to the monitor whose image starts the bytes l, which are n afterwards.
-pub record LiveFedBy (c : Chart) (l : List ℕ) (e : Record) (number : ℕ) (n : List ℕ) : Type 0 where
-  -- the step that feeding gives, and its number
+pub record LiveFedBy (c : Chart) (l : List ℕ) (e : Record) (answer : Answer) (n : List ℕ) : Type 0 where
+  -- the step that feeding gives, with its answer
   pub taken : Step
   pub fed : stepOf taken ≡ feedOf c (monitorIn l) e
-  pub ans : number ≡ answerNumber (taken .answer)
+  pub ans : answer ≡ taken .answer
   pub bytes : n ≡ bytesFed l taken
   -- the bytes then hold the monitor that was handed back
   pub next : monitorIn n ≡ taken .next
 
 -- V11: one record fed to live bytes, for the chart in them, which they still hold; 20 exactly if they hold no live
 -- monitor.
-pub record LiveFed (l : List ℕ) (e : Record) (number : ℕ) (n : List ℕ) : Type 0 where
-  pub by-chart : LiveFedBy (chartIn l) l e number n
+pub record LiveFed (l : List ℕ) (e : Record) (answer : Answer) (n : List ℕ) : Type 0 where
+  pub by-chart : LiveFedBy (chartIn l) l e answer n
   pub chart : chartIn n ≡ chartIn l
-  pub none : (isLive l ≡ false) ↔ (number ≡ notAChart)
+  pub none : (isLive l ≡ false) ↔ (answerNumber answer ≡ notAChart)
 
 -- V12: the standing of a monitor for a chart: 20, 21, or 0 and the verdict.
 abbrev pub standingBy : Chart → Monitor → LiveVerdict

@@ -19,7 +19,7 @@ ghost use Rattle.live.specs.Live.{isRefused, LiveFedBy, LiveFed, standin
 ghost use Rattle.live.specs.History.{LiveHistory, Extends, LiveClaims};
 
 // The monitor's image and the chart's length.
-const HEAD_SIZE: usize = 65;
+const HEAD_SIZE: usize = 67;
 
 // The largest usize.
 const LARGEST: usize = 0xffff_ffff_ffff_ffff;
@@ -109,9 +109,9 @@ fn is_refused(a: Answer) -> bool
 {
     match a {
         Answer::Refused(_) => true,
-        Answer::Broken(_, _) => false,
+        Answer::Broken(_, _, _) => false,
         Answer::Kept => false,
-        Answer::Dropped => false,
+        Answer::Dropped(_) => false,
         Answer::Entered => false,
         Answer::Moved => false,
         Answer::Quiet => false,
@@ -119,7 +119,7 @@ fn is_refused(a: Answer) -> bool
 }
 
 // One record fed to the monitor whose image starts the bytes.
-pub fn feed_chart(chart: Chart, bytes: &mut [u8], e: Record) -> u8
+pub fn feed_chart(chart: Chart, bytes: &mut [u8], e: Record) -> Answer
     requires { ⌜ monitorSize ≤ length (now bytes) ⌝ }
     ensures { λ r. ⌜ LiveFedBy chart (now (bytes .entry)) e r (now (bytes .exit)) ⌝ }
 {
@@ -128,19 +128,19 @@ pub fn feed_chart(chart: Chart, bytes: &mut [u8], e: Record) -> u8
     let answer = s.answer;
     let next = s.next;
     if is_refused(answer) | (m.tally.broken.at != 0) {
-        return model::answer_number(answer);
+        return answer;
     }
     monitor_image::put_monitor(bytes, next);
-    model::answer_number(answer)
+    answer
 }
 
 // One record fed to the live monitor.
-pub fn feed(live: &mut [u8], e: Record) -> u8
+pub fn feed(live: &mut [u8], e: Record) -> Answer
     ensures fed { λ r. ⌜ LiveFed (now (live .entry)) e r (now (live .exit)) ⌝ }
     ensures history { λ r. ⌜ Extends (now (live .entry)) e r (now (live .exit)) ⌝ }
 {
     if live.len() < HEAD_SIZE {
-        return model::NOT_A_CHART;
+        return Answer::Refused(FeedRefusal::NotAChart);
     }
     feed_chart(chart_in(live), live, e)
 }

@@ -25,15 +25,15 @@ use Rattle.listing.specs.declared.Report.{Report}
 use Rattle.listing.specs.declared.Report.the-variants.{Refused}
 use Rattle.lsc.specs.Lsc.{partNumber, reportNumbers, reportNumber, judgedNumber, judgedOut, isJudgedNumber}
 
--- six numbers that are those of a refusal
+-- eight numbers that are those of a refusal
 pub put-refusal : (r : Report) (out : List ℕ) {m : List ℕ} (part : Part) (number offset p : ℕ)
     → r ≡ Refused part number offset → p ≡ partNumber part
-    → m ≡ (p ∷ number ∷ offset ∷ 0 ∷ 0 ∷ 0 ∷ []) ++ drop places out → (number ≡ reportNumber r)
+    → m ≡ (p ∷ number ∷ offset ∷ 0 ∷ 0 ∷ 0 ∷ 0 ∷ 0 ∷ []) ++ drop places out → (number ≡ reportNumber r)
     × (m ≡ reportNumbers r ++ drop places out)
 put-refusal r out part number offset p e q b = (
   ap reportNumber (sym e),
   b
-      ∙ ap (λ (k : ℕ). (k ∷ number ∷ offset ∷ 0 ∷ 0 ∷ 0 ∷ []) ++ drop places out) q
+      ∙ ap (λ (k : ℕ). (k ∷ number ∷ offset ∷ 0 ∷ 0 ∷ 0 ∷ 0 ∷ 0 ∷ []) ++ drop places out) q
       ∙ ap (λ (x : Report). reportNumbers x ++ drop places out) (sym e),
 )
 

@@ -20,17 +20,17 @@ partNumber Input = 0
 partNumber Chart = 1
 partNumber Log = 2
 
--- V7: the verdict; or part, number and offset, and three zeros
+-- V7: the verdict; or part, number and offset, and five zeros
 abbrev pub reportNumbers : Report → List ℕ
 reportNumbers (Judged v) = verdictNumbers v
-reportNumbers (Refused part number offset) = partNumber part ∷ number ∷ offset ∷ 0 ∷ 0 ∷ 0 ∷ []
+reportNumbers (Refused part number offset) = partNumber part ∷ number ∷ offset ∷ 0 ∷ 0 ∷ 0 ∷ 0 ∷ 0 ∷ []
 
 -- 0 judged, or the refusal's number
 abbrev pub reportNumber : Report → ℕ
 reportNumber (Judged v) = 0
 reportNumber (Refused part number offset) = number
 
--- V7: 12 if out has fewer than 6 places, which then stay as they were; places after the sixth stay in every case
+-- V7: 12 if out has fewer than 8 places, which then stay as they were; places after the eighth stay in every case
 abbrev pub judgedNumber : Report → List ℕ → ℕ
 judgedNumber report out = cond (ltb (length out) places) tooShort (reportNumber report)
 

@@ -25,7 +25,7 @@ fn part_number(part: Part) -> u64
     }
 }
 
-// The report's six numbers, and the number to return.
+// The report's eight numbers, and the number to return.
 fn put_report(out: &mut [u64], report: Report) -> u8
     requires { ⌜ places ≤ length (now out) ⌝ }
     ensures number { λ r. ⌜ r ≡ reportNumber report ⌝ }
@@ -37,11 +37,13 @@ fn put_report(out: &mut [u64], report: Report) -> u8
             0
         }
         Report::Refused(part, number, offset) => {
-            model::put_six(
+            model::put_eight(
                 out,
                 part_number(part),
                 number as u64,
                 offset as u64,
+                0,
+                0,
                 0,
                 0,
                 0,

@@ -1,12 +1,30 @@
--- V12: what asking for a standing returns and writes.
+-- V11, V12, V17: what feeding and asking for a standing return and write.
 use Prim.Native.Nat.{ℕ}
+use mathlib.Core.Path.{_≡_}
 use mathlib.Core.Bool.{cond}
 use mathlib.Core.List.{List, _++_}
 use lib.Dec.{eqb, ltb}
 use lib.ListN.{length, drop}
-use Rattle.model.specs.Numbers.{places, verdictNumbers}
-use Rattle.model.specs.Answers.{tooShort}
+use Rattle.model.specs.Numbers.{places, verdictNumbers, answerCause}
+use Rattle.model.specs.declared.Record.{Record}
+use Rattle.model.specs.declared.Answer.{Answer}
+use Rattle.model.specs.Answers.{tooShort, answerNumber}
+use Rattle.live.specs.Live.{LiveFed}
 use Rattle.live.specs.declared.LiveVerdict.{LiveVerdict}
+
+-- a feed of live bytes returns its answer's number
+pub record FedNumber (l : List ℕ) (e : Record) (number : ℕ) (n : List ℕ) : Type 0 where
+  pub answer : Answer
+  pub fed : LiveFed l e answer n
+  pub is-number : number ≡ answerNumber answer
+
+-- and it can give out the answer's cause
+pub record FedWhy (l : List ℕ) (e : Record) (number region term : ℕ) (n : List ℕ) : Type 0 where
+  pub answer : Answer
+  pub fed : LiveFed l e answer n
+  pub is-number : number ≡ answerNumber answer
+  pub is-region : region ≡ answerCause answer .region
+  pub is-term : term ≡ answerCause answer .term
 
 -- 20 and 21 before 12; only on 0 is out written
 abbrev pub standingNumber : LiveVerdict → List ℕ → ℕ

@@ -1,4 +1,5 @@
-// V9 to V12: the exported functions of live monitors. 0 is success, 12 a buffer with too few places.
+// V9 to V12, V17: the exported functions of live monitors. 0 is success, 12 a buffer with too few places.
+use model::Answer;
 use model::Message;
 use model::Moment;
 use model::PLACES;
@@ -8,7 +9,7 @@ ghost use mathlib.Core.Path.{_≡_};
 ghost use lib.ListN.{length};
 ghost use Rattle.model.specs.declared.Record.the-variants.{Message as MessageAt, Time as TimeAt};
 ghost use Rattle.live.specs.Live.{liveSize, openedOf, bytesOpened, Holds, LiveFed, standingIn};
-ghost use Rattle.lsc_live.specs.Lsc.{standingNumber, standingOut};
+ghost use Rattle.lsc_live.specs.Lsc.{FedNumber, FedWhy, standingNumber, standingOut};
 
 // The size of a live monitor, by the length of its chart.
 #[no_mangle]
@@ -32,15 +33,8 @@ pub extern "C" fn lsc_open(chart: &[u8], live: &mut [u8], at: &mut u64) -> u8
     opened.number
 }
 
-// Feeds a message to the live monitor.
-#[no_mangle]
-pub extern "C" fn lsc_feed_message(
-    live: &mut [u8],
-    source: u8,
-    destination: u8,
-    label: u16,
-    time: u32,
-) -> u8
+// One message fed to the live monitor.
+fn feed_message(live: &mut [u8], source: u8, destination: u8, label: u16, time: u32) -> Answer
     ensures { λ r. ⌜ LiveFed (now (live .entry))
         (MessageAt (record { source = source; destination = destination; label = label }) (record { 0 = time }))
         r (now (live .exit)) ⌝ }
@@ -53,12 +47,50 @@ pub extern "C" fn lsc_feed_message(
     live::feed(live, Record::Message(message, Moment(time)))
 }
 
+// Feeds a message to the live monitor.
+#[no_mangle]
+pub extern "C" fn lsc_feed_message(
+    live: &mut [u8],
+    source: u8,
+    destination: u8,
+    label: u16,
+    time: u32,
+) -> u8
+    ensures { λ r. ⌜ FedNumber (now (live .entry))
+        (MessageAt (record { source = source; destination = destination; label = label }) (record { 0 = time }))
+        r (now (live .exit)) ⌝ }
+{
+    model::answer_number(feed_message(live, source, destination, label, time))
+}
+
+// V17: the same, with the answer's region and term.
+#[no_mangle]
+pub extern "C" fn lsc_feed_message_why(
+    live: &mut [u8],
+    source: u8,
+    destination: u8,
+    label: u16,
+    time: u32,
+    region: &mut u64,
+    term: &mut u64,
+) -> u8
+    ensures { λ r. ⌜ FedWhy (now (live .entry))
+        (MessageAt (record { source = source; destination = destination; label = label }) (record { 0 = time }))
+        r (now (region .exit)) (now (term .exit)) (now (live .exit)) ⌝ }
+{
+    let answer = feed_message(live, source, destination, label, time);
+    let cause = model::answer_cause(answer);
+    *region = cause.region as u64;
+    *term = cause.term as u64;
+    model::answer_number(answer)
+}
+
 // Feeds a record of time to the live monitor.
 #[no_mangle]
 pub extern "C" fn lsc_feed_time(live: &mut [u8], time: u32) -> u8
-    ensures { λ r. ⌜ LiveFed (now (live .entry)) (TimeAt (record { 0 = time })) r (now (live .exit)) ⌝ }
+    ensures { λ r. ⌜ FedNumber (now (live .entry)) (TimeAt (record { 0 = time })) r (now (live .exit)) ⌝ }
 {
-    live::feed(live, Record::Time(Moment(time)))
+    model::answer_number(live::feed(live, Record::Time(Moment(time))))
 }
 
 // The standing of the live monitor.

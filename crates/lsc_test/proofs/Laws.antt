@@ -10,7 +10,8 @@ use Rattle.model.specs.declared.Chart.{Chart}
 use Rattle.model.specs.declared.Monitor.{Monitor}
 use Rattle.model.specs.declared.Record.{Record}
 use Rattle.model.specs.declared.FeedRefusal.the-variants.{NotAChart}
-use Rattle.model.specs.Answers.{feedRefusalNumber, tooShort}
+use Rattle.model.specs.declared.Answer.{Answer}
+use Rattle.model.specs.Answers.{feedRefusalNumber, tooShort, answerNumber}
 use Rattle.monitor.specs.Feed.{madeNumber, MadeOf}
 use Rattle.monitor.specs.declared.Made.{Made}
 use Rattle.chart_value.specs.WellFormed.{wellFormed}
@@ -26,14 +27,15 @@ pub image-short : (image : List ℕ) {l : List ℕ} (e : Record) → length l < 
 image-short image e h =
     record { short = λ g. (refl, refl); by-chart = λ g. absurd (omega arith); none = λ g x. absurd (omega arith) }
 
-pub image-fed : {image l n : List ℕ} {e : Record} {r : ℕ} (c : Chart) → c ≡ chartValue image → monitorSize ≤ length l
-    → LiveFedBy c l e r n
-    → FedImage image l e r n
+pub image-fed : {image l n : List ℕ} {e : Record} {a : Answer} {r : ℕ} (c : Chart) → c ≡ chartValue image
+    → monitorSize ≤ length l → LiveFedBy c l e a n → r ≡ answerNumber a → FedImage image l e r n
 unfolding chartValue
-image-fed {image} {l} {n} {e} {r} c p h F = record {
+image-fed {image} {l} {n} {e} {a} {r} c p h F q = record {
   short = λ g. absurd (omega arith);
-  by-chart = λ g. subst (λ (c : Chart). LiveFedBy c l e r n) p F;
-  none = λ g x. F .ans ∙ exactly-20 c (monitorIn l) e (F .taken) (F .fed) .0 (ap wellFormed (p ∙ rw x) ∙ zero-refused);
+  by-chart = λ g. (a, subst (λ (c : Chart). LiveFedBy c l e a n) p F, q);
+  none = λ g x.
+      q ∙ ap answerNumber (F .ans)
+      ∙ exactly-20 c (monitorIn l) e (F .taken) (F .fed) .0 (ap wellFormed (p ∙ rw x) ∙ zero-refused);
 }
 
 pub new-short : (image l : List ℕ) → length l < monitorSize → (tooShort ≡ newNumber image l) × (l ≡ newBytes l)

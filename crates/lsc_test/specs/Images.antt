@@ -7,7 +7,8 @@ use lib.Dec.{ltb}
 use lib.ListN.{length, drop}
 use Rattle.model.specs.declared.Record.{Record}
 use Rattle.model.specs.Monitor.{zeroMonitor}
-use Rattle.model.specs.Answers.{tooShort, notAChart}
+use Rattle.model.specs.declared.Answer.{Answer}
+use Rattle.model.specs.Answers.{tooShort, notAChart, answerNumber}
 use Rattle.chart_value.specs.WellFormed.{wellFormed}
 use Rattle.monitor_image.specs.MonitorImage.{monitorSize, monitorBytes}
 use Rattle.chart_image.specs.ChartImage.{isImage, chartValue}
@@ -25,5 +26,6 @@ newBytes l = cond (ltb (length l) monitorSize) l (monitorBytes zeroMonitor ++ dr
 -- are no image.
 pub record FedImage (image l : List ℕ) (e : Record) (number : ℕ) (n : List ℕ) : Type 0 where
   pub short : length l < monitorSize → (number ≡ tooShort) × (n ≡ l)
-  pub by-chart : monitorSize ≤ length l → LiveFedBy (chartValue image) l e number n
+  pub by-chart : monitorSize ≤ length l
+      → (a : Answer) × LiveFedBy (chartValue image) l e a n × (number ≡ answerNumber a)
   pub none : monitorSize ≤ length l → isImage image ≡ false → number ≡ notAChart

@@ -34,7 +34,7 @@ fn feed_image(chart: &[u8], bytes: &mut [u8], e: Record) -> u8
     if bytes.len() < monitor_image::MONITOR_SIZE {
         return TOO_SHORT;
     }
-    live::feed_chart(chart_image::chart_at(chart), bytes, e)
+    model::answer_number(live::feed_chart(chart_image::chart_at(chart), bytes, e))
 }
 
 // Makes a monitor for the chart value in an image.

@@ -7,7 +7,7 @@ use respond::Response;
 fn main() {
     let mut input = [0u8; 65537];
     let n = io::read_full(STDIN_FILENO, &mut input);
-    let mut out = [0u8; 169];
+    let mut out = [0u8; 223];
     let response = respond::respond(&input[..n], &mut out);
     match response {
         Response::Written(m) => {

@@ -35,24 +35,26 @@ feedRefusalNumber TooManyRecords = tooManyRecords
 -- T27: the numbers of the answers, in the order in which they are tried
 abbrev pub answerNumber : Answer → ℕ
 answerNumber (Refused k) = feedRefusalNumber k
-answerNumber (Broken n k) = 1
+answerNumber (Broken n k x) = 1
 answerNumber Kept = 2
-answerNumber Dropped = 3
+answerNumber (Dropped x) = 3
 answerNumber Entered = 4
 answerNumber Moved = 5
 answerNumber Quiet = 6
 
 -- J6: the verdict with these numbers
-abbrev pub verdictFrom : ℕ → ℕ → ℕ → ℕ → ℕ → ℕ → Verdict
-verdictFrom standing kept dropped records broken reason = record {
+abbrev pub verdictFrom : ℕ → ℕ → ℕ → ℕ → ℕ → ℕ → ℕ → ℕ → Verdict
+verdictFrom standing kept dropped records broken reason region term = record {
   standing = standing;
   kept = kept;
   dropped = dropped;
   records = records;
   broken = broken;
   reason = reason;
+  region = region;
+  term = term;
 }
 
 -- J5: the verdict of a refused log
 abbrev pub zeroVerdict : Verdict
-zeroVerdict = verdictFrom 0 0 0 0 0 0
+zeroVerdict = verdictFrom 0 0 0 0 0 0 0 0

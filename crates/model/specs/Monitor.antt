@@ -1,5 +1,8 @@
--- Monitors and records as values: the zeros of a monitor, the time of a record.
+-- Monitors and records as values: the cause of a break or a drop, the zeros of a monitor, the time of a record.
+use Prim.Native.Nat.{ℕ, _+_}
 use lib.ListN.{replicate}
+use Rattle.model.specs.declared.Cause.{Cause}
+use Rattle.model.specs.declared.Break.{Break}
 use Rattle.model.specs.declared.Place.{Place}
 use Rattle.model.specs.declared.Tally.{Tally}
 use Rattle.model.specs.declared.Monitor.{Monitor}
@@ -7,6 +10,18 @@ use Rattle.model.specs.declared.Moment.{Moment}
 use Rattle.model.specs.declared.Record.{Record}
 use Rattle.model.specs.declared.Record.the-variants.{Message, Time}
 use Rattle.model.specs.Chart.{mostClocks}
+
+-- T31: no condition decided
+abbrev pub noCause : Cause
+noCause = record { region = 0; term = 0 }
+
+-- T31: the condition of region i, whose number counts from 0 here and from 1 in the cause, with its failing term
+abbrev pub causeOf : ℕ → ℕ → Cause
+causeOf i term = record { region = i + 1; term = term }
+
+-- T1: there is no break
+abbrev pub zeroBreak : Break
+zeroBreak = record { at = 0; reason = 0; cause = noCause }
 
 -- T2: no region is fired, and every number is 0
 abbrev pub zeroPlace : Place
@@ -18,7 +33,7 @@ zeroTally = record {
   records = 0;
   kept = 0;
   dropped = 0;
-  broken = record { at = 0; reason = 0 };
+  broken = zeroBreak;
 }
 
 abbrev pub zeroMonitor : Monitor

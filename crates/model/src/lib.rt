@@ -5,10 +5,10 @@ ghost use Prim.Native.Nat.{ℕ, _-_, _<_, _≤_};
 ghost use lib.ListN.{length, drop};
 ghost use Rattle.bitset.specs.Set.{contains};
 ghost use Rattle.model.specs.Chart.{zeroTerm, zeroRegion, zeroChart, isPlain, isBare, lineSet, touched, touches};
-ghost use Rattle.model.specs.Chart.{mostLines};
-ghost use Rattle.model.specs.Monitor.{zeroMonitor, timeOf};
+ghost use Rattle.model.specs.Chart.{mostLines, mostRegions};
+ghost use Rattle.model.specs.Monitor.{noCause, causeOf, zeroBreak, zeroMonitor, timeOf};
 ghost use Rattle.model.specs.Answers.{feedRefusalNumber, answerNumber, zeroVerdict};
-ghost use Rattle.model.specs.Numbers.{places, verdictNumbers};
+ghost use Rattle.model.specs.Numbers.{places, verdictNumbers, answerCause};
 
 pub const LEAST_LINES: u8 = 2;
 
@@ -185,10 +185,47 @@ pub struct Place {
     pub resets: [Moment; CLOCK_PLACES],
 }
 
-// Where and why a log is broken: the record's number and the reason, both zero if there is no break.
+// Which condition decided: its region and the first of its terms that fails, both counted from 1; zeros where none did.
+pub struct Cause {
+    pub region: u8,
+    pub term: u8,
+}
+
+// T31: no condition decided.
+pub fn no_cause() -> Cause
+    ensures { λ r. ⌜ r ≡ noCause ⌝ }
+{
+    Cause { region: 0, term: 0 }
+}
+
+// T31: the cause for region i, whose number counts from 0 here, and its failing term.
+pub fn cause_of(i: usize, term: u8) -> Cause
+    requires { ⌜ i < mostRegions ⌝ }
+    ensures { λ r. ⌜ r ≡ causeOf i term ⌝ }
+{
+    Cause {
+        region: i as u8 + 1,
+        term,
+    }
+}
+
+// Where and why a log is broken: the record's number, the reason and, for a condition, the cause; all zero if there is
+// no break.
 pub struct Break {
     pub at: u32,
     pub reason: u8,
+    pub cause: Cause,
+}
+
+// T1: there is no break.
+pub fn no_break() -> Break
+    ensures { λ r. ⌜ r ≡ zeroBreak ⌝ }
+{
+    Break {
+        at: 0,
+        reason: 0,
+        cause: no_cause(),
+    }
 }
 
 // Now, which is the time of the last record; how many records, kept and dropped rounds there were; the break.
@@ -213,13 +250,12 @@ pub fn zero_monitor() -> Monitor
     let zero = Moment(0);
     let resets = [zero; CLOCK_PLACES];
     let place = Place { fired: 0, resets };
-    let broken = Break { at: 0, reason: 0 };
     let tally = Tally {
         now: zero,
         records: 0,
         kept: 0,
         dropped: 0,
-        broken,
+        broken: no_break(),
     };
     Monitor { place, tally }
 }
@@ -244,12 +280,12 @@ pub enum FeedRefusal {
     TooManyRecords,
 }
 
-// The answer to a record (T27); a break with its record and reason.
+// The answer to a record (T27); a break with its record and reason; a break and a drop with their cause.
 pub enum Answer {
     Refused(FeedRefusal),
-    Broken(u32, u8),
+    Broken(u32, u8, Cause),
     Kept,
-    Dropped,
+    Dropped(Cause),
     Entered,
     Moved,
     Quiet,
@@ -271,12 +307,27 @@ pub fn answer_number(a: Answer) -> u8
 {
     match a {
         Answer::Refused(k) => feed_refusal_number(k),
-        Answer::Broken(_, _) => 1,
+        Answer::Broken(_, _, _) => 1,
         Answer::Kept => 2,
-        Answer::Dropped => 3,
+        Answer::Dropped(_) => 3,
         Answer::Entered => 4,
         Answer::Moved => 5,
         Answer::Quiet => 6,
+    }
+}
+
+// The cause that an answer has; zeros for every answer but broken and dropped.
+pub fn answer_cause(a: Answer) -> Cause
+    ensures { λ r. ⌜ r ≡ answerCause a ⌝ }
+{
+    match a {
+        Answer::Refused(_) => no_cause(),
+        Answer::Broken(_, _, cause) => cause,
+        Answer::Kept => no_cause(),
+        Answer::Dropped(cause) => cause,
+        Answer::Entered => no_cause(),
+        Answer::Moved => no_cause(),
+        Answer::Quiet => no_cause(),
     }
 }
 
@@ -288,6 +339,8 @@ pub struct Verdict {
     pub records: u32,
     pub broken: u32,
     pub reason: u8,
+    pub region: u8,
+    pub term: u8,
 }
 
 // J5: the verdict of a refused log.
@@ -301,16 +354,19 @@ pub fn zero_verdict() -> Verdict
         records: 0,
         broken: 0,
         reason: 0,
+        region: 0,
+        term: 0,
     }
 }
 
 // How many places of a buffer a verdict or a refusal takes.
-pub const PLACES: usize = 6;
+pub const PLACES: usize = 8;
 
-// Puts six numbers at the start of a buffer.
-pub fn put_six(out: &mut [u64], a: u64, b: u64, c: u64, d: u64, e: u64, f: u64)
+// Puts eight numbers at the start of a buffer.
+pub fn put_eight(out: &mut [u64], a: u64, b: u64, c: u64, d: u64, e: u64, f: u64, g: u64, h: u64)
     requires { ⌜ places ≤ length (now out) ⌝ }
-    ensures { λ r. ⌜ now (out .exit) ≡ (a ∷ b ∷ c ∷ d ∷ e ∷ f ∷ []) ++ drop places (now (out .entry)) ⌝ }
+    ensures { λ r. ⌜ now (out .exit)
+        ≡ (a ∷ b ∷ c ∷ d ∷ e ∷ f ∷ g ∷ h ∷ []) ++ drop places (now (out .entry)) ⌝ }
 {
     out[0] = a;
     out[1] = b;
@@ -318,6 +374,8 @@ pub fn put_six(out: &mut [u64], a: u64, b: u64, c: u64, d: u64, e: u64, f: u64)
     out[3] = d;
     out[4] = e;
     out[5] = f;
+    out[6] = g;
+    out[7] = h;
 }
 
 // Puts a verdict's numbers at the start of a buffer.
@@ -325,7 +383,7 @@ pub fn put_verdict(out: &mut [u64], v: Verdict)
     requires { ⌜ places ≤ length (now out) ⌝ }
     ensures { λ r. ⌜ now (out .exit) ≡ verdictNumbers v ++ drop places (now (out .entry)) ⌝ }
 {
-    put_six(
+    put_eight(
         out,
         v.standing as u64,
         v.kept as u64,
@@ -333,5 +391,7 @@ pub fn put_verdict(out: &mut [u64], v: Verdict)
         v.records as u64,
         v.broken as u64,
         v.reason as u64,
+        v.region as u64,
+        v.term as u64,
     );
 }

@@ -1,6 +1,6 @@
 -- The test of a monitor is the list of M10. Assumes nothing.
 use mathlib.Core.Path.{_≡_, refl, sym, ap, ap₂, subst, _∙_}
-use mathlib.Core.Logic.{_⊎_, inl, inr, _↔_}
+use mathlib.Core.Logic.{inl, inr, _↔_}
 use mathlib.Core.Bool.{Bool, true, false, not, So, _&&_, _||_}
 use mathlib.Core.Option.{Option, none, some}
 use mathlib.Core.List.{List}
@@ -23,9 +23,8 @@ use Rattle.model.specs.Answers.{mostRecords}
 use Rattle.base.specs.Lists.{allBelow, first}
 use Rattle.rounds.specs.Chart.{Chart as Abstract, Accepted}
 use Rattle.rounds.specs.Rows.{plain, Ready, Full}
-use Rattle.rounds.specs.Feeds.{noReadyRegion, conditionFails}
 use Rattle.rounds.specs.Machine.{full, readyPlain, Fit}
-use Rattle.base.proofs.Bools.{split, clash, and-both, and-left, and-right, or-left, or-right, either}
+use Rattle.base.proofs.Bools.{split, clash, and-both, and-left, and-right, or-left, or-right}
 use Rattle.base.proofs.Facts.{all-of, all-at}
 use Rattle.rounds.proofs.Machine.{full-true, full-false, plain-none, plain-is-none}
 use Rattle.layout.specs.declared.Head.{Head}
@@ -37,6 +36,7 @@ use Rattle.firing.specs.Parts.{readyBy, foundOf}
 use Rattle.firing.proofs.Ready.{lt-two-pow, subset-all, found-plain}
 use Rattle.monitor.specs.Fit.{closedUpward, isNone, restsUnlessBroken, momentsFit, breakFits, countsFit}
 use Rattle.monitor.specs.Fit.{placeFits, fits}
+use Rattle.monitor.proofs.Breaks.{break-of, of-break}
 
 -- a set whose members are below n is a number below 2 ^ n
 members-within : (n s : ℕ) → ((i : ℕ) → So (contains s i) → i < n) → within n s ≡ true
@@ -158,44 +158,8 @@ module _ (C : Abstract) (A : Accepted C) (x : Place) (t b : ℕ) where
       not-full false e = refl
 
 module _ (C : Abstract) (A : Accepted C) (m : Monitor) where
-  Breaks : Type 0
-  Breaks = ((m .tally .broken .at ≡ 0) × (m .tally .broken .reason ≡ 0))
-      ⊎ ((1 ≤ m .tally .broken .at) × (m .tally .broken .at ≤ m .tally .records)
-      × ((m .tally .broken .reason ≡ noReadyRegion) ⊎ (m .tally .broken .reason ≡ conditionFails)))
-
-  break-of : So (breakFits (m .tally .records) (m .tally .broken)) → Breaks
-  unfolding breakFits Breaks
-  break-of e = elim (either (eqb (m .tally .broken .at) 0 && eqb (m .tally .broken .reason) 0) _ e) [
-    | inl p ↦
-        inl (
-          eqb-true _ _ (and-left (eqb (m .tally .broken .at) 0) _ p),
-          eqb-true _ _ (and-right (eqb (m .tally .broken .at) 0) _ p),
-        )
-    | inr p ↦
-        let q = and-right (leb 1 (m .tally .broken .at)) _ p in
-        inr (
-          leb-true _ _ (and-left (leb 1 (m .tally .broken .at)) _ p),
-          leb-true _ _ (and-left (leb (m .tally .broken .at) (m .tally .records)) _ q),
-          elim (either (eqb (m .tally .broken .reason) noReadyRegion) _
-              (and-right (leb (m .tally .broken .at) (m .tally .records)) _ q)) [
-                | inl x ↦ inl (eqb-true _ _ x)
-                | inr x ↦ inr (eqb-true _ _ x)
-              ],
-        )
-  ]
-
-  of-break : Breaks → So (breakFits (m .tally .records) (m .tally .broken))
-  unfolding breakFits Breaks
-  of-break (inl p) = or-left _ (and-both (eq-eqb _ _ (p .0)) (eq-eqb _ _ (p .1)))
-  of-break (inr p) =
-      or-right (eqb (m .tally .broken .at) 0 && eqb (m .tally .broken .reason) 0)
-      (and-both (le-leb _ _ (p .0)) (and-both (le-leb _ _ (p .1)) (elim (p .2) [
-        | inl x ↦ or-left _ (eq-eqb _ _ x)
-        | inr x ↦ or-right (eqb (m .tally .broken .reason) noReadyRegion) (eq-eqb _ _ x)
-      ])))
-
   fit-of : length (m .place .resets) ≡ mostClocks → So (fits C m) → Fit C (monitorAt m)
-  unfolding fits countsFit Breaks
+  unfolding fits countsFit
   fit-of size e =
       let P = place-of C A (m .place) (m .tally .now .0) (m .tally .broken .at) size
       (and-left (placeFits C (m .place) (m .tally .now .0) (m .tally .broken .at)) _ e) in
@@ -212,13 +176,13 @@ module _ (C : Abstract) (A : Accepted C) (m : Monitor) where
         few = leb-true _ _ (and-left (leb (m .tally .records) mostRecords) _ counts);
         counts = leb-true _ _ (and-right (leb (m .tally .records) mostRecords) _ counts);
         break-fits =
-            break-of (and-right
+            break-of C (m .tally .records) (m .tally .broken) (and-right
             (leb (m .tally .records) mostRecords && leb (m .tally .kept + m .tally .dropped)
             (m .tally .records)) _ t);
       }
 
   pub of-fit : Fit C (monitorAt m) → So (fits C m)
-  unfolding fits countsFit Breaks
+  unfolding fits countsFit
   of-fit F =
       and-both (of-place C A (m .place) (m .tally .now .0) (m .tally .broken .at) (record {
         closed = F .closed;
@@ -228,7 +192,8 @@ module _ (C : Abstract) (A : Accepted C) (m : Monitor) where
         moments = F .moments;
         unused = F .unused;
       }))
-      (and-both (and-both (le-leb _ _ (F .few)) (le-leb _ _ (F .counts))) (of-break (F .break-fits)))
+      (and-both (and-both (le-leb _ _ (F .few)) (le-leb _ _ (F .counts)))
+      (of-break C (m .tally .records) (m .tally .broken) (F .break-fits)))
 
   -- what the test promises
   pub fit-exactly : length (m .place .resets) ≡ mostClocks → (r : Bool) → r ≡ fits C m
@@ -269,7 +234,7 @@ module _ {h : Head} {keys above resets terms : List ℕ} (K : Compiled h keys ab
   -- what `is_fit` promises, from the tests of the place and of the tally
   pub fit-test : (m : Monitor) → length (m .place .resets) ≡ mostClocks → (place counts break : Bool)
       → place ≡ placeFits compiled (m .place) (m .tally .now .0) (m .tally .broken .at) → counts ≡ countsFit (m .tally)
-      → break ≡ breakFits (m .tally .records) (m .tally .broken)
+      → break ≡ breakFits compiled (m .tally .records) (m .tally .broken)
       → ((place && (counts && break)) ≡ fits compiled m)
       × (((place && (counts && break)) ≡ true) ↔ Fit compiled (monitorAt m))
   unfolding fits

@@ -10,6 +10,7 @@ use lib.Seq.{ext-getD}
 use Rattle.bitset.proofs.Laws.{same-members}
 use Rattle.model.specs.declared.Chart.{Chart}
 use Rattle.model.specs.declared.Moment.{Moment}
+use Rattle.model.specs.declared.Cause.{Cause}
 use Rattle.model.specs.declared.Monitor.{Monitor}
 use Rattle.model.specs.declared.Record.{Record}
 use Rattle.model.specs.Chart.{mostRegions}
@@ -121,7 +122,7 @@ module _ (c : Chart) (wf : wellFormed c ≡ true) (A : Accepted (chartOf c)) whe
     | inr p ↦ clashes (rw p at h)
   ]
     where
-      clashes : {a b : ℕ} → brokenAt a b ≡ refused (feedRefusalNumber k) → ⊥
+      clashes : {a b : ℕ} {x : Cause} → brokenAt a b x ≡ refused (feedRefusalNumber k) → ⊥
       clashes e = let z : _≡_ {A = ℕ} 0 1 = cc in omega arith
 
   never : {es : Snoc Record} {ans : Snoc AbstractAnswer} {m : Monitor} → Goes es ans m → (e : Record) (r : Step)

@@ -1,3 +1,4 @@
+pub mod Breaks
 pub mod Fitness
 pub mod Feeding
 pub mod Owned

@@ -96,7 +96,7 @@ storedTally x = record {
   records = x .records;
   kept = x .kept;
   dropped = x .dropped;
-  broken = record { at = x .broken .at; reason = x .broken .reason };
+  broken = record { at = x .broken .at; reason = x .broken .reason; cause = x .broken .cause };
 }
 
 pub record StoredAs (x : AbstractMonitor) : Type 0 where
@@ -142,9 +142,9 @@ pub record AnsweredAs (a : AbstractAnswer) : Type 0 where
 answered-so : (a : AbstractAnswer) → NotRefused a → AnsweredAs a
 unfolding NotRefused
 answered-so (refused k) t = absurd t
-answered-so (brokenAt n k) t = record { answer = Broken n k; tells = refl }
+answered-so (brokenAt n k x) t = record { answer = Broken n k x; tells = refl }
 answered-so keptNow t = record { answer = Kept; tells = refl }
-answered-so droppedNow t = record { answer = Dropped; tells = refl }
+answered-so (droppedNow x) t = record { answer = Dropped x; tells = refl }
 answered-so entered t = record { answer = Entered; tells = refl }
 answered-so moved t = record { answer = Moved; tells = refl }
 answered-so quiet t = record { answer = Quiet; tells = refl }
@@ -161,5 +161,6 @@ answered-as C m e = elim (split (eqb (m .tally .broken .at) 0)) [
           record { answer = t .answer; tells = rw (p, q, r) (t .tells) }
     ]
   ]
-  | inr p ↦ record { answer = Broken (m .tally .broken .at) (m .tally .broken .reason); tells = rw p }
+  | inr p ↦
+      let b = m .tally .broken in record { answer = Broken (b .at) (b .reason) (b .cause); tells = rw p }
 ]

@@ -2,11 +2,12 @@
 use mathlib.Core.Bool.{Bool, true, false, not, _&&_, _||_}
 use mathlib.Core.Option.{Option, none, some}
 use mathlib.Core.List.{List}
-use Prim.Native.Nat.{ℕ, _+_}
+use Prim.Native.Nat.{ℕ, _+_, _-_}
 use lib.Dec.{eqb, leb, ltb}
 use Rattle.bitset.specs.Set.{contains, within}
 use Rattle.model.specs.declared.Moment.{Moment}
 use Rattle.model.specs.declared.Place.{Place}
+use Rattle.model.specs.declared.Cause.{Cause}
 use Rattle.model.specs.declared.Break.{Break}
 use Rattle.model.specs.declared.Tally.{Tally}
 use Rattle.model.specs.declared.Monitor.{Monitor}
@@ -37,11 +38,22 @@ unfoldable pub momentsFit : ℕ → List Moment → ℕ → Bool
 momentsFit clocks resets t =
     allBelow mostClocks (λ k. leb (momentsOf resets k) t && (ltb k clocks || eqb (momentsOf resets k) 0))
 
--- break and reason are 0 and 0, or the break is 1 to records and the reason 1 or 2
-unfoldable pub breakFits : ℕ → Break → Bool
-breakFits records b =
-    eqb (b .at) 0 && eqb (b .reason) 0
-    || leb 1 (b .at) && (leb (b .at) records && (eqb (b .reason) noReadyRegion || eqb (b .reason) conditionFails))
+-- no condition decided: region and term are 0
+abbrev pub isZero : Cause → Bool
+isZero x = eqb (x .region) 0 && eqb (x .term) 0
+
+-- the region, counted from 1, is one of the chart's, and so is the term one of the region's
+unfoldable pub causeFits : Abstract → Cause → Bool
+causeFits C x =
+    leb 1 (x .region) && (leb (x .region) (C .regions)
+    && (leb 1 (x .term) && leb (x .term) (C .terms (x .region - 1))))
+
+-- break, reason and cause are 0; or the break is 1 to records, with reason 1 and no cause, or with reason 2 and a cause
+unfoldable pub breakFits : Abstract → ℕ → Break → Bool
+breakFits C records b =
+    eqb (b .at) 0 && (eqb (b .reason) 0 && isZero (b .cause))
+    || leb 1 (b .at) && (leb (b .at) records
+    && (eqb (b .reason) noReadyRegion && isZero (b .cause) || eqb (b .reason) conditionFails && causeFits C (b .cause)))
 
 -- records is not above 1,000,000, and the sum of kept and dropped is not above records
 unfoldable pub countsFit : Tally → Bool
@@ -61,4 +73,4 @@ placeFits C p t break =
 unfoldable pub fits : Abstract → Monitor → Bool
 fits C m =
     placeFits C (m .place) (m .tally .now .0) (m .tally .broken .at)
-    && (countsFit (m .tally) && breakFits (m .tally .records) (m .tally .broken))
+    && (countsFit (m .tally) && breakFits C (m .tally .records) (m .tally .broken))

@@ -5,10 +5,12 @@ use layout::TERM_PLACES;
 use model::Answer;
 use model::Break;
 use model::CLOCK_PLACES;
+use model::Cause;
 use model::Chart;
 use model::FeedRefusal;
 use model::MOST_RECORDS;
 use model::MOST_REGIONS;
+use model::MOST_TERMS;
 use model::Moment;
 use model::Monitor;
 use model::Place;
@@ -28,10 +30,11 @@ ghost use Rattle.model.specs.Chart.{mostRegions, mostClocks};
 ghost use Rattle.base.specs.Lists.{allBelow};
 ghost use Rattle.rounds.specs.Machine.{Fit};
 ghost use Rattle.stepping.specs.Monitors.{monitorAt, stepOf};
-ghost use Rattle.layout.specs.View.{planChart, Compiled};
+ghost use Rattle.layout.specs.View.{planChart, Words, Compiled};
 ghost use Rattle.firing.specs.Parts.{foundOf};
 ghost use Rattle.stepping.specs.Answers.{HandsBack};
-ghost use Rattle.monitor.specs.Fit.{isNone, momentsFit, breakFits, countsFit, placeFits, fits};
+ghost use Rattle.monitor.specs.Fit.{isNone, momentsFit, causeFits, breakFits, countsFit, placeFits};
+ghost use Rattle.monitor.specs.Fit.{fits};
 ghost use Rattle.monitor.specs.Feed.{MadeOf, refuse, feedOf};
 ghost use Rattle.monitor.specs.Stored.{Stored};
 
@@ -83,12 +86,42 @@ fn counts_fit(x: Tally) -> bool
         & (wire::wide64(x.kept) + wire::wide64(x.dropped) <= wire::wide64(x.records))
 }
 
-// Break and reason are 0 and 0, or the break is 1 to records and the reason 1 or 2.
-fn break_fits(records: u32, b: Break) -> bool
-    ensures { λ r. ⌜ r ≡ breakFits records b ⌝ }
+// Whether the cause is a region of the chart with one of its terms: the term then has a word, which is not 0.
+fn cause_fits(count: usize, terms: &[u64; TERM_PLACES], x: Cause) -> bool
+    requires { ⌜ count ≤ mostRegions ⌝ }
+    ensures { λ r. ⌜ ((h : Head) (keys above resets : List ℕ) → h .count ≡ count
+        → Words (h .clocks) (now (terms .entry))
+        → r ≡ causeFits (planChart h keys above resets (now (terms .entry))) x) ⌝ }
 {
-    let whole = (b.at == 0) & (b.reason == 0);
-    let known = (b.reason == NO_READY_REGION) | (b.reason == CONDITION_FAILS);
+    let region = x.region as usize;
+    let term = x.term as usize;
+    if region == 0 {
+        return false;
+    }
+    if count < region {
+        return false;
+    }
+    if term == 0 {
+        return false;
+    }
+    if MOST_TERMS < term {
+        return false;
+    }
+    terms[(region - 1) * MOST_TERMS + (term - 1)] != 0
+}
+
+// Break, reason and cause are 0; or the break is 1 to records, with reason 1 and no cause, or reason 2 and a cause.
+fn break_fits(count: usize, terms: &[u64; TERM_PLACES], records: u32, b: Break) -> bool
+    requires { ⌜ count ≤ mostRegions ⌝ }
+    ensures { λ r. ⌜ ((h : Head) (keys above resets : List ℕ) → h .count ≡ count
+        → Words (h .clocks) (now (terms .entry))
+        → r ≡ breakFits (planChart h keys above resets (now (terms .entry))) records b) ⌝ }
+{
+    let cause = b.cause;
+    let none = (cause.region == 0) & (cause.term == 0);
+    let whole = (b.at == 0) & ((b.reason == 0) & none);
+    let failed = (b.reason == CONDITION_FAILS) & cause_fits(count, terms, cause);
+    let known = ((b.reason == NO_READY_REGION) & none) | failed;
     whole | ((1 <= b.at) & ((b.at <= records) & known))
 }
 
@@ -138,7 +171,8 @@ pub fn is_fit<'a>(
     let place = m.place;
     let tally = m.tally;
     let placed = place_fits(h, above, place, tally.now, tally.broken.at);
-    placed & (counts_fit(tally) & break_fits(tally.records, tally.broken))
+    let broken = break_fits(h.count, terms, tally.records, tally.broken);
+    placed & (counts_fit(tally) & broken)
 }
 
 // M8: makes a monitor, which is zeros in every case; the answer says whether the value is a chart.

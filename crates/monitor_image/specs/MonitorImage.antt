@@ -1,4 +1,5 @@
--- V1, V2: a monitor's image. Four bytes for each number, one for the reason; the most significant byte first (N3).
+-- V1, V2: a monitor's image. Four bytes for each number, one each for the reason, the cause's region and its term; the
+-- most significant byte first (N3).
 use Prim.Native.Nat.{ℕ}
 use mathlib.Core.List.{List, [], _∷_, _++_}
 use lib.ListN.{getD}
@@ -15,7 +16,7 @@ wordsBytes [] = []
 wordsBytes (x ∷ xs) = wordBytes x ++ wordsBytes xs
 
 abbrev pub monitorSize : ℕ
-monitorSize = 57
+monitorSize = 59
 
 -- the eight reset moments
 abbrev pub momentNumbers : List Moment → List ℕ
@@ -26,7 +27,8 @@ momentNumbers r =
 -- what comes after them
 abbrev pub tallyBytes : Tally → List ℕ
 tallyBytes x =
-    wordsBytes (x .now .0 ∷ x .records ∷ x .kept ∷ x .dropped ∷ x .broken .at ∷ []) ++ (x .broken .reason ∷ [])
+    wordsBytes (x .now .0 ∷ x .records ∷ x .kept ∷ x .dropped ∷ x .broken .at ∷ [])
+    ++ (x .broken .reason ∷ x .broken .cause .region ∷ x .broken .cause .term ∷ [])
 
 unfoldable pub monitorBytes : Monitor → List ℕ
 monitorBytes m = wordBytes (m .place .fired) ++ (wordsBytes (momentNumbers (m .place .resets)) ++ tallyBytes (m .tally))
@@ -46,7 +48,11 @@ tallyIn s =
       records = word32 s 40;
       kept = word32 s 44;
       dropped = word32 s 48;
-      broken = record { at = word32 s 52; reason = getD s 56 0 };
+      broken = record {
+        at = word32 s 52;
+        reason = getD s 56 0;
+        cause = record { region = getD s 57 0; term = getD s 58 0 };
+      };
     }
 
 -- the monitor whose image starts a list of bytes; a byte past the end reads as 0

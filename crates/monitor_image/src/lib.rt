@@ -1,6 +1,7 @@
 // A monitor as bytes at the start of a buffer, and read from there; numbers with the most significant byte first.
 use model::Break;
 use model::CLOCK_PLACES;
+use model::Cause;
 use model::Moment;
 use model::Monitor;
 use model::Place;
@@ -15,7 +16,7 @@ ghost use Rattle.monitor_image.specs.MonitorImage.{monitorBytes};
 ghost use Rattle.monitor_image.specs.MonitorImage.{momentIn, momentsIn, tallyIn, monitorIn};
 
 // The bytes of a monitor.
-pub const MONITOR_SIZE: usize = 57;
+pub const MONITOR_SIZE: usize = 59;
 
 // Four numbers one after the other.
 fn put_four(out: &mut [u8], at: usize, a: u32, b: u32, c: u32, d: u32) -> usize
@@ -47,12 +48,16 @@ fn put_moments(out: &mut [u8], at: usize, resets: [Moment; CLOCK_PLACES]) -> usi
 
 // The moment, the counts and the break.
 fn put_tally(out: &mut [u8], at: usize, x: Tally) -> usize
-    requires { ⌜ at + 21 ≤ length (now out) ⌝ }
+    requires { ⌜ at + 23 ≤ length (now out) ⌝ }
     ensures { λ r. ⌜ Wrote (now (out .entry)) at (tallyBytes x) (now (out .exit)) r ⌝ }
 {
+    let broken = x.broken;
+    let cause = broken.cause;
     let second = put_four(out, at, x.now.0, x.records, x.kept, x.dropped);
-    let third = wire::put_word32(out, second, x.broken.at);
-    wire::put_byte(out, third, x.broken.reason)
+    let third = wire::put_word32(out, second, broken.at);
+    let fourth = wire::put_byte(out, third, broken.reason);
+    let fifth = wire::put_byte(out, fourth, cause.region);
+    wire::put_byte(out, fifth, cause.term)
 }
 
 // The monitor at the start of the buffer: read from there it is the same.
@@ -92,14 +97,19 @@ fn moments_at(bytes: &[u8]) -> [Moment; CLOCK_PLACES]
     ]
 }
 
-// The tally in the 21 bytes from 36 on.
+// The tally in the 23 bytes from 36 on.
 fn tally_at(bytes: &[u8]) -> Tally
     ensures { λ r. ⌜ r ≡ tallyIn (now (bytes .entry)) ⌝ }
 {
     let now = moment_at(bytes, 36);
+    let cause = Cause {
+        region: wire::byte_at(bytes, 57),
+        term: wire::byte_at(bytes, 58),
+    };
     let broken = Break {
         at: wire::word32_at(bytes, 52),
         reason: wire::byte_at(bytes, 56),
+        cause,
     };
     Tally {
         now,

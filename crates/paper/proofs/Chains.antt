@@ -7,9 +7,11 @@ use Prim.Native.Nat.{ℕ, suc, _-_, _≤_}
 use native.Mathlib.Omega.{arith}
 use lib.Dec.{eqb, ltb}
 use Rattle.base.specs.Lists.{Snoc, ε, _▸_, size}
+use Rattle.model.specs.Monitor.{causeOf}
 use Rattle.rounds.specs.Chart.{Chart, Accepted}
 use Rattle.rounds.specs.Rows.{LogRecord, Row, stands, momentAt, chartMessage, chartMessages, messageRegions, momentOf}
-use Rattle.rounds.specs.Rows.{opened, resetMoment, holds, Lawful, NoRow}
+use Rattle.rounds.specs.Rows.{opened, resetMoment, holds, Lawful}
+use Rattle.rounds.specs.Rows.{LawfulBy, NoRowBy}
 use Rattle.rounds.specs.Machine.{Place, Move, rests, offer, opening}
 use Rattle.base.proofs.Bools.{split}
 use Rattle.rounds.proofs.Machine.{plain-none, opening-settled}
@@ -70,9 +72,9 @@ module _ (C : Chart) (o : ℕ) where
   rests-row : {s : Snoc LogRecord} {e : LogRecord} {q : Row} {v : Move} → Accepted C → Means C o s q e v → (r : Row)
       → Lawful C o (s ▸ e) r
       → v ≡ rests (placeOf C o (chartMessages C (s ▸ e)) r)
-  unfolding NoRow
+  unfolding NoRowBy
   rests-row {s} {e} A (unplaced W) r L = absurd (none-placed C A o s e W r L)
-  rests-row {s} {e} A (failed p i b W f) r L = absurd (none-holds C A o s e b i W f r L)
+  rests-row {s} {e} A (failed p i term b W f) r L = absurd (none-holds C A o s e b (causeOf i term) W f r L)
   rests-row {s} {e} A (grown b M lt) r L =
       ap (λ (k : Row). rests (placeOf C o (chartMessages C (s ▸ e)) k)) (one-row C A o (s ▸ e) b r M L)
 
@@ -80,7 +82,7 @@ module _ (C : Chart) (o : ℕ) where
       → (t : ℕ) (p : Place) (z : Config) → v ≡ rests p
       → z ≡ configAt C t p → (r : Row) × Lawful C o (s ▸ e) r × (z ≡ configOf C t o (chartMessages C (s ▸ e)) r)
   row-rests (unplaced W) t p z h c = absurd (let z : _≡_ {A = ℕ} 0 1 = cc in omega arith)
-  row-rests (failed b i r W f) t p z h c = absurd (let z : _≡_ {A = ℕ} 0 1 = cc in omega arith)
+  row-rests (failed b i term r W f) t p z h c = absurd (let z : _≡_ {A = ℕ} 0 1 = cc in omega arith)
   row-rests {s} {e} (grown b M lt) t p z h c =
       (b, M, c ∙ ap (configAt C t) (same-place h) ∙ config-of-place t (chartMessages C (s ▸ e)) b)
     where
@@ -91,7 +93,7 @@ module _ (C : Chart) (A : Accepted C) (o : ℕ) where
   -- before its last message region, a lawful row for s ▸ e is one for s
   row-before : (s : Snoc LogRecord) (e : LogRecord) (r : Row) → So (chartMessage C e) → Lawful C o (s ▸ e) r → (q : Row)
       × Lawful C o s q
-  unfolding Lawful Early
+  unfolding LawfulBy Early
   row-before s e r h L =
       let K : LastMessage C (holds C o (chartMessages C (s ▸ e))) (codes (chartMessages C s)) (e .code) r
       = last-message C A (holds C o (chartMessages C (s ▸ e))) (codes (chartMessages C s)) (e .code) r (L .placed)
@@ -108,7 +110,7 @@ module _ (C : Chart) (A : Accepted C) (o : ℕ) where
       )
 
   at-rest : (s : Snoc LogRecord) (q : Row) → Lawful C o s q → AtRest C (placeOf C o (chartMessages C s) q .fired)
-  unfolding placeOf AtRest Lawful
+  unfolding placeOf AtRest LawfulBy
   at-rest s q M = λ j p R. absurd (M .settled j p R)
 
   -- one more chart message leads from the one row to the other

@@ -9,7 +9,7 @@ use native.Mathlib.Omega.{arith}
 use lib.Dec.{eqb}
 use borrow.Author.Tests.{eqb-true, eq-eqb}
 use Rattle.base.specs.Lists.{Snoc, ε, _▸_}
-use Rattle.rounds.specs.Chart.{Chart}
+use Rattle.rounds.specs.Chart.{Chart, conditionOf}
 use Rattle.rounds.specs.Rows.{LogRecord, Ready, plain}
 use Rattle.base.proofs.Bools.{clash, either, or-left}
 use Rattle.paper.specs.Runs.{Config, Letter, message, silent, delay, initial, strip, add, shift, successor, wait}
@@ -24,19 +24,19 @@ module _ (C : Chart) where
   prompt-run (goes P B n a) = step (prompt-run P) a
 
   -- the four steps, where what each needs is at hand
-  pub synchronizes : {x : Config} (s : ℕ) → Ready C (x .cut) s → plain C s ≡ false → So (C .condition s (x .valuation))
+  pub synchronizes : {x : Config} (s : ℕ) → Ready C (x .cut) s → plain C s ≡ false → So (conditionOf C s (x .valuation))
       → (a : Advance C x (message (C .key s)) (successor C x s)) × (by C a ≡ some s)
   synchronizes s R p h = (synchronization s R p cc, refl)
 
-  pub advances : {x : Config} (s : ℕ) → Ready C (x .cut) s → So (plain C s) → So (C .condition s (x .valuation))
+  pub advances : {x : Config} (s : ℕ) → Ready C (x .cut) s → So (plain C s) → So (conditionOf C s (x .valuation))
       → (a : Advance C x silent (successor C x s)) × (by C a ≡ some s)
   advances s R p h = (silent-advancement s R p cc, refl)
 
-  pub terminates : {x : Config} (s : ℕ) → Ready C (x .cut) s → C .hot s ≡ false → C .condition s (x .valuation) ≡ false
+  pub terminates : {x : Config} (s : ℕ) → Ready C (x .cut) s → C .hot s ≡ false → conditionOf C s (x .valuation) ≡ false
       → (a : Advance C x silent initial) × (by C a ≡ some s)
   terminates s R c f = (premature-termination s R c cc, refl)
 
-  pub delays : {x : Config} (d s : ℕ) → Ready C (x .cut) s → So (C .condition s (shift C (x .valuation) d))
+  pub delays : {x : Config} (d s : ℕ) → Ready C (x .cut) s → So (conditionOf C s (shift C (x .valuation) d))
       → Advance C x (delay d) (wait C x d)
   delays d s R h = time-delay d s R cc
 
@@ -46,7 +46,7 @@ module _ (C : Chart) where
     pub follows : Ready C (y .cut) region
     pub is-message : plain C region ≡ false
     pub fits : C .key region ≡ k
-    pub holds : So (C .condition region (y .valuation))
+    pub holds : So (conditionOf C region (y .valuation))
     pub to : z ≡ successor C y region
 
   pub synced : {y z : Config} {u : Letter} (k : ℕ) → u ≡ message k → Advance C y u z → Synced y k z
@@ -59,7 +59,7 @@ module _ (C : Chart) where
   pub record Delayed (y : Config) (d : ℕ) (z : Config) : Type 0 where
     pub region : ℕ
     pub follows : Ready C (y .cut) region
-    pub holds : So (C .condition region (shift C (y .valuation) d))
+    pub holds : So (conditionOf C region (shift C (y .valuation) d))
     pub to : z ≡ wait C y d
 
   pub delayed : {y z : Config} {u : Letter} (d : ℕ) → u ≡ delay d → Advance C y u z → Delayed y d z
@@ -71,7 +71,7 @@ module _ (C : Chart) where
       record {
         region = s;
         follows = R;
-        holds = subst (λ (n : ℕ). So (C .condition s (shift C (y .valuation) n))) e h;
+        holds = subst (λ (n : ℕ). So (conditionOf C s (shift C (y .valuation) n))) e h;
         to = ap {B = Config} (wait C y) e;
       }
 
@@ -88,7 +88,7 @@ module _ (C : Chart) where
   -- a silent step to the successor of region s is its advancement
   pub record Advanced (y : Config) (s : ℕ) : Type 0 where
     pub is-plain : So (plain C s)
-    pub holds : So (C .condition s (y .valuation))
+    pub holds : So (conditionOf C s (y .valuation))
 
   pub advanced : {y z : Config} {u : Letter} (s : ℕ) → u ≡ silent → z ≡ successor C y s → Ready C (y .cut) s
       → Advance C y u z
@@ -97,7 +97,7 @@ module _ (C : Chart) where
   advanced s q e N (synchronization t R p h) = absurd (let z : _≡_ {A = ℕ} 0 1 = cc in omega arith)
   advanced {y} s q e N (silent-advancement t R p h) =
       let w : t ≡ s = same-added (y .cut) t s R N (ap {B = ℕ → Bool} (λ (z : Config). z .cut) e) in
-      record { is-plain = rw w at p; holds = subst (λ (n : ℕ). So (C .condition n (y .valuation))) w h }
+      record { is-plain = rw w at p; holds = subst (λ (n : ℕ). So (conditionOf C n (y .valuation))) w h }
   advanced {y} s q e N (premature-termination t R p h) =
       clash {b = eqb s s || y .cut s} (or-left (y .cut s) (eq-eqb s s refl))
       (sym (ap {B = Bool} (λ (z : Config). z .cut s) e))
@@ -120,7 +120,7 @@ module _ (C : Chart) where
   -- a delay and a message at rest
   pub goes-on : {x y : Config} {w : Snoc Letter} (d s : ℕ) → Prompt C x w y → AtRest C (y .cut) → Ready C (y .cut) s
       → plain C s ≡ false
-      → So (C .condition s (shift C (y .valuation) d))
+      → So (conditionOf C s (shift C (y .valuation) d))
       → Prompt C x (w ▸ delay d ▸ message (C .key s)) (successor C (wait C y d) s)
   goes-on d s P r R p h =
       goes (goes P r (λ q. absurd (loud-delay q)) (delays d s R h)) r (λ q. absurd (loud-message q))
@@ -192,7 +192,7 @@ module _ (C : Chart) where
       start : Mid ε x
       moving : {l : Snoc LogRecord} {y : Config} {e : LogRecord} {z : Config} → Chain C x o l y → AtRest C (y .cut)
           → (s : ℕ) → Ready C (y .cut) s
-          → plain C s ≡ false → C .key s ≡ e .code → So (C .condition s (shift C (y .valuation) (e .time - lastOf o l)))
+          → plain C s ≡ false → C .key s ≡ e .code → So (conditionOf C s (shift C (y .valuation) (e .time - lastOf o l)))
           → Silents C (successor C (wait C y (e .time - lastOf o l)) s) z → Mid (l ▸ e) z
 
     mid-rest : {l : Snoc LogRecord} {y : Config} → Mid l y → AtRest C (y .cut) → Chain C x o l y
@@ -221,7 +221,7 @@ module _ (C : Chart) where
       waiting : (l : Snoc LogRecord) (d : ℕ) → strip w ≡ spelled o l ▸ delay d → Waiting l d z
 
     grow-mid : {l : Snoc LogRecord} {y : Config} → Mid l y → (s : ℕ) → Next C (y .cut) s
-        → So (C .condition s (y .valuation))
+        → So (conditionOf C s (y .valuation))
         → Mid l (successor C y s)
     unfolding AtRest
     grow-mid start s N h = absurd (rest s (N .is-plain) (N .follows))

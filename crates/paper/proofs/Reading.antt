@@ -29,7 +29,10 @@ module _ (C : Chart) where
 
   -- feeding's first tests
   feed-broken : (m : Monitor) (e : LogRecord) → m .tally .broken .at ≢ 0
-      → feed C m e ≡ record { answer = brokenAt (m .tally .broken .at) (m .tally .broken .reason); next = m }
+      → feed C m e ≡ record {
+        answer = brokenAt (m .tally .broken .at) (m .tally .broken .reason) (m .tally .broken .cause);
+        next = m;
+      }
   unfolding feed
   feed-broken m e h = rw (ne-eqb (m .tally .broken .at) 0 h)
 
@@ -112,7 +115,7 @@ module _ (C : Chart) (A : Accepted C) where
       (feed-overflows C (after C fs) e (rw (I .1) at b) (rw (I .1) at t) (rw (I .1) at r))
   reads-as (stays-broken {fs} {ans} {x} e R b) =
       let I : ReadsAs fs ans x = reads-as R in
-      unchanged fs ans x e (brokenAt (x .tally .broken .at) (x .tally .broken .reason)) I
+      unchanged fs ans x e (brokenAt (x .tally .broken .at) (x .tally .broken .reason) (x .tally .broken .cause)) I
       (rw (I .1) (feed-broken C (after C fs) e (rw (I .1) at b)))
 
   pub all-only : (fs : Snoc LogRecord) (ans : Snoc Answer) (x : Status) → Read C fs ans x → ReadsAs fs ans x

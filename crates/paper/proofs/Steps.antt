@@ -8,10 +8,10 @@ use mathlib.Core.Option.{none, some}
 use Prim.Native.Nat.{ℕ, zero, suc, _-_, _≤_}
 use native.Mathlib.Omega.{arith}
 use lib.Dec.{eqb, ltb}
-use Rattle.rounds.specs.Chart.{Chart, Accepted}
+use Rattle.rounds.specs.Chart.{Chart, conditionOf, Accepted}
 use Rattle.rounds.specs.Rows.{LogRecord, chartMessage, Ready, values, opened}
 use Rattle.rounds.specs.Machine.{Place, Move, stuck, fails, rests, readyPlain, readyFor, unfired, fire, settle, offer}
-use Rattle.rounds.specs.Machine.{opening}
+use Rattle.rounds.specs.Machine.{tryRegion, opening}
 use Rattle.base.proofs.Bools.{split}
 use Rattle.base.proofs.Facts.{found}
 use Rattle.rounds.proofs.Machine.{unfired-falls, chart-nonzero, has-message, offer-stuck, offer-fails, offer-fires}
@@ -67,23 +67,24 @@ module _ (C : Chart) (A : Accepted C) where
     -- settling is silent advancements, to a cut at rest or to a region that fails
     Came : Move → Type 0
     Came stuck = ⊥
-    Came (fails i q) =
-        Silents C x (configAt C t q) × Next C (q .fired) i × (C .condition i (values C t (q .clocks)) ≡ false)
+    Came (fails i term q) =
+        Silents C x (configAt C t q) × Next C (q .fired) i × (conditionOf C i (values C t (q .clocks)) ≡ false)
+        × (term ≡ C .failing i (values C t (q .clocks)))
     Came (rests q) = Silents C x (configAt C t q) × AtRest C (q .fired)
 
     settle-came : (k : ℕ) (p : Place) → Silents C x (configAt C t p) → unfired C (p .fired) ≤ k → Came (settle C t k p)
-    unfolding settle Came
+    unfolding settle tryRegion Came
     settle-came zero p S h = elim (found (readyPlain C (p .fired))) [
       | inl n ↦ (S, rest-of (p .fired) n)
       | inr f ↦ absurd (omega (arith, unfired-falls C t p (f .0) (plain-some C A (p .fired) (f .0) (f .1) .is-ready)))
     ]
     settle-came (suc k) p S h = elim (found (readyPlain C (p .fired))) [
       | inl n ↦ rw n (S, rest-of (p .fired) n)
-      | inr f ↦ elim (split (C .condition (f .0) (values C t (p .clocks)))) [
+      | inr f ↦ elim (split (conditionOf C (f .0) (values C t (p .clocks)))) [
         | inl c ↦ rw (f .1, c) (settle-came k (fire C t p (f .0))
             (rw (fire-config C t p (f .0)) (unfold configAt in one S (f .0) (next-of (p .fired) (f .0) (f .1)) c))
             (omega (arith, unfired-falls C t p (f .0) (plain-some C A (p .fired) (f .0) (f .1) .is-ready))))
-        | inr c ↦ rw (f .1, c) (S, next-of (p .fired) (f .0) (f .1), c)
+        | inr c ↦ rw (f .1, c) (S, next-of (p .fired) (f .0) (f .1), c, refl)
       ]
     ]
 
@@ -94,15 +95,15 @@ module _ (C : Chart) (A : Accepted C) where
     settle-none (suc k) p n = rw n
 
     settle-more : (k : ℕ) (p : Place) (i : ℕ) → readyPlain C (p .fired) ≡ some i
-        → So (C .condition i (values C t (p .clocks)))
+        → So (conditionOf C i (values C t (p .clocks)))
         → settle C t (suc k) p ≡ settle C t k (fire C t p i)
-    unfolding settle
+    unfolding settle tryRegion
     settle-more k p i f c = rw (f, c)
 
     settle-fails : (k : ℕ) (p : Place) (i : ℕ) → readyPlain C (p .fired) ≡ some i
-        → C .condition i (values C t (p .clocks)) ≡ false
-        → settle C t (suc k) p ≡ fails i p
-    unfolding settle
+        → conditionOf C i (values C t (p .clocks)) ≡ false
+        → settle C t (suc k) p ≡ fails i (C .failing i (values C t (p .clocks))) p
+    unfolding settle tryRegion
     settle-fails k p i f c = rw (f, c)
 
     -- and the other way round
@@ -110,14 +111,14 @@ module _ (C : Chart) (A : Accepted C) where
     Reached p y =
         (q : Place) × (y ≡ configAt C t q) × (settle C t (unfired C (p .fired)) p ≡ settle C t (unfired C (q .fired)) q)
 
-    reach-one : (p : Place) (y : Config) (s : ℕ) → Reached p y → Next C (y .cut) s → So (C .condition s (y .valuation))
+    reach-one : (p : Place) (y : Config) (s : ℕ) → Reached p y → Next C (y .cut) s → So (conditionOf C s (y .valuation))
         → Reached p (record { cut = add C (y .cut) s; valuation = reset C s (y .valuation) })
     unfolding Reached configAt
     reach-one p y s W N c =
         let q : Place = W .0 in
         let N′ : Next C (q .fired) s = subst (λ (z : Config). Next C (z .cut) s) (W .1) N in
-        let c′ : So (C .condition s (values C t (q .clocks))) = subst
-        (λ (z : Config). So (C .condition s (z .valuation))) (W .1) c in (
+        let c′ : So (conditionOf C s (values C t (q .clocks))) = subst
+        (λ (z : Config). So (conditionOf C s (z .valuation))) (W .1) c in (
           fire C t q s,
           ap {B = Config} (λ (z : Config). record { cut = add C (z .cut) s; valuation = reset C s (z .valuation) })
               (W .1)
@@ -136,7 +137,7 @@ module _ (C : Chart) (A : Accepted C) where
   unfolding Came
   stuck-of p e h s R k = elim (found (readyFor C (p .fired) e)) [
     | inl n ↦ for-none C A (p .fired) e s n R k
-    | inr f ↦ elim (split (C .condition (f .0) (values C (e .time) (p .clocks)))) [
+    | inr f ↦ elim (split (conditionOf C (f .0) (values C (e .time) (p .clocks)))) [
       | inl c ↦ subst (Came (e .time) _) (sym (offer-fires C p e (f .0) (f .1) c) ∙ h) (settle-came (e .time)
           (configAt C (e .time) (fire C (e .time) p (f .0))) (unfired C (fire C (e .time) p (f .0) .fired))
           (fire C (e .time) p (f .0))
@@ -145,7 +146,7 @@ module _ (C : Chart) (A : Accepted C) where
     ]
   ]
     where
-      not-stuck : {i : ℕ} → fails i p ≡ stuck → ⊥
+      not-stuck : {i term : ℕ} → fails i term p ≡ stuck → ⊥
       not-stuck u = let z : _≡_ {A = ℕ} 0 1 = cc in omega arith
 
   -- where no region that follows the cut has the message, the machine finds none
@@ -183,7 +184,7 @@ module _ (C : Chart) (A : Accepted C) where
       | inl n ↦ absurd (stuck-rests (sym (offer-stuck C p e n) ∙ h))
       | inr f ↦
           let R = for-some C A (p .fired) e (f .0) (f .1) in
-          elim (split (C .condition (f .0) (values C (e .time) (p .clocks)))) [
+          elim (split (conditionOf C (f .0) (values C (e .time) (p .clocks)))) [
             | inl c ↦
                 let S : Came (e .time) (lastAfter (f .0)) (rests q)
                 = subst (Came (e .time) _) (sym (offer-fires C p e (f .0) (f .1) c) ∙ h) (fired-came (f .0)) in
@@ -204,29 +205,51 @@ module _ (C : Chart) (A : Accepted C) where
         stuck-rests : stuck ≡ rests q → ⊥
         stuck-rests u = let z : _≡_ {A = ℕ} 0 1 = cc in omega arith
 
-        fails-rests : {i : ℕ} → fails i p ≡ rests q → ⊥
+        fails-rests : {i term : ℕ} → fails i term p ≡ rests q → ⊥
         fails-rests u = let z : _≡_ {A = ℕ} 0 1 = cc in omega arith
 
     abbrev Fails : ℕ → Config → Type 0
     Fails j y = Failure C (record { cut = p .fired; valuation = values C t (p .clocks) }) (e .time - t) (e .code) j y
 
+    -- the machine's failing term is the condition's
+    pub term-of : (i term : ℕ) (q : Place) → offer C p e ≡ fails i term q
+        → term ≡ C .failing i (values C (e .time) (q .clocks))
+    unfolding Came
+    term-of i term q h = elim (found (readyFor C (p .fired) e)) [
+      | inl n ↦ absurd (stuck-fails (sym (offer-stuck C p e n) ∙ h))
+      | inr f ↦ elim (split (conditionOf C (f .0) (values C (e .time) (p .clocks)))) [
+        | inl c ↦
+            let S : Came (e .time) (lastAfter (f .0)) (fails i term q)
+            = subst (Came (e .time) _) (sym (offer-fires C p e (f .0) (f .1) c) ∙ h) (fired-came (f .0)) in
+            S .3
+        | inr c ↦ same-term (sym (offer-fails C p e (f .0) (f .1) c) ∙ h)
+      ]
+    ]
+      where
+        stuck-fails : stuck ≡ fails i term q → ⊥
+        stuck-fails u = let z : _≡_ {A = ℕ} 0 1 = cc in omega arith
+
+        same-term : {j : ℕ} → fails j (C .failing j (values C (e .time) (p .clocks))) p ≡ fails i term q
+            → term ≡ C .failing i (values C (e .time) (q .clocks))
+        same-term u = cc
+
     -- where the machine finds a failing condition, so does the source
-    pub failure-of : (i : ℕ) (q : Place) → offer C p e ≡ fails i q
+    pub failure-of : (i term : ℕ) (q : Place) → offer C p e ≡ fails i term q
         → Failure C (configAt C t p) (e .time - t) (e .code) i (configAt C (e .time) q)
     unfolding configAt Came
-    failure-of i q h = elim (found (readyFor C (p .fired) e)) [
+    failure-of i term q h = elim (found (readyFor C (p .fired) e)) [
       | inl n ↦ absurd (stuck-fails (sym (offer-stuck C p e n) ∙ h))
       | inr f ↦
           let R = for-some C A (p .fired) e (f .0) (f .1) in
-          elim (split (C .condition (f .0) (values C (e .time) (p .clocks)))) [
+          elim (split (conditionOf C (f .0) (values C (e .time) (p .clocks)))) [
             | inl c ↦
-                let S : Came (e .time) (lastAfter (f .0)) (fails i q)
+                let S : Came (e .time) (lastAfter (f .0)) (fails i term q)
                 = subst (Came (e .time) _) (sym (offer-fires C p e (f .0) (f .1) c) ∙ h) (fired-came (f .0)) in
                 later (f .0) (R .0) (has-message C e (f .0) chart (R .1)) (R .1) (rw shifted c)
                 (record { cut = q .fired; valuation = values C (e .time) (q .clocks) }) (rw shifted (S .0)) (S .1)
                 (S .2)
             | inr c ↦
-                let u : fails (f .0) p ≡ fails i q = sym (offer-fails C p e (f .0) (f .1) c) ∙ h in
+                let u = sym (offer-fails C p e (f .0) (f .1) c) ∙ h in
                 subst (λ (y : Place). Fails i (record { cut = y .fired; valuation = values C (e .time) (y .clocks) }))
                 (same-place u)
                 (subst (λ (v : ℕ → ℕ). Fails i (record { cut = p .fired; valuation = v })) shifted
@@ -235,13 +258,13 @@ module _ (C : Chart) (A : Accepted C) where
           ]
     ]
       where
-        stuck-fails : stuck ≡ fails i q → ⊥
+        stuck-fails : stuck ≡ fails i term q → ⊥
         stuck-fails u = let z : _≡_ {A = ℕ} 0 1 = cc in omega arith
 
-        same-place : {j : ℕ} → fails j p ≡ fails i q → p ≡ q
+        same-place : {j k : ℕ} → fails j k p ≡ fails i term q → p ≡ q
         same-place u = cc
 
-        same-region : {j : ℕ} → fails j p ≡ fails i q → j ≡ i
+        same-region : {j k : ℕ} → fails j k p ≡ fails i term q → j ≡ i
         same-region u = cc
 
     -- after region m, silent advancements are settling
@@ -252,7 +275,7 @@ module _ (C : Chart) (A : Accepted C) where
         silents-reach (e .time) (lastAfter m) (fire C (e .time) p m) (sym (fire-config C (e .time) p m))
         (rw shifted at S)
 
-    settles : (m : ℕ) → Ready C (p .fired) m → C .key m ≡ e .code → So (C .condition m later-values)
+    settles : (m : ℕ) → Ready C (p .fired) m → C .key m ≡ e .code → So (conditionOf C m later-values)
         → offer C p e ≡ settle C (e .time) (unfired C (fire C (e .time) p m .fired)) (fire C (e .time) p m)
     settles m R k h = offer-fires C p e m (for-is C A (p .fired) e m R k (chart-nonzero C e chart)) (rw shifted at h)
 
@@ -273,7 +296,8 @@ module _ (C : Chart) (A : Accepted C) where
 
     -- where the source finds a failing condition, so does the machine
     pub of-failure : (i : ℕ) {y : Config} → Failure C (configAt C t p) (e .time - t) (e .code) i y
-        → (q : Place) × (offer C p e ≡ fails i q) × (y ≡ configAt C (e .time) q)
+        → (q : Place) × (offer C p e ≡ fails i (C .failing i (values C (e .time) (q .clocks))) q)
+        × (y ≡ configAt C (e .time) q)
     unfolding configAt Reached
     of-failure i (at-once R k f) = (
       p,
@@ -284,8 +308,8 @@ module _ (C : Chart) (A : Accepted C) where
         let W : Reached (e .time) (lastAfter m) (fire C (e .time) p m) y = reached m S in
         let q : Place = W .0 in
         let N′ : Next C (q .fired) i = subst (λ (z : Config). Next C (z .cut) i) (W .1) N in
-        let f′ : C .condition i (values C (e .time) (q .clocks)) ≡ false
-        = subst (λ (z : Config). C .condition i (z .valuation) ≡ false) (W .1) f in (
+        let f′ : conditionOf C i (values C (e .time) (q .clocks)) ≡ false
+        = subst (λ (z : Config). conditionOf C i (z .valuation) ≡ false) (W .1) f in (
           q,
           settles m R k h ∙ W .2 ∙ rw (← (unfired-falls C (e .time) q i (N′ .follows)))
               (settle-fails (e .time) (lastAfter m) (unfired C (fire C (e .time) q i .fired)) q i

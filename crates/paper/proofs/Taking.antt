@@ -8,6 +8,8 @@ use Prim.Native.Nat.{ℕ, suc, _-_, _≤_}
 use native.Mathlib.Omega.{arith}
 use lib.Dec.{ltb}
 use borrow.Author.Tests.{eq-eqb, ltb-false, le-ltb, lt-leb}
+use Rattle.model.specs.declared.Cause.{Cause}
+use Rattle.model.specs.Monitor.{noCause, causeOf}
 use Rattle.model.specs.Answers.{mostRecords}
 use Rattle.rounds.specs.Chart.{Chart, Accepted}
 use Rattle.rounds.specs.Rows.{LogRecord, chartMessage, Full, PrechartDone, values}
@@ -23,8 +25,8 @@ use Rattle.paper.specs.Taken.{Status, onward, keeping, dropping, breakin
 use Rattle.paper.specs.Taken.{moves, enters, keeps, fails-cold, fails-hot, unmatched-prechart, unmatched-main}
 use Rattle.paper.specs.Taken.{caseOf, statusOf, Acceptable}
 use Rattle.paper.proofs.Parts.{Failure}
-use Rattle.paper.proofs.Steps.{shift-values, opening-config, stuck-of, of-unmatched, steps-of, failure-of}
-use Rattle.paper.proofs.Steps.{of-steps, of-failure}
+use Rattle.paper.proofs.Steps.{shift-values, opening-config, stuck-of, of-unmatched, steps-of, term-of}
+use Rattle.paper.proofs.Steps.{failure-of, of-steps, of-failure}
 use Rattle.paper.proofs.Turns.{one-over, over-one, one-chart, turn-of, fails-chart, terminates-of, blocked-of}
 use Rattle.paper.proofs.Turns.{terminates-fails, blocked-fails}
 
@@ -82,7 +84,7 @@ module _ (C : Chart) where
 -- the machine finds no region
 unfoldable pub unplaceable : Move → Bool
 unplaceable stuck = true
-unplaceable (fails i p) = false
+unplaceable (fails i term p) = false
 unplaceable (rests p) = false
 
 -- the number of the case, by the answer
@@ -92,8 +94,8 @@ caseFor b quiet = 0
 caseFor b moved = 1
 caseFor b entered = 2
 caseFor b keptNow = 3
-caseFor b droppedNow = cond b 6 4
-caseFor b (brokenAt n k) = cond b 7 5
+caseFor b (droppedNow x) = cond b 6 4
+caseFor b (brokenAt n k x) = cond b 7 5
 
 -- one acceptable record e
 module _ (C : Chart) (A : Accepted C) where
@@ -120,9 +122,9 @@ module _ (C : Chart) (A : Accepted C) where
     taken-quiet h = subst (λ (c : Config). Taken C before e (onward before e c) quiet) waited (passes h)
 
     module _ (h : So (chartMessage C e)) where
-      taken-drop : Taken C before e (dropping before e) droppedNow → IsTaken (dropRound C m e)
+      taken-drop : (x : Cause) → Taken C before e (dropping before e) (droppedNow x) → IsTaken (dropRound C m e x)
       unfolding dropRound
-      taken-drop T = rw (opening-config C (e .time)) T
+      taken-drop x T = rw (opening-config C (e .time)) T
 
       taken-keep : Taken C before e (keeping before e) keptNow → IsTaken (keepRound C m e)
       unfolding keepRound
@@ -132,24 +134,27 @@ module _ (C : Chart) (A : Accepted C) where
       unfolding conclude breakRound Unmatched configAt
       taken-stuck p = elim (split (prechartDone C (m .place .fired))) [
         | inl q ↦ rw q (subst
-            (λ (c : Config). Taken C before e (breaking before e noReadyRegion c)
-            (brokenAt (suc (m .tally .records)) noReadyRegion)) waited
+            (λ (c : Config). Taken C before e (breaking before e noReadyRegion noCause c)
+            (brokenAt (suc (m .tally .records)) noReadyRegion noCause)) waited
             (unmatched-main h (stuck-of C A (m .place) e p) (done-true C (m .place .fired) q)))
         | inr q ↦
-            rw q (taken-drop (unmatched-prechart h (stuck-of C A (m .place) e p) (done-false C (m .place .fired) q)))
+            rw q (taken-drop noCause
+            (unmatched-prechart h (stuck-of C A (m .place) e p) (done-false C (m .place .fired) q)))
       ]
 
-      taken-fails : (i : ℕ) (q : Place) → offer C (m .place) e ≡ fails i q → IsTaken (conclude C m e (fails i q))
+      taken-fails : (i term : ℕ) (q : Place) → offer C (m .place) e ≡ fails i term q
+          → IsTaken (conclude C m e (fails i term q))
       unfolding conclude breakRound configAt
-      taken-fails i q p =
+      taken-fails i term q p =
           let F : Failure C start (e .time - m .tally .now) (e .code) i (configAt C (e .time) q)
-          = failure-of C A (m .place) e (m .tally .now) (P .fit .moments) (P .forward) h i q p in
+          = failure-of C A (m .place) e (m .tally .now) (P .fit .moments) (P .forward) h i term q p in
+          let k = term-of C A (m .place) e (m .tally .now) (P .fit .moments) (P .forward) h i term q p in
           elim (split (C .hot i)) [
             | inl t ↦
-                rw t (fails-hot i (configAt C (e .time) q) (turn-of C before e at-rest F)
+                rw (t, k) (fails-hot i (configAt C (e .time) q) (turn-of C before e at-rest F)
                 (blocked-of C before e at-rest F t))
-            | inr t ↦ rw t
-                (taken-drop
+            | inr t ↦ rw (t, k)
+                (taken-drop _
                 (fails-cold i (configAt C (e .time) q) (turn-of C before e at-rest F)
                 (terminates-of C before e at-rest F t)))
           ]
@@ -177,7 +182,7 @@ module _ (C : Chart) (A : Accepted C) where
 
       tells : (v : Move) → offer C (m .place) e ≡ v → IsTaken (conclude C m e v)
       tells stuck p = taken-stuck p
-      tells (fails i q) p = taken-fails i q p
+      tells (fails i term q) p = taken-fails i term q p
       tells (rests q) p = taken-rests q p
 
     is-taken : IsTaken (accept C m e)
@@ -195,19 +200,19 @@ module _ (C : Chart) (A : Accepted C) where
     unfolding keepRound
     is-keep = (rw (opening-config C (e .time)), refl)
 
-    is-drop : Is (dropRound C m e) (dropping before e) droppedNow
+    is-drop : (x : Cause) → Is (dropRound C m e x) (dropping before e) (droppedNow x)
     unfolding dropRound
-    is-drop = (rw (opening-config C (e .time)), refl)
+    is-drop x = (rw (opening-config C (e .time)), refl)
 
     is-on : (a : Answer) (q : Place) {z : Config} → z ≡ configAt C (e .time) q
         → Is (goOn C m e a q) (onward before e z) a
     unfolding goOn
     is-on a q p = (ap {B = Status} (onward before e) p, refl)
 
-    is-break : (k : ℕ) (q : Place) {z : Config} → z ≡ configAt C (e .time) q
-        → Is (breakRound C m e k q) (breaking before e k z) (brokenAt (suc (m .tally .records)) k)
+    is-break : (k : ℕ) (x : Cause) (q : Place) {z : Config} → z ≡ configAt C (e .time) q
+        → Is (breakRound C m e k x q) (breaking before e k x z) (brokenAt (suc (m .tally .records)) k x)
     unfolding breakRound
-    is-break k q p = (ap {B = Status} (breaking before e k) p, refl)
+    is-break k x q p = (ap {B = Status} (breaking before e k x) p, refl)
 
     -- what the machine concludes from a place at rest, by its fired regions
     concludes-moved : (q : Place) → ¬ Full C (q .fired) → (PrechartDone C (q .fired) → PrechartDone C (m .place .fired))
@@ -257,16 +262,18 @@ module _ (C : Chart) (A : Accepted C) where
     -- where a condition fails in the source, it does in the machine
     record Fails (i : ℕ) (y : Config) : Type 0 where
       place : Place
-      is-fails : offer C (m .place) e ≡ fails i place
-      is-conclude : accept C m e ≡ conclude C m e (fails i place)
+      is-fails : offer C (m .place) e ≡ fails i (C .failing i (y .valuation)) place
+      is-conclude : accept C m e ≡ conclude C m e (fails i (C .failing i (y .valuation)) place)
       same-config : y ≡ configAt C (e .time) place
 
     fails-at : (i : ℕ) {y : Config} → Failure C start (e .time - m .tally .now) (e .code) i y → Fails i y
     unfolding configAt
-    fails-at i F =
+    fails-at i {y} F =
         let h = fails-chart C before e at-rest F in
         let W = of-failure C A (m .place) e (m .tally .now) (P .fit .moments) (P .forward) h i F in
-        record { place = W .0; is-fails = W .1; is-conclude = accept-as h (W .1); same-config = W .2 }
+        let f : offer C (m .place) e ≡ fails i (C .failing i (y .valuation)) (W .0)
+        = W .1 ∙ ap {B = Move} (λ (c : Config). fails i (C .failing i (c .valuation)) (W .0)) (sym (W .2)) in
+        record { place = W .0; is-fails = f; is-conclude = accept-as h f; same-config = W .2 }
 
     is : {y : Status} {a : Answer} → Taken C before e y a → Is (accept C m e) y a
     unfolding accept conclude configAt Unmatched
@@ -284,15 +291,17 @@ module _ (C : Chart) (A : Accepted C) where
         rw (W .is-conclude ∙ concludes-kept (W .place) (rw (W .same-cut) at f)) is-keep
     is (fails-cold i y T t) =
         let F = terminates-fails C before e at-rest T t in
-        rw (fails-at i (F .0) .is-conclude, F .1) is-drop
+        rw (fails-at i (F .0) .is-conclude, F .1) (is-drop (causeOf i (C .failing i (y .valuation))))
     is (fails-hot i y T b) =
         let F = blocked-fails C before e at-rest T b in
         let W : Fails i y = fails-at i (F .0) in
-        rw (W .is-conclude, F .1) (is-break conditionFails (W .place) (W .same-config))
+        rw (W .is-conclude, F .1)
+        (is-break conditionFails (causeOf i (C .failing i (y .valuation))) (W .place) (W .same-config))
     is (unmatched-prechart h U n) =
-        rw (accept-as h (of-unmatched C A (m .place) e U), done-is-not C (m .place .fired) n) is-drop
+        rw (accept-as h (of-unmatched C A (m .place) e U), done-is-not C (m .place .fired) n)
+        (is-drop noCause)
     is (unmatched-main h U d) = rw (accept-as h (of-unmatched C A (m .place) e U), done-is C (m .place .fired) d)
-        (is-break noReadyRegion (m .place) waited)
+        (is-break noReadyRegion noCause (m .place) waited)
 
     -- the answer says which case it is, with whether the machine found a region
     pub numbered : {y : Status} {a : Answer} (T : Taken C before e y a)

@@ -7,7 +7,7 @@ use mathlib.Core.Option.{some}
 use Prim.Native.Nat.{ℕ, _-_}
 use native.Mathlib.Omega.{arith}
 use Rattle.base.specs.Lists.{Snoc, ε, _▸_}
-use Rattle.rounds.specs.Chart.{Chart}
+use Rattle.rounds.specs.Chart.{Chart, conditionOf}
 use Rattle.rounds.specs.Rows.{LogRecord, chartMessage, plain, Ready}
 use Rattle.base.proofs.Bools.{split, clash}
 use Rattle.rounds.proofs.Machine.{is-chart}
@@ -28,13 +28,13 @@ module _ (C : Chart) where
       subst (λ (y : Config). OneMessage C y (e .time - o) (e .code) z) (sym (chain-empty K)) M
 
   -- a region whose condition fails does not advance; a hot one does not terminate
-  no-step-by : {y z : Config} {u : Letter} (i : ℕ) → C .condition i (y .valuation) ≡ false → So (C .hot i)
+  no-step-by : {y z : Config} {u : Letter} (i : ℕ) → conditionOf C i (y .valuation) ≡ false → So (C .hot i)
       → (a : Advance C y u z)
       → by C a ≢ some i
   no-step-by {y} i f t (synchronization s R p h) q =
-      clash (subst (λ (n : ℕ). So (C .condition n (y .valuation))) (some-one C q) h) f
+      clash (subst (λ (n : ℕ). So (conditionOf C n (y .valuation))) (some-one C q) h) f
   no-step-by {y} i f t (silent-advancement s R p h) q =
-      clash (subst (λ (n : ℕ). So (C .condition n (y .valuation))) (some-one C q) h) f
+      clash (subst (λ (n : ℕ). So (conditionOf C n (y .valuation))) (some-one C q) h) f
   no-step-by i f t (premature-termination s R k h) q = clash t (subst (λ (n : ℕ). C .hot n ≡ false) (some-one C q) k)
   no-step-by i f t (time-delay d s R h) q = absurd (let z : _≡_ {A = ℕ} 0 1 = cc in omega arith)
 
@@ -70,7 +70,7 @@ module _ (C : Chart) where
     ready-of (at-once R k f) = R
     ready-of (later s R p k h y S N f) = N .follows
 
-    failing : {i : ℕ} {y : Config} → Fails i y → C .condition i (y .valuation) ≡ false
+    failing : {i : ℕ} {y : Config} → Fails i y → conditionOf C i (y .valuation) ≡ false
     failing (at-once R k f) = f
     failing (later s R p k h y S N f) = f
 
@@ -88,12 +88,12 @@ module _ (C : Chart) where
 
     -- and the other way round
     mid-fails : {i : ℕ} {y : Config} → Mid C (x .config) (x .tally .now) rest (ε ▸ e) y → Next C (y .cut) i
-        → C .condition i (y .valuation) ≡ false
+        → conditionOf C i (y .valuation) ≡ false
         → Fails i y
     mid-fails {i} {y} (moving K B s r p k h S) N f =
         subst (λ (v : Config). Failure C v (ticks C x e) (e .code) i y) (sym (chain-empty K)) (later s r p k h y S N f)
 
-    fails-of : {i : ℕ} {y : Config} → Turn C x e i y → C .condition i (y .valuation) ≡ false → Fails i y
+    fails-of : {i : ℕ} {y : Config} → Turn C x e i y → conditionOf C i (y .valuation) ≡ false → Fails i y
     fails-of (of-message R k) f = at-once R k f
     fails-of (of-plain q P N) f = mid-fails (prompt-mid C (x .config) (x .tally .now) rest (ε ▸ e) q P) N f
 
@@ -101,14 +101,14 @@ module _ (C : Chart) where
     terminates-fails {i} {y} T t = let E = terminated C y i t in (fails-of T (E .fails), E .cold)
 
     -- a region whose turn it is advances if its condition holds
-    moves-on : {i : ℕ} {y : Config} → Turn C x e i y → Blocked C y i → ¬ So (C .condition i (y .valuation))
+    moves-on : {i : ℕ} {y : Config} → Turn C x e i y → Blocked C y i → ¬ So (conditionOf C i (y .valuation))
     unfolding Blocked
     moves-on {i} (of-message R k) b h = let a = synchronizes C i R (follows-heard i R) h in b _ _ (a .0) (a .1)
     moves-on {i} (of-plain q P N) b h = let a = advances C i (N .follows) (N .is-plain) h in b _ _ (a .0) (a .1)
 
     pub blocked-fails : {i : ℕ} {y : Config} → Turn C x e i y → Blocked C y i → Fails i y × So (C .hot i)
     unfolding Blocked
-    blocked-fails {i} {y} T b = elim (split (C .condition i (y .valuation))) [
+    blocked-fails {i} {y} T b = elim (split (conditionOf C i (y .valuation))) [
       | inl h ↦ absurd (moves-on T b h)
       | inr f ↦
           let F : Fails i y = fails-of T f in

@@ -11,8 +11,10 @@ use lib.Dec.{ltb}
 use borrow.Author.Tests.{ltb-false}
 use Rattle.base.specs.Lists.{Snoc, ε, _▸_}
 use Rattle.model.specs.Answers.{timeFalls}
+use Rattle.model.specs.declared.Cause.{Cause}
 use Rattle.rounds.specs.Chart.{Chart, Accepted}
-use Rattle.rounds.specs.Rows.{LogRecord, Row, stands, chartMessage, chartMessages, Lawful, NoRow, Full, PrechartDone}
+use Rattle.rounds.specs.Rows.{LogRecord, Row, stands, chartMessage, chartMessages, Lawful, Full, PrechartDone}
+use Rattle.rounds.specs.Rows.{NoRowBy}
 use Rattle.rounds.specs.Feeds.{lastMoment, refusal, kept, dropped, broken, Outcome, Stretch, Last, unended, afterBreak}
 use Rattle.rounds.specs.Feeds.{lastAfter, Answer, refused, brokenAt, keptNow, droppedNow, entered, moved, quiet, Onward}
 use Rattle.rounds.specs.Feeds.{completes-prechart, fires, stays, FedOne, refuses, runs-on, ends, again, Fed, none-yet}
@@ -41,17 +43,17 @@ use Rattle.paper.proofs.Satisfying.{satisfied-exactly}
 use Rattle.paper.proofs.Chains.{shown, past, row-step, row-is-prompt, prompt-is-row}
 
 -- no other answer is a broken one
-dropped-broken : {X : Type 0} {n k : ℕ} → droppedNow ≡ brokenAt n k → X
+dropped-broken : {X : Type 0} {n k : ℕ} {x y : Cause} → droppedNow y ≡ brokenAt n k x → X
 dropped-broken p = absurd (let z : _≡_ {A = ℕ} 0 1 = cc in omega arith)
 
-kept-broken : {X : Type 0} {n k : ℕ} → keptNow ≡ brokenAt n k → X
+kept-broken : {X : Type 0} {n k : ℕ} {x : Cause} → keptNow ≡ brokenAt n k x → X
 kept-broken p = absurd (let z : _≡_ {A = ℕ} 0 1 = cc in omega arith)
 
-onward-broken : {X : Type 0} (b : Bool) {n k : ℕ} → cond b entered moved ≡ brokenAt n k → X
+onward-broken : {X : Type 0} (b : Bool) {n k : ℕ} {x : Cause} → cond b entered moved ≡ brokenAt n k x → X
 onward-broken true p = absurd (let z : _≡_ {A = ℕ} 0 1 = cc in omega arith)
 onward-broken false p = absurd (let z : _≡_ {A = ℕ} 0 1 = cc in omega arith)
 
-quiet-broken : {X : Type 0} {n k : ℕ} → quiet ≡ brokenAt n k → X
+quiet-broken : {X : Type 0} {n k : ℕ} {x : Cause} → quiet ≡ brokenAt n k x → X
 quiet-broken p = absurd (let z : _≡_ {A = ℕ} 0 1 = cc in omega arith)
 
 -- the stretch s with its lawful row q, and one more record e
@@ -93,8 +95,8 @@ module _ (C : Chart) (A : Accepted C) (o : ℕ) (s : Snoc LogRecord) (e : LogRec
   unfolding goOn keepRound dropRound breakRound
   comes-enter m (on r a L nf O) p = onward-enters r a L O p
   comes-enter m (keeps E) p = absurd (let z : _≡_ {A = ℕ} 0 1 = cc in omega arith)
-  comes-enter m (drops E) p = absurd (let z : _≡_ {A = ℕ} 0 1 = cc in omega arith)
-  comes-enter m (breaks k d E) p = absurd (let z : _≡_ {A = ℕ} 0 1 = cc in omega arith)
+  comes-enter m (drops x E) p = absurd (let z : _≡_ {A = ℕ} 0 1 = cc in omega arith)
+  comes-enter m (breaks k x d E) p = absurd (let z : _≡_ {A = ℕ} 0 1 = cc in omega arith)
 
   -- entered, by the rows
   abbrev EntersRow : Type 0
@@ -121,11 +123,11 @@ module _ (C : Chart) (A : Accepted C) (o : ℕ) (s : Snoc LogRecord) (e : LogRec
     λ p. absurd (let z : _≡_ {A = ℕ} 0 1 = cc in omega arith),
     λ t. ended C A o s e q lawful E (t .0) (t .1) (t .2),
   )
-  comes-entered m (drops E) = (
+  comes-entered m (drops x E) = (
     λ p. absurd (let z : _≡_ {A = ℕ} 0 1 = cc in omega arith),
     λ t. ended C A o s e q lawful E (t .0) (t .1) (t .2),
   )
-  comes-entered m (breaks k d E) = (
+  comes-entered m (breaks k x d E) = (
     λ p. absurd (let z : _≡_ {A = ℕ} 0 1 = cc in omega arith),
     λ t. ended C A o s e q lawful E (t .0) (t .1) (t .2),
   )
@@ -149,7 +151,7 @@ module _ (C : Chart) (o : ℕ) where
 -- what a list of feeds makes sure of for its last stretch
 Steady : Last → Snoc LogRecord → Type 0
 Steady (unended o s) rs = Rising o s × (lastOf o s ≡ lastMoment rs)
-Steady (afterBreak k) rs = Unit {0}
+Steady (afterBreak k x) rs = Unit {0}
 
 -- a record that is not refused is not before the last one
 not-below : (rs : Snoc LogRecord) (e : LogRecord) → refusal rs e ≡ none → lastMoment rs ≤ e .time
@@ -163,8 +165,8 @@ not-below rs e h = elim (split (ltb (e .time) (lastMoment rs))) [
 steady-after : (x : Outcome) (rs : Snoc LogRecord) (e : LogRecord) → Steady (lastAfter x (e .time)) (rs ▸ e)
 unfolding Steady
 steady-after kept rs e = (tt, refl)
-steady-after dropped rs e = (tt, refl)
-steady-after (broken k) rs e = tt
+steady-after (dropped x) rs e = (tt, refl)
+steady-after (broken k x) rs e = tt
 
 module _ (C : Chart) where
   -- feed by feed
@@ -278,7 +280,7 @@ module _ (C : Chart) where
             ∙ ap stands (one-row C A o s (W .0) (stands-at .row) (W .1) (stands-at .lawful))
 
         pub decided : Decided C o s e (feed C (after C fs) e .answer)
-        unfolding NoRow configOf
+        unfolding NoRowBy configOf
         decided =
             let X : Exactly C o s e (feed C (after C fs) e .answer) = exactly-here e h in
             let Y = comes-entered C A o s e (stands-at .row) (stands-at .lawful) (rising-on e h)
@@ -381,19 +383,19 @@ module _ (C : Chart) where
         unfolding placeOf
         held c R = rw (stands-at .has-clocks) (past C o (chartMessages C s) (stands-at .row) R c)
 
-        begun-move : So (chartMessage C e) → {n k : ℕ} (v : Move) → offer C (after C fs .place) e ≡ v
-            → conclude C (after C fs) e v .answer ≡ brokenAt n k → Begun
+        begun-move : So (chartMessage C e) → {n k : ℕ} {x : Cause} (v : Move) → offer C (after C fs .place) e ≡ v
+            → conclude C (after C fs) e v .answer ≡ brokenAt n k x → Begun
         unfolding conclude configAt dropRound keepRound goOn
         begun-move c stuck p a = elim (split (prechartDone C (after C fs .place .fired))) [
           | inl d ↦ begun-before c (done-true C (after C fs .place .fired) d)
           | inr d ↦ dropped-broken (rw d at a)
         ]
-        begun-move c (fails i q) p a = elim (split (C .hot i)) [
+        begun-move c (fails i term q) p a = elim (split (C .hot i)) [
           | inl t ↦
               let R : Rising o (chartMessages C s ▸ e) = rw (chartMessages-take C s e c) at (rising-on e h) in
               begun-failing c
               (failure-of C A (after C fs .place) e (lastOf o (chartMessages C s)) (λ x. held x (R .0))
-              (R .1) c i q p) t
+              (R .1) c i term q p) t
           | inr t ↦ dropped-broken (rw t at a)
         ]
         begun-move c (rests q) p a = elim (split (full C (q .fired))) [
@@ -402,14 +404,14 @@ module _ (C : Chart) where
               onward-broken (not (prechartDone C (after C fs .place .fired)) && prechartDone C (q .fired)) (rw t at a)
         ]
 
-        begun : {n k : ℕ} → accept C (after C fs) e .answer ≡ brokenAt n k → Begun
+        begun : {n k : ℕ} {x : Cause} → accept C (after C fs) e .answer ≡ brokenAt n k x → Begun
         unfolding accept goOn
         begun a = elim (split (chartMessage C e)) [
           | inl c ↦ begun-move c (offer C (after C fs .place) e) refl (rw c at a)
           | inr c ↦ quiet-broken (rw c at a)
         ]
 
-        violated : {n k : ℕ} → feed C (after C fs) e .answer ≡ brokenAt n k → Violated C o (s ▸ e)
+        violated : {n k : ℕ} {x : Cause} → feed C (after C fs) e .answer ≡ brokenAt n k x → Violated C o (s ▸ e)
         violated a =
             let B : Begun = begun (rw (feed-unbroken C (after C fs) e (agrees C A F .1), h) at a) in
             record {
@@ -419,13 +421,13 @@ module _ (C : Chart) where
               end = B .to;
               run = B .run;
               prechart = done-satisfies C A (prompt-run C (B .run)) (B .done);
-              none-whole = decided e h .dropped-or-broken-exactly .0 (inr (_, _, a));
+              none-whole = decided e h .dropped-or-broken-exactly .0 (inr (_, _, _, a));
             }
 
-      pub broken-violates : (e : LogRecord) (n k : ℕ) → feed C (after C fs) e .answer ≡ brokenAt n k
+      pub broken-violates : (e : LogRecord) (n k : ℕ) (x : Cause) → feed C (after C fs) e .answer ≡ brokenAt n k x
           → Violated C o (s ▸ e)
-      broken-violates e n k a =
-          violated e (not-refused e (brokenAt n k) (λ j u. absurd (let z : _≡_ {A = ℕ} 0 1 = cc in omega arith)) a) a
+      broken-violates e n k x a =
+          violated e (not-refused e (brokenAt n k x) (λ j u. absurd (let z : _≡_ {A = ℕ} 0 1 = cc in omega arith)) a) a
 
       pub violated-exactly : (e : LogRecord) → refusal rs e ≡ none
           → Violated C o (s ▸ e)

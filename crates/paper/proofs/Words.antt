@@ -10,7 +10,7 @@ use native.Mathlib.Decide.{decLt, ℕ-discrete}
 use lib.Dec.{eqb}
 use borrow.Author.Tests.{eqb-true, eqb-false, eq-eqb}
 use Rattle.base.specs.Lists.{Snoc, ε, _▸_}
-use Rattle.rounds.specs.Chart.{Chart, Accepted}
+use Rattle.rounds.specs.Chart.{Chart, conditionOf, Accepted}
 use Rattle.rounds.specs.Rows.{LogRecord, plain, Ready, Full, PrechartDone}
 use Rattle.rounds.specs.Machine.{prechartDone}
 use Rattle.base.proofs.Bools.{split, clash, or-left, or-right, either}
@@ -30,7 +30,7 @@ module _ (C : Chart) where
 
   -- there is one only where some following region's condition would hold
   pub no-delay : (c z : Config) (d : ℕ) →
-      ((s : ℕ) → Ready C (c .cut) s → C .condition s (shift C (c .valuation) d) ≡ false)
+      ((s : ℕ) → Ready C (c .cut) s → conditionOf C s (shift C (c .valuation) d) ≡ false)
       → ¬ Advance C c (delay d) z
   no-delay c z d h a = let D = delayed C d refl a in clash (D .holds) (h (D .region) (D .follows))
 
@@ -40,7 +40,7 @@ module _ (C : Chart) where
   unfolding Unmatched
   no-step c z e d U a = let N = synced C (e .code) refl a in U (N .region) (N .follows) (N .fits)
 
-  pub no-advancement : (c : Config) (i : ℕ) → Ready C (c .cut) i → C .condition i (c .valuation) ≡ false
+  pub no-advancement : (c : Config) (i : ℕ) → Ready C (c .cut) i → conditionOf C i (c .valuation) ≡ false
       → ¬ Advance C c silent (successor C c i)
   no-advancement c i R f a = clash (advanced C i refl refl R a .holds) f
 
@@ -55,7 +55,7 @@ module _ (C : Chart) where
   -- what a termination needs
   pub record Ended (c : Config) (i : ℕ) : Type 0 where
     pub cold : C .hot i ≡ false
-    pub fails : C .condition i (c .valuation) ≡ false
+    pub fails : conditionOf C i (c .valuation) ≡ false
 
   pub some-one : {i j : ℕ} → some i ≡ some j → i ≡ j
   some-one q = cc
@@ -75,7 +75,7 @@ module _ (C : Chart) where
       let w : s ≡ i = some-one b in
       record {
         cold = subst (λ (n : ℕ). C .hot n ≡ false) w k;
-        fails = subst (λ (n : ℕ). C .condition n (c .valuation) ≡ false) w h;
+        fails = subst (λ (n : ℕ). conditionOf C n (c .valuation) ≡ false) w h;
       }
   ended i q e (time-delay d s R h) b = absurd (let z : _≡_ {A = ℕ} 0 1 = cc in omega arith)
 
@@ -93,7 +93,7 @@ module _ (C : Chart) where
   pub hot-stays : (c : Config) (i : ℕ) → So (C .hot i) → ¬ Terminates C c i
   hot-stays c i h T = clash h (terminated c i T .cold)
 
-  pub holding-stays : (c : Config) (i : ℕ) → So (C .condition i (c .valuation)) → ¬ Terminates C c i
+  pub holding-stays : (c : Config) (i : ℕ) → So (conditionOf C i (c .valuation)) → ¬ Terminates C c i
   holding-stays c i h T = clash h (terminated c i T .fails)
 
   -- a ready region joins a cut
@@ -223,7 +223,7 @@ module _ (C : Chart) where
 
     -- the message of a following region is that of no other
     pub no-synchronization : (c z : Config) (i : ℕ) → Ready C (c .cut) i → plain C i ≡ false
-        → C .condition i (c .valuation) ≡ false
+        → conditionOf C i (c .valuation) ≡ false
         → ¬ Advance C c (message (C .key i)) z
     no-synchronization c z i R p f a =
         let N = synced C (C .key i) refl a in

@@ -6,7 +6,8 @@ use mathlib.Core.Bool.{Bool, false, So}
 use mathlib.Core.Option.{none, some}
 use Prim.Native.Nat.{ℕ, _≤_}
 use Rattle.base.specs.Lists.{Snoc, ε, _▸_}
-use Rattle.rounds.specs.Chart.{Chart}
+use Rattle.model.specs.declared.Cause.{Cause}
+use Rattle.rounds.specs.Chart.{Chart, conditionOf}
 use Rattle.rounds.specs.Rows.{LogRecord, Row, plain, chartMessages, Ready, Full, PrechartDone, Lawful}
 use Rattle.rounds.specs.Feeds.{refusal, unended, Answer, keptNow, brokenAt, entered, SaysRunsOn, SaysDroppedOrBroken}
 use Rattle.rounds.specs.Machine.{Monitor, feed, after, answers, Fit}
@@ -69,22 +70,23 @@ pub record Stuck (C : Chart) : Type 0 where
       → ¬ Advance C (wait C c d) (message (e .code)) z
   -- over the message of a following region whose condition fails, by whatever region;
   pub failing-message : (c z : Config) (i : ℕ) → Ready C (c .cut) i → plain C i ≡ false
-      → C .condition i (c .valuation) ≡ false
+      → conditionOf C i (c .valuation) ≡ false
       → ¬ Advance C c (message (C .key i)) z
   -- silently to the successor of a following region whose condition fails, or that has a message;
-  pub failing-plain : (c : Config) (i : ℕ) → Ready C (c .cut) i → C .condition i (c .valuation) ≡ false
+  pub failing-plain : (c : Config) (i : ℕ) → Ready C (c .cut) i → conditionOf C i (c .valuation) ≡ false
       → ¬ Advance C c silent (successor C c i)
   pub heard : (c : Config) (i : ℕ) → Ready C (c .cut) i → plain C i ≡ false → ¬ Advance C c silent (successor C c i)
   -- over the number 0, which is no message: no message advances a plain region;
   pub no-message : (c z : Config) → ¬ Advance C c (message 0) z
   -- by a termination of a region whose condition is hot, or holds;
   pub hot-stays : (c : Config) (i : ℕ) → So (C .hot i) → ¬ Terminates C c i
-  pub holding-stays : (c : Config) (i : ℕ) → So (C .condition i (c .valuation)) → ¬ Terminates C c i
+  pub holding-stays : (c : Config) (i : ℕ) → So (conditionOf C i (c .valuation)) → ¬ Terminates C c i
   -- of a region that does not follow the cut;
   pub not-following : (c z : Config) (u : Letter) (a : Advance C c u z) (i : ℕ) → ¬ Ready C (c .cut) i → by C a ≢ some i
   -- S10, S21: by a delay after which the condition of each following region fails, although `wait` lets time pass there
   -- too; where the source has a delay step, it leads to what `wait` gives
-  pub late : (c z : Config) (d : ℕ) → ((s : ℕ) → Ready C (c .cut) s → C .condition s (shift C (c .valuation) d) ≡ false)
+  pub late : (c z : Config) (d : ℕ)
+      → ((s : ℕ) → Ready C (c .cut) s → conditionOf C s (shift C (c .valuation) d) ≡ false)
       → ¬ Advance C c (delay d) z
   pub delay-is-wait : (c z : Config) (d : ℕ) → Advance C c (delay d) z → z ≡ wait C c d
 
@@ -153,7 +155,7 @@ pub record Demand2 (C : Chart) : Type 0 where
   -- and where it is answered broken, the round violates it
   pub broken-violates : {fs : Snoc LogRecord} (M : Meaning C fs) (o : ℕ) (s : Snoc LogRecord) (e : LogRecord)
       → M .last ≡ unended o s
-      → (n k : ℕ) → feed C (after C fs) e .answer ≡ brokenAt n k → Violated C o (s ▸ e)
+      → (n k : ℕ) (x : Cause) → feed C (after C fs) e .answer ≡ brokenAt n k x → Violated C o (s ▸ e)
   -- which it does exactly if the record is answered dropped or broken after a prompt run over a beginning of the word
   -- has fired the whole prechart: so too where a cold condition of the main chart fails
   pub violated-exactly : {fs : Snoc LogRecord} (M : Meaning C fs) (o : ℕ) (s : Snoc LogRecord) (e : LogRecord)

@@ -7,7 +7,7 @@ use mathlib.Core.Option.{Option, none, some}
 use Prim.Native.Nat.{ℕ, _+_, _-_, _≤_, _<_}
 use lib.Dec.{eqb, ltb}
 use Rattle.base.specs.Lists.{Snoc, ε, _▸_}
-use Rattle.rounds.specs.Chart.{Chart}
+use Rattle.rounds.specs.Chart.{Chart, conditionOf}
 use Rattle.rounds.specs.Rows.{LogRecord, Row, stands, plain, Ready, values, resetMoment}
 use Rattle.rounds.specs.Machine.{Place}
 
@@ -68,16 +68,16 @@ module _ (C : Chart) where
   -- S7 to S10: the steps from a configuration over a letter to another, each of a region s that follows the cut.
   pub data Advance (x : Config) : Letter → Config → Type 0 where
     -- S7: s has a message and its condition holds: over that message to the successor
-    synchronization : (s : ℕ) → Ready C (x .cut) s → plain C s ≡ false → So (C .condition s (x .valuation))
+    synchronization : (s : ℕ) → Ready C (x .cut) s → plain C s ≡ false → So (conditionOf C s (x .valuation))
         → Advance x (message (C .key s)) (successor x s)
     -- S8: s is plain and its condition holds: silently to the successor
-    silent-advancement : (s : ℕ) → Ready C (x .cut) s → So (plain C s) → So (C .condition s (x .valuation))
+    silent-advancement : (s : ℕ) → Ready C (x .cut) s → So (plain C s) → So (conditionOf C s (x .valuation))
         → Advance x silent (successor x s)
     -- S9: the condition of s is cold and fails: silently back to the minimal cut (with every clock at 0: S24)
-    premature-termination : (s : ℕ) → Ready C (x .cut) s → C .hot s ≡ false → C .condition s (x .valuation) ≡ false
+    premature-termination : (s : ℕ) → Ready C (x .cut) s → C .hot s ≡ false → conditionOf C s (x .valuation) ≡ false
         → Advance x silent initial
     -- S10: d ticks pass, after which the condition of s would hold
-    time-delay : (d s : ℕ) → Ready C (x .cut) s → So (C .condition s (shift (x .valuation) d))
+    time-delay : (d s : ℕ) → Ready C (x .cut) s → So (conditionOf C s (shift (x .valuation) d))
         → Advance x (delay d) (wait x d)
 
   -- the region that is added, or whose condition terminates; none where time passes

@@ -5,6 +5,8 @@ use mathlib.Core.Bool.{false, So}
 use mathlib.Core.Option.{some}
 use Prim.Native.Nat.{ℕ, suc, _-_, _≤_, _<_}
 use Rattle.base.specs.Lists.{Snoc, ε, _▸_}
+use Rattle.model.specs.declared.Cause.{Cause}
+use Rattle.model.specs.Monitor.{noCause, causeOf}
 use Rattle.model.specs.Answers.{timeFalls, tooManyRecords, mostRecords}
 use Rattle.rounds.specs.Chart.{Chart}
 use Rattle.rounds.specs.Rows.{LogRecord, chartMessage, Ready, Full, PrechartDone}
@@ -35,9 +37,9 @@ keeping x e = record { config = initial; tally = countedKept (x .tally) (e .time
 abbrev pub dropping : Status → LogRecord → Status
 dropping x e = record { config = initial; tally = countedDropped (x .tally) (e .time) }
 
--- a break has its record and reason, and z is the configuration
-abbrev pub breaking : Status → LogRecord → ℕ → Config → Status
-breaking x e k z = record { config = z; tally = countedBroken (x .tally) (e .time) k }
+-- a break has its record, reason and cause, and z is the configuration
+abbrev pub breaking : Status → LogRecord → ℕ → Cause → Config → Status
+breaking x e k why z = record { config = z; tally = countedBroken (x .tally) (e .time) k why }
 
 module _ (C : Chart) where
   -- the ticks from now to the record
@@ -83,19 +85,20 @@ module _ (C : Chart) where
     -- one that ends in the maximal cut
     keeps : (z : Config) → Over C (x .config) (wordOf x e) z
         → Full C (z .cut) → Taken x e (keeping x e) keptNow
-    -- a region terminates in its turn
+    -- a region terminates in its turn; the cause is that region, with its first failing term
     fails-cold : (i : ℕ) (y : Config) → Turn x e i y
-        → Terminates y i → Taken x e (dropping x e) droppedNow
+        → Terminates y i → Taken x e (dropping x e) (droppedNow (causeOf i (C .failing i (y .valuation))))
     -- a region is blocked in its turn: a hot violation; the configuration is the one just before it
     fails-hot : (i : ℕ) (y : Config) → Turn x e i y
-        → Blocked y i → Taken x e (breaking x e conditionFails y) (brokenAt (suc (x .tally .records)) conditionFails)
+        → Blocked y i → Taken x e (breaking x e conditionFails (causeOf i (C .failing i (y .valuation))) y)
+        (brokenAt (suc (x .tally .records)) conditionFails (causeOf i (C .failing i (y .valuation))))
     -- a chart message that no following region has: the prechart's round is dropped
     unmatched-prechart : So (chartMessage C e) → Unmatched (x .config) e → ¬ PrechartDone C (x .config .cut)
-        → Taken x e (dropping x e) droppedNow
+        → Taken x e (dropping x e) (droppedNow noCause)
     -- in the main chart it is broken, with the cut and the resets before the record
     unmatched-main : So (chartMessage C e) → Unmatched (x .config) e → PrechartDone C (x .config .cut)
-        → Taken x e (breaking x e noReadyRegion (wait C (x .config) (ticks x e)))
-        (brokenAt (suc (x .tally .records)) noReadyRegion)
+        → Taken x e (breaking x e noReadyRegion noCause (wait C (x .config) (ticks x e)))
+        (brokenAt (suc (x .tally .records)) noReadyRegion noCause)
 
   -- which case it is, in the order above
   abbrev pub caseOf : {x : Status} {e : LogRecord} {y : Status} {a : Answer} → Taken x e y a → ℕ
@@ -135,4 +138,4 @@ module _ (C : Chart) where
     -- after a break, the same break again: nothing changes
     stays-broken : {fs : Snoc LogRecord} {ans : Snoc Answer} {x : Status} (e : LogRecord) → Read fs ans x
         → x .tally .broken .at ≢ 0
-        → Read (fs ▸ e) (ans ▸ brokenAt (x .tally .broken .at) (x .tally .broken .reason)) x
+        → Read (fs ▸ e) (ans ▸ brokenAt (x .tally .broken .at) (x .tally .broken .reason) (x .tally .broken .cause)) x

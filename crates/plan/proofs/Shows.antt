@@ -18,16 +18,16 @@ use Rattle.model.specs.declared.Region.{Region}
 use Rattle.model.specs.Chart.{zeroRegion, regionAt, termAt, isPlain, mostRegions, mostTerms}
 use Rattle.order.specs.Order.{aboveOf}
 use Rattle.order.proofs.Laws.{sets-beyond}
-use Rattle.condition.specs.Condition.{conditionHolds}
 use Rattle.rounds.specs.Chart.{Accepted}
+use Rattle.chart_value.specs.WellFormed.{leftFits}
 use Rattle.chart_value.specs.View.{codeOf, keyOf, regionOf, chartOf}
 use Rattle.chart_value.proofs.Facts.{WellFormed}
 use Rattle.chart_value.proofs.Order.{fits-at}
-use Rattle.layout.specs.View.{conditionBy, planChart, InChart, Words}
+use Rattle.layout.specs.View.{failingBy, termsBy, planChart, InChart, Words}
 use Rattle.plan.specs.declared.Plan.{Plan}
 use Rattle.plan.specs.Words.{wordOf, wordAt}
 use Rattle.plan.specs.Plan.{Compiles}
-use Rattle.plan.proofs.Words.{word-is, word-holds, word-named, words-hold}
+use Rattle.plan.proofs.Words.{word-is, word-holds, word-named, words-fail, words-count}
 use Rattle.plan.proofs.Members.{Gathered, gathered-below, gathered-none, gathered-next}
 
 -- a part of the region at i, or of zeros beyond the chart
@@ -114,24 +114,38 @@ module _ (c : Chart) (w : WellFormed c) (terms : List ℕ) (F : Filled 0 (words-
       let a : c .count * mostTerms ≤ i * mostTerms + j = omega arith in
       F .is (i * mostTerms + j) ∙ rw (le-ltb (i * mostTerms + j) (c .count * mostTerms) a)
 
-  terms-show : (i : ℕ) (v : ℕ → ℕ) → conditionBy terms i v ≡ chartOf c .condition i v
-  terms-show i v = by (decLt i (c .count))
+  -- the words of a region that fits, in the chart or beyond it
+  record RegionWords (i : ℕ) (g : Region) : Type 0 where
+    count : g .count ≤ mostTerms
+    same : (j : ℕ) → j < mostTerms → getD terms (i * mostTerms + j) 0 ≡ wordAt g j
+    fits : (j : ℕ) → j < g .count → leftFits (c .clocks) (termAt g j .left) ≡ true
+
+  region-words : (i : ℕ) → RegionWords i (regionOf c i)
+  region-words i = by (decLt i (c .count))
     where
-      by : Dec (i < c .count) → conditionBy terms i v ≡ conditionHolds (regionOf c i) v
+      by : Dec (i < c .count) → RegionWords i (regionOf c i)
       by (yes h) =
-          let r : c .count ≤ mostRegions = w .room in
           let t = fits-at c w i h .terms in
-          let n : regionAt c i .count ≤ mostTerms = t .count in
-          words-hold (regionAt c i) v (λ j. getD terms (i * mostTerms + j) 0) n (λ j l. words-in i j h l)
-          (λ j l. word-holds (c .clocks) (termAt (regionAt c i) j) (w .clocks) (t .used j l) v)
-          ∙ ap (λ (b : Bool). conditionHolds (cond b (regionAt c i) zeroRegion) v) (sym (lt-ltb i (c .count) h))
+          rw (lt-ltb i (c .count) h)
+          (record { count = t .count; same = λ j l. words-in i j h l; fits = λ j l. t .used j l })
       by (no h) =
           let l : c .count ≤ i = omega arith in
-          words-hold zeroRegion v (λ j. getD terms (i * mostTerms + j) 0) (omega arith)
-          (λ j k. words-beyond i j l ∙ sym
-          (ap (λ (b : Bool). cond b (wordOf (termAt zeroRegion j)) 0) (le-ltb j 0 (omega arith))))
-          (λ j k. absurd (omega arith))
-          ∙ ap (λ (b : Bool). conditionHolds (cond b (regionAt c i) zeroRegion) v) (sym (le-ltb i (c .count) l))
+          rw (le-ltb i (c .count) l)
+          (record {
+            count = omega arith;
+            same = λ j k. words-beyond i j l ∙ sym
+                (ap (λ (b : Bool). cond b (wordOf (termAt zeroRegion j)) 0) (le-ltb j 0 (omega arith)));
+            fits = λ j k. absurd (omega arith);
+          })
+
+  terms-show : (i : ℕ) → termsBy terms i ≡ chartOf c .terms i
+  terms-show i = let R = region-words i in
+      words-count (regionOf c i) (λ j. getD terms (i * mostTerms + j) 0) (R .count) (R .same)
+
+  failing-shows : (i : ℕ) (v : ℕ → ℕ) → failingBy terms i v ≡ chartOf c .failing i v
+  failing-shows i v = let R = region-words i in
+      words-fail (regionOf c i) (λ j. getD terms (i * mostTerms + j) 0) (R .count) (R .same) v
+      (λ j l. word-holds (c .clocks) (termAt (regionOf c i) j) (w .clocks) (R .fits j l) v)
 
   -- a word that isn't 0 is a term's
   words-named : (k : ℕ) → ¬ (getD terms k 0 ≡ 0) → InChart (c .clocks) (getD terms k 0)
@@ -228,7 +242,8 @@ module _ (c : Chart) (p : Plan) (w : WellFormed c) (accepted : Accepted (chartOf
         above = λ a b. above-set a b x;
         clocks = heading .2 x;
         resets = λ i k. resets-show c (p .resets) (P .resets-at) i k x;
-        condition = λ i v. terms-show c w (p .terms) (P .word-at) i v x;
+        terms = λ i. terms-show c w (p .terms) (P .word-at) i x;
+        failing = λ i v. failing-shows c w (p .terms) (P .word-at) i v x;
         hot = λ i. hot-shows c (p .head .hot) (P .hot-set) i x;
       }
 

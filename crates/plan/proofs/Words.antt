@@ -1,15 +1,15 @@
--- A term's word holds exactly if the term does, and the four words of a region exactly if its condition does.
--- Assumes nothing.
-use mathlib.Core.Path.{_≡_, refl, sym, ap, ap₂, _∙_}
-use mathlib.Core.Bool.{Bool, true, false, cond, not, _&&_, _||_}
+-- A term's word holds exactly if the term does, and of the four words of a region the first that fails is that of the
+-- first term that does. Assumes nothing.
+use mathlib.Core.Path.{_≡_, refl, sym, ap, _∙_}
+use mathlib.Core.Bool.{Bool, true, cond, not, _&&_, _||_}
 use mathlib.Core.Logic.{_⊎_, inl, inr}
-use Prim.Native.Nat.{ℕ, zero, suc, _+_, _*_, _/_, _%_, _≤_, _<_}
+use Prim.Native.Nat.{ℕ, _+_, _*_, _/_, _%_, _≤_, _<_}
 use native.Mathlib.Omega.{arith}
-use native.Mathlib.Decide.{ℕ-discrete}
-use borrow.Author.Tests.{ltb-true, lt-ltb, le-ltb, ne-eqb}
+use borrow.Author.Tests.{ltb-true, lt-ltb, le-ltb, eq-eqb, ne-eqb}
 use lib.Dec.{eqb, ltb}
 use lib.IntN.{ℤ, pos, _-ℤ_}
 use Rattle.base.proofs.Bools.{both}
+use Rattle.base.proofs.Facts.{fails-same, count-is}
 use Rattle.model.specs.declared.Term.{Term}
 use Rattle.model.specs.declared.Region.{Region}
 use Rattle.model.specs.declared.Left.{Left}
@@ -17,11 +17,11 @@ use Rattle.model.specs.declared.Left.the-variants.{Clock, Difference}
 use Rattle.model.specs.declared.Relation.{Relation}
 use Rattle.model.specs.declared.Relation.the-variants.{Less, AtMost, Equal, AtLeast, More}
 use Rattle.model.specs.Chart.{mostClocks, mostTerms, termAt}
-use Rattle.condition.specs.Condition.{signed, related, leftOf, termHolds, termsHold, conditionHolds}
+use Rattle.condition.specs.Condition.{signed, related, leftOf, termHolds, failingTerm}
 use Rattle.condition.specs.Rows.{rowBits, biased, compared}
 use Rattle.condition.proofs.Signed.{one-clock}
 use Rattle.condition.proofs.Rows.{tests-exactly}
-use Rattle.base.specs.Lists.{allBelow}
+use Rattle.base.specs.Lists.{countBelow, failsAt}
 use Rattle.chart_value.specs.WellFormed.{leftFits}
 use Rattle.layout.specs.View.{secondPlace, rowPlace, numberPlace, clockCodes, firstOf, secondOf}
 use Rattle.layout.specs.View.{secondValue, tested, holdsBy, InChart}
@@ -125,46 +125,27 @@ zero-holds : (v : ℕ → ℕ) → holdsBy 0 v ≡ true
 unfolding holdsBy
 zero-holds v = refl
 
--- of m places the first n have a term
-module _ (g : Region) (v : ℕ → ℕ) (t : ℕ → Bool) where
-  all-used : (n : ℕ) → ((j : ℕ) → j < n → t j ≡ termHolds (termAt g j) v) → allBelow n t ≡ termsHold n g v
-  unfolding termsHold
-  all-used zero used = refl
-  all-used (suc n) used = ap₂ _&&_ (all-used n (λ j h. used j (omega arith))) (used n (omega arith))
+-- the words of a region: its terms' words, and zeros from there on
+module _ (g : Region) (words : ℕ → ℕ) (count : g .count ≤ mostTerms)
+    (same : (j : ℕ) → j < mostTerms → words j ≡ wordAt g j) where
+  used : (j : ℕ) → j < g .count → words j ≡ wordOf (termAt g j)
+  used j h = same j (omega arith) ∙ ap (λ (b : Bool). cond b (wordOf (termAt g j)) 0) (lt-ltb j (g .count) h)
 
-  and-true : (x y : Bool) → y ≡ true → (x && y) ≡ x
-  and-true true y e = e
-  and-true false y e = refl
+  unused : (j : ℕ) → g .count ≤ j → j < mostTerms → words j ≡ 0
+  unused j h l = same j l ∙ ap (λ (b : Bool). cond b (wordOf (termAt g j)) 0) (le-ltb j (g .count) h)
 
-  all-more : (n m : ℕ) → n ≤ m → ((j : ℕ) → n ≤ j → j < m → t j ≡ true) → allBelow m t ≡ allBelow n t
-  all-more zero zero h unused = refl
-  all-more (suc n) zero h unused = absurd (omega arith)
-  all-more n (suc m) h unused = by (ℕ-discrete n (suc m)) (all-more n m)
-    where
-      by : Dec (n ≡ suc m) → (n ≤ m → ((j : ℕ) → n ≤ j → j < m → t j ≡ true) → allBelow m t ≡ allBelow n t)
-          → allBelow (suc m) t ≡ allBelow n t
-      by (yes e) r = ap (λ (k : ℕ). allBelow k t) (sym e)
-      by (no e) r =
-          let l : n ≤ m = omega (arith, e) in
-          and-true (allBelow m t) (t m) (unused m l (omega arith)) ∙ r l (λ j a b. unused j a (omega arith))
+  -- the first that fails is the first term that does
+  pub words-fail : (v : ℕ → ℕ)
+      → ((j : ℕ) → j < g .count → holdsBy (wordOf (termAt g j)) v ≡ termHolds (termAt g j) v)
+      → failsAt mostTerms (λ j. holdsBy (words j) v) ≡ failingTerm g v
+  words-fail v each =
+      fails-same (g .count) mostTerms (λ j. termHolds (termAt g j) v) (λ j. holdsBy (words j) v) count
+      (λ j h. sym (ap (λ (w : ℕ). holdsBy w v) (used j h) ∙ each j h))
+      (λ j h l. ap (λ (w : ℕ). holdsBy w v) (unused j h l) ∙ zero-holds v)
 
--- the words of a region hold if each term's does
-module _ (g : Region) (v words : ℕ → ℕ) (count : g .count ≤ mostTerms)
-    (same : (j : ℕ) → j < mostTerms → words j ≡ wordAt g j)
-    (each : (j : ℕ) → j < g .count → holdsBy (wordOf (termAt g j)) v ≡ termHolds (termAt g j) v) where
-  used : (j : ℕ) → j < g .count → holdsBy (words j) v ≡ termHolds (termAt g j) v
-  used j h =
-      ap (λ (w : ℕ). holdsBy w v)
-      (same j (omega arith) ∙ ap (λ (b : Bool). cond b (wordOf (termAt g j)) 0) (lt-ltb j (g .count) h))
-      ∙ each j h
-
-  unused : (j : ℕ) → g .count ≤ j → j < mostTerms → holdsBy (words j) v ≡ true
-  unused j h l =
-      ap (λ (w : ℕ). holdsBy w v)
-      (same j l ∙ ap (λ (b : Bool). cond b (wordOf (termAt g j)) 0) (le-ltb j (g .count) h))
-      ∙ zero-holds v
-
-  pub words-hold : allBelow mostTerms (λ j. holdsBy (words j) v) ≡ conditionHolds g v
-  words-hold =
-      all-more g v (λ j. holdsBy (words j) v) (g .count) mostTerms count unused
-      ∙ all-used g v (λ j. holdsBy (words j) v) (g .count) used
+  -- those that are not 0 are as many as the terms
+  pub words-count : countBelow mostTerms (λ j. not (eqb (words j) 0)) ≡ g .count
+  words-count =
+      count-is (g .count) mostTerms (λ j. not (eqb (words j) 0)) count
+      (λ j h. ap not (ne-eqb (words j) 0 (λ z. word-is (termAt g j) (sym (used j h) ∙ z))))
+      (λ j h l. ap not (eq-eqb (words j) 0 (unused j h l)))

@@ -22,7 +22,7 @@ const TOO_LONG: u8 = 40;
 const NO_FRAME: u8 = 41;
 
 // P12: so many bytes are enough for every text.
-pub const ROOM: usize = 169;
+pub const ROOM: usize = 223;
 
 // How many bytes were written, or that the buffer may be too short.
 pub enum Response {

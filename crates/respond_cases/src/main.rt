@@ -43,7 +43,7 @@ fn agrees(text: &[u8], line: &[u8]) -> bool {
     if end == text.len() {
         return false;
     }
-    let header = b"STANDING KEPT DROPPED RECORDS BREAK REASON";
+    let header = b"STANDING KEPT DROPPED RECORDS BREAK REASON REGION TERM";
     end + 1 == text.len()
         && check::same(&text[start..first], header)
         && check::same(&text[second..end], line)
@@ -65,7 +65,7 @@ fn compare(name: &[u8], text: &[u8], line: &[u8]) -> usize
 fn run(name: &[u8], input: &[u8], line: &[u8]) -> usize
     ensures { λ r. ⌜ r ≤ 1 ⌝ }
 {
-    let mut out = [0u8; 169];
+    let mut out = [0u8; 223];
     let response = respond::respond(input, &mut out);
     match response {
         Response::Written(n) => compare(name, &out[..n], line),

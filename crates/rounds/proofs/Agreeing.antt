@@ -16,11 +16,16 @@ module _ (C : Chart) (A : Accepted C) (rs : Snoc LogRecord) (es : Snoc Stretch) 
       → m .tally .broken ≡ n .tally .broken
   unfolding AtLast
   same-break (unended o s) m n G H =
-      λ i. record { at = (G .no-break ∙ sym (H .no-break)) i; reason = (G .no-reason ∙ sym (H .no-reason)) i }
-  same-break (afterBreak k) m n G H =
+      λ i. record {
+        at = (G .no-break ∙ sym (H .no-break)) i;
+        reason = (G .no-reason ∙ sym (H .no-reason)) i;
+        cause = (G .no-cause ∙ sym (H .no-cause)) i;
+      }
+  same-break (afterBreak k x) m n G H =
       λ i. record {
         at = (G .at-last-accepted ∙ sym (H .at-last-accepted)) i;
         reason = (G .of-stretch ∙ sym (H .of-stretch)) i;
+        cause = (G .has-cause ∙ sym (H .has-cause)) i;
       }
 
   same-tally : (last : Last) (m n : Monitor) → Agrees C rs es last m → Agrees C rs es last n → m .tally ≡ n .tally

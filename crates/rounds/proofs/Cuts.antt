@@ -9,7 +9,7 @@ use Rattle.rounds.specs.Rows.{LogRecord, Row, Lawful}
 use Rattle.rounds.specs.Feeds.{refusal, kept, dropped, broken, Stretch, Last, unended, afterBreak, lastAfter}
 use Rattle.rounds.specs.Feeds.{Answer, FedOne, refuses, runs-on, ends, again, Fed, none-yet, one-more}
 use Rattle.rounds.specs.Machine.{Monitor, Step, after}
-use Rattle.rounds.specs.Demand3.{Unbroken, AtLast, Agrees, Meaning, Same}
+use Rattle.rounds.specs.Demand3.{Unbroken, AtLast, Agrees, Meaning, SameBy}
 use Rattle.base.proofs.Facts.{found, none-some}
 use Rattle.rounds.proofs.Endings.{one-outcome, ended, Comes, on, keeps, drops, breaks}
 use Rattle.rounds.proofs.Feeds.{comes-unbroken, besides, agrees}
@@ -25,14 +25,14 @@ module _ (C : Chart) (A : Accepted C) where
       → {m : Monitor} {v : Step} → Comes C A o s e q lawful m v → Meaning C (fs ▸ e)
   extended F e h q lawful (on r a L nf O) = meant (one-more F (runs-on h q r a lawful L nf O))
   extended F e h q lawful (keeps E) = meant (one-more F (ends h kept E))
-  extended F e h q lawful (drops E) = meant (one-more F (ends h dropped E))
-  extended F e h q lawful (breaks k d E) = meant (one-more F (ends h (broken k) E))
+  extended F e h q lawful (drops x E) = meant (one-more F (ends h (dropped x) E))
+  extended F e h q lawful (breaks k x d E) = meant (one-more F (ends h (broken k x) E))
 
   extend : (fs : Snoc LogRecord) (e : LogRecord) (ans : Snoc Answer) (rs : Snoc LogRecord) (es : Snoc Stretch)
       (last : Last)
       → Fed C fs ans rs es last → Meaning C (fs ▸ e)
   unfolding AtLast
-  extend fs e ans rs es (afterBreak k) F = meant (one-more F again)
+  extend fs e ans rs es (afterBreak k x) F = meant (one-more F again)
   extend fs e ans rs es (unended o s) F = elim (found (refusal rs e)) [
     | inl h ↦
         let T : Unbroken C o s (after C fs) = agrees C A F .1 .at-last in
@@ -76,7 +76,7 @@ module _ (C : Chart) (A : Accepted C) where
       let S = fed-same F F′ in
       one-same (after C fs) (agrees C A F .1) N (rw (← (S .0), ← (S .1), ← (S .2)) at N′)
 
-  pub cut-unique : {fs : Snoc LogRecord} (M M′ : Meaning C fs) → Same C M M′
+  pub cut-unique : {fs : Snoc LogRecord} (M M′ : Meaning C fs) → SameBy M M′
   cut-unique M M′ =
       let S = fed-same (M .fed) (M′ .fed) in
       record {

@@ -8,9 +8,12 @@ use mathlib.Core.Option.{some}
 use Prim.Native.Nat.{ℕ}
 use native.Mathlib.Omega.{arith}
 use Rattle.base.specs.Lists.{Snoc, _▸_, size}
+use Rattle.model.specs.declared.Cause.{Cause}
+use Rattle.model.specs.Monitor.{noCause, causeOf}
 use Rattle.rounds.specs.Chart.{Chart, Accepted}
 use Rattle.rounds.specs.Rows.{LogRecord, Row, stands, chartMessage, chartMessages, resetMoment, Lawful, NoRow}
 use Rattle.rounds.specs.Rows.{Full, LawfulButLast, firstFailing}
+use Rattle.rounds.specs.Rows.{LawfulBy, NoRowBy}
 use Rattle.rounds.specs.Feeds.{noReadyRegion, conditionFails, Outcome, kept, dropped, broken, Ends, complete}
 use Rattle.rounds.specs.Feeds.{unplaced-main, unplaced-prechart, fails-hot, fails-cold, Answer, entered, moved}
 use Rattle.rounds.specs.Feeds.{quiet, Onward, completes-prechart, fires, stays, isKept}
@@ -39,14 +42,15 @@ onward-same (stays p) (stays p′) = refl
 module _ (C : Chart) (A : Accepted C) (o : ℕ) (s : Snoc LogRecord) (e : LogRecord) where
   -- no row is lawful if none is with the conditions at e waived,
   pub none-placed : ((r : Row) → ¬ LawfulButLast C o s e r) → NoRow C o (s ▸ e)
-  unfolding NoRow
+  unfolding NoRowBy
   none-placed W r L = W r (lawful-waived C o s e r L)
 
   -- nor if in that row a condition fails: it would be the lawful one, in which all hold
-  pub none-holds : (r : Row) (i : ℕ) → LawfulButLast C o s e r → firstFailing C o (chartMessages C (s ▸ e)) r ≡ some i
+  pub none-holds : (r : Row) (x : Cause) → LawfulButLast C o s e r
+      → firstFailing C o (chartMessages C (s ▸ e)) r ≡ some x
       → NoRow C o (s ▸ e)
-  unfolding NoRow Lawful
-  none-holds r i W f r′ L =
+  unfolding NoRowBy LawfulBy
+  none-holds r x W f r′ L =
       let w : r′ ≡ r = one-row-waived C A o s e r′ r (lawful-waived C o s e r′ L) W in
       none-some (all-hold C o (chartMessages C (s ▸ e)) r (rw w at (L .placed))) f
 
@@ -55,8 +59,8 @@ module _ (C : Chart) (A : Accepted C) (o : ℕ) (s : Snoc LogRecord) (e : LogRec
   unlawful (complete r L F) k = absurd (true≢false k)
   unlawful (unplaced-main q W L h) k = none-placed W
   unlawful (unplaced-prechart q W L h) k = none-placed W
-  unlawful (fails-hot r i W f h) k = none-holds r i W f
-  unlawful (fails-cold r i W f h) k = none-holds r i W f
+  unlawful (fails-hot r i term W f h) k = none-holds r (causeOf i term) W f
+  unlawful (fails-cold r i term W f h) k = none-holds r (causeOf i term) W f
 
 -- the same, with the lawful row q of s
 module _ (C : Chart) (A : Accepted C) (o : ℕ) (s : Snoc LogRecord) (e : LogRecord) (q : Row)
@@ -65,41 +69,46 @@ module _ (C : Chart) (A : Accepted C) (o : ℕ) (s : Snoc LogRecord) (e : LogRec
   data Way (x : Outcome) : Type 0 where
     whole : (r : Row) → Lawful C o (s ▸ e) r → Full C (stands r) → x ≡ kept → Way x
     unfit : ((r : Row) → ¬ LawfulButLast C o s e r)
-        → x ≡ cond (prechartDone C (stands q)) (broken noReadyRegion) dropped → Way x
-    untrue : (r : Row) (i : ℕ) → LawfulButLast C o s e r → firstFailing C o (chartMessages C (s ▸ e)) r ≡ some i
-        → x ≡ cond (C .hot i) (broken conditionFails) dropped → Way x
+        → x ≡ cond (prechartDone C (stands q)) (broken noReadyRegion noCause) (dropped noCause)
+        → Way x
+    untrue : (r : Row) (i term : ℕ) → LawfulButLast C o s e r
+        → firstFailing C o (chartMessages C (s ▸ e)) r ≡ some (causeOf i term)
+        → x ≡ cond (C .hot i) (broken conditionFails (causeOf i term)) (dropped (causeOf i term)) → Way x
 
   way : {x : Outcome} → Ends C o s e x → Way x
   way (complete r L F) = whole r L F refl
   way (unplaced-main p W L h) = unfit W (rw (one-row C A o s q p lawful L, done-is C (stands p) h))
   way (unplaced-prechart p W L h) = unfit W (rw (one-row C A o s q p lawful L, done-is-not C (stands p) h))
-  way (fails-hot r i W f h) = untrue r i W f (rw h)
-  way (fails-cold r i W f h) = untrue r i W f (rw h)
+  way (fails-hot r i term W f h) = untrue r i term W f (rw h)
+  way (fails-cold r i term W f h) = untrue r i term W f (rw h)
 
   -- two ways to end have one outcome, since no stretch has two rows
   same-way : {x y : Outcome} → Way x → Way y → x ≡ y
-  unfolding NoRow
+  unfolding NoRowBy
   same-way (whole r L F p) (whole r′ L′ F′ p′) = p ∙ sym p′
   same-way (whole r L F p) (unfit W p′) = absurd (none-placed C A o s e W r L)
-  same-way (whole r L F p) (untrue r′ i W f p′) = absurd (none-holds C A o s e r′ i W f r L)
+  same-way (whole r L F p) (untrue r′ i term W f p′) =
+      absurd (none-holds C A o s e r′ (causeOf i term) W f r L)
   same-way (unfit W p) (whole r′ L′ F′ p′) = absurd (none-placed C A o s e W r′ L′)
   same-way (unfit W p) (unfit W′ p′) = p ∙ sym p′
-  same-way (unfit W p) (untrue r′ i W′ f p′) = absurd (W r′ W′)
-  same-way (untrue r i W f p) (whole r′ L′ F′ p′) = absurd (none-holds C A o s e r i W f r′ L′)
-  same-way (untrue r i W f p) (unfit W′ p′) = absurd (W′ r W)
-  same-way (untrue r i W f p) (untrue r′ i′ W′ f′ p′) =
+  same-way (unfit W p) (untrue r′ i term W′ f p′) = absurd (W r′ W′)
+  same-way (untrue r i term W f p) (whole r′ L′ F′ p′) =
+      absurd (none-holds C A o s e r (causeOf i term) W f r′ L′)
+  same-way (untrue r i term W f p) (unfit W′ p′) = absurd (W′ r W)
+  same-way (untrue r i term W f p) (untrue r′ i′ term′ W′ f′ p′) =
       let w : r ≡ r′ = one-row-waived C A o s e r r′ W W′ in
-      let z : i ≡ i′ = some-same (rw w at f) f′ in
-      p ∙ rw z (sym p′)
+      let z : causeOf i term ≡ causeOf i′ term′ = some-same (rw w at f) f′ in
+      let y : i ≡ i′ = omega (arith, ap (λ (x : Cause). x .region) z) in
+      p ∙ rw (y, ap (λ (x : Cause). x .term) z) (sym p′)
 
   pub one-outcome : {x y : Outcome} → Ends C o s e x → Ends C o s e y → x ≡ y
   one-outcome E E′ = same-way (way E) (way E′)
 
   way-ended : {X : Type 0} {x : Outcome} → Way x → (r : Row) → Lawful C o (s ▸ e) r → ¬ Full C (stands r) → X
-  unfolding NoRow
+  unfolding NoRowBy
   way-ended (whole r L F p) r′ L′ h = absurd (h (rw (one-row C A o (s ▸ e) r r′ L L′) at F))
   way-ended (unfit W p) r′ L′ h = absurd (none-placed C A o s e W r′ L′)
-  way-ended (untrue r i W f p) r′ L′ h = absurd (none-holds C A o s e r i W f r′ L′)
+  way-ended (untrue r i term W f p) r′ L′ h = absurd (none-holds C A o s e r (causeOf i term) W f r′ L′)
 
   -- a stretch that ends does not run on
   pub ended : {X : Type 0} {x : Outcome} → Ends C o s e x → (r : Row) → Lawful C o (s ▸ e) r → ¬ Full C (stands r) → X
@@ -110,8 +119,8 @@ module _ (C : Chart) (A : Accepted C) (o : ℕ) (s : Snoc LogRecord) (e : LogRec
     on : (r : Row) (a : Answer) → Lawful C o (s ▸ e) r → ¬ Full C (stands r) → Onward C q r a
         → Comes m (goOn C m e a (placeOf C o (chartMessages C (s ▸ e)) r))
     keeps : Ends C o s e kept → Comes m (keepRound C m e)
-    drops : Ends C o s e dropped → Comes m (dropRound C m e)
-    breaks : (k : ℕ) (p : Place) → Ends C o s e (broken k) → Comes m (breakRound C m e k p)
+    drops : (x : Cause) → Ends C o s e (dropped x) → Comes m (dropRound C m e x)
+    breaks : (k : ℕ) (x : Cause) (p : Place) → Ends C o s e (broken k x) → Comes m (breakRound C m e k x p)
 
   -- by what the move means, case by case
   comes-move : (m : Monitor) (v : Move) → m .place .fired ≡ stands q → Means C o s q e v → Comes m (conclude C m e v)
@@ -119,12 +128,15 @@ module _ (C : Chart) (A : Accepted C) (o : ℕ) (s : Snoc LogRecord) (e : LogRec
   comes-move m v at (unplaced W) = elim (split (prechartDone C (stands q))) [
     | inl t ↦
         rw (ap (prechartDone C) at ∙ t)
-        (breaks noReadyRegion (m .place) (unplaced-main q W lawful (done-true C (stands q) t)))
-    | inr t ↦ rw (ap (prechartDone C) at ∙ t) (drops (unplaced-prechart q W lawful (done-false C (stands q) t)))
+        (breaks noReadyRegion noCause (m .place) (unplaced-main q W lawful (done-true C (stands q) t)))
+    | inr t ↦
+        rw (ap (prechartDone C) at ∙ t) (drops noCause (unplaced-prechart q W lawful (done-false C (stands q) t)))
   ]
-  comes-move m v at (failed p i r W f) = elim (split (C .hot i)) [
-    | inl t ↦ rw t (breaks conditionFails (placeOf C o (chartMessages C (s ▸ e)) p) (fails-hot r i W f t))
-    | inr t ↦ rw t (drops (fails-cold r i W f t))
+  comes-move m v at (failed p i term r W f) = elim (split (C .hot i)) [
+    | inl t ↦
+        rw t (breaks conditionFails (causeOf i term) (placeOf C o (chartMessages C (s ▸ e)) p)
+        (fails-hot r i term W f t))
+    | inr t ↦ rw t (drops (causeOf i term) (fails-cold r i term W f t))
   ]
   comes-move m v at (grown r L lt) = elim (split (full C (stands r))) [
     | inl t ↦ rw t (keeps (complete r L (full-true C (stands r) t)))

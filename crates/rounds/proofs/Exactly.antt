@@ -8,6 +8,7 @@ use native.Mathlib.Omega.{arith}
 use Rattle.base.specs.Lists.{Snoc, _▸_}
 use Rattle.rounds.specs.Chart.{Chart, Accepted}
 use Rattle.rounds.specs.Rows.{LogRecord, Row, stands, Lawful, NoRow, Full}
+use Rattle.rounds.specs.Rows.{NoRowBy}
 use Rattle.rounds.specs.Feeds.{refusal, kept, unended, Ends, complete, Answer, refused, brokenAt, keptNow}
 use Rattle.rounds.specs.Feeds.{droppedNow, entered, moved, quiet, Onward, completes-prechart, fires, stays}
 use Rattle.rounds.specs.Feeds.{SaysRunsOn, SaysDroppedOrBroken, Exactly}
@@ -20,9 +21,9 @@ use Rattle.rounds.proofs.Feeds.{feed-unbroken, comes-unbroken, Besides,
 -- the answers by kinds, of which none has two
 abbrev kind : Answer → ℕ
 kind (refused k) = 0
-kind (brokenAt n k) = 1
+kind (brokenAt n k x) = 1
 kind keptNow = 2
-kind droppedNow = 1
+kind (droppedNow x) = 1
 kind entered = 3
 kind moved = 3
 kind quiet = 3
@@ -33,8 +34,8 @@ on-kind (inr (inl p)) = ap kind p
 on-kind (inr (inr p)) = ap kind p
 
 lost-kind : {a : Answer} → SaysDroppedOrBroken a → kind a ≡ 1
-lost-kind (inl p) = ap kind p
-lost-kind (inr t) = ap kind (t .2)
+lost-kind (inl t) = ap kind (t .1)
+lost-kind (inr t) = ap kind (t .3)
 
 module _ {X : Type 0} {a : Answer} where
   on≢lost : SaysRunsOn a → SaysDroppedOrBroken a → X
@@ -58,7 +59,7 @@ module _ (C : Chart) (A : Accepted C) where
     kept-row (complete r L F) = (r, L, F)
 
     lost : (a : Answer) → SaysDroppedOrBroken a → NoRow C o (s ▸ e) → Exactly C o s e a
-    unfolding NoRow
+    unfolding NoRowBy
     lost a d N = record {
       kept-exactly = (λ p. lost≢kept d p, λ t. absurd (N (t .0) (t .1)));
       runs-on-exactly = (λ p. on≢lost p d, λ t. absurd (N (t .0) (t .1)));
@@ -66,7 +67,7 @@ module _ (C : Chart) (A : Accepted C) where
     }
 
     exact : {m : Monitor} {v : Step} → Comes C A o s e q lawful m v → Exactly C o s e (v .answer)
-    unfolding NoRow goOn keepRound dropRound breakRound
+    unfolding NoRowBy goOn keepRound dropRound breakRound
     exact (on r a L h O) = record {
       kept-exactly =
           (λ p. on≢kept (goes-on O) p, λ t. absurd (h (rw (one-row C A o (s ▸ e) (t .0) r (t .1) L) at (t .2))));
@@ -83,8 +84,8 @@ module _ (C : Chart) (A : Accepted C) where
           );
           dropped-or-broken-exactly = (λ p. lost≢kept p refl, λ N. absurd (N (R .0) (R .1)));
         }
-    exact {m} (drops E) = lost (dropRound C m e .answer) (inl refl) (unlawful C A o s e E refl)
-    exact {m} (breaks k d E) = lost (breakRound C m e k d .answer) (inr (_, _, refl)) (unlawful C A o s e E refl)
+    exact {m} (drops x E) = lost (dropRound C m e x .answer) (inl (x, refl)) (unlawful C A o s e E refl)
+    exact {m} (breaks k x d E) = lost (breakRound C m e k x d .answer) (inr (_, _, x, refl)) (unlawful C A o s e E refl)
 
   pub exactly : {fs : Snoc LogRecord} (M : Meaning C fs) (o : ℕ) (s : Snoc LogRecord) (e : LogRecord)
       → M .last ≡ unended o s

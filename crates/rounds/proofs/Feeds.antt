@@ -11,6 +11,8 @@ use Rattle.model.specs.Answers.{mostRecords}
 use Rattle.rounds.specs.Chart.{Chart, Accepted}
 use Rattle.rounds.specs.Rows.{LogRecord, Row, stands, chartMessages, messageRegions, opened, resetMoment, Lawful}
 use Rattle.rounds.specs.Rows.{Full}
+use Rattle.rounds.specs.Rows.{LawfulBy}
+use Rattle.rounds.specs.Tally.{Break, noBreak}
 use Rattle.rounds.specs.Feeds.{lastMoment, refusal, Outcome, kept, dropped, broken, Stretch, Last, unended}
 use Rattle.rounds.specs.Feeds.{afterBreak, lastAfter, Ends, Answer}
 use Rattle.rounds.specs.Feeds.{refused, brokenAt, ending, Onward, FedOne, refuses, runs-on, ends, again, Fed}
@@ -44,27 +46,31 @@ module _ (C : Chart) (m : Monitor) (e : LogRecord) where
       ]
 
   feed-broken : m .tally .broken .at ≢ 0
-      → feed C m e ≡ record { answer = brokenAt (m .tally .broken .at) (m .tally .broken .reason); next = m }
+      → feed C m e ≡ record {
+        answer = brokenAt (m .tally .broken .at) (m .tally .broken .reason) (m .tally .broken .cause);
+        next = m;
+      }
   unfolding feed
   feed-broken h = rw (ap not (ne-eqb (m .tally .broken .at) 0 h))
 
 module _ (C : Chart) (A : Accepted C) where
   -- a stretch that has just opened
   pub opens : (t : ℕ) → Lawful C t ε ε
-  unfolding Lawful chartMessages messageRegions
+  unfolding LawfulBy chartMessages messageRegions
   opens t = record { one-for-one = refl; placed = tt; settled = opening-settled C A }
 
   opens-unbroken : (t : ℕ) (m : Monitor) → m .place .fired ≡ stands ε → m .place .clocks ≡ opened C t
-      → m .tally .broken .at ≡ 0 → m .tally .broken .reason ≡ 0
+      → m .tally .broken ≡ noBreak
       → Unbroken C t ε m
   unfolding resetMoment
-  opens-unbroken t m f c b r = record {
+  opens-unbroken t m f c b = record {
     row = ε;
     lawful = opens t;
     has-fired = f;
     has-clocks = c;
-    no-break = b;
-    no-reason = r;
+    no-break = ap (λ (x : Break). x .at) b;
+    no-reason = ap (λ (x : Break). x .reason) b;
+    no-cause = ap (λ (x : Break). x .cause) b;
   }
 
   -- what an accepted record comes to
@@ -77,7 +83,7 @@ module _ (C : Chart) (A : Accepted C) where
   -- break
   abbrev pub Besides : Last → Snoc LogRecord → Type 0
   Besides (unended o s) rs = (r : Row) → Lawful C o s r → ¬ Full C (stands r)
-  Besides (afterBreak k) rs = size rs ≢ 0
+  Besides (afterBreak k x) rs = size rs ≢ 0
 
   besides-opened : (t : ℕ) (rs : Snoc LogRecord) → Besides (unended t ε) rs
   besides-opened t rs r L =
@@ -85,8 +91,8 @@ module _ (C : Chart) (A : Accepted C) where
 
   besides-after : (x : Outcome) (t : ℕ) (rs : Snoc LogRecord) (e : LogRecord) → Besides (lastAfter x t) (rs ▸ e)
   besides-after kept t rs e = besides-opened t (rs ▸ e)
-  besides-after dropped t rs e = besides-opened t (rs ▸ e)
-  besides-after (broken k) t rs e = λ z. omega (arith, z)
+  besides-after (dropped x) t rs e = besides-opened t (rs ▸ e)
+  besides-after (broken k x) t rs e = λ z. omega (arith, z)
 
   besides-one : {rs rs′ : Snoc LogRecord} {es es′ : Snoc Stretch} {last last′ : Last} {e : LogRecord} {a : Answer}
       → FedOne C rs es e last a rs′ es′ last′ → Besides last rs → Besides last′ rs′
@@ -130,12 +136,13 @@ module _ (C : Chart) (A : Accepted C) where
               has-clocks = refl;
               no-break = refl;
               no-reason = refl;
+              no-cause = refl;
             };
           };
         }
     after-on (keeps E) p r a M L h O = ended C A o s e q lawful E r L h
-    after-on (drops E) p r a M L h O = ended C A o s e q lawful E r L h
-    after-on (breaks k d E) p r a M L h O = ended C A o s e q lawful E r L h
+    after-on (drops x E) p r a M L h O = ended C A o s e q lawful E r L h
+    after-on (breaks k x d E) p r a M L h O = ended C A o s e q lawful E r L h
 
     abbrev Ended : Outcome → Step → Type 0
     Ended x v = StepAgrees (ending x (suc (size rs))) (rs ▸ e)
@@ -152,10 +159,11 @@ module _ (C : Chart) (A : Accepted C) where
             records = ap suc (G .records);
             kept = ap suc (G .kept);
             dropped = G .dropped;
-            at-last = opens-unbroken (e .time) (keepRound C m e .next) refl refl refl refl;
+            at-last = opens-unbroken (e .time) (keepRound C m e .next) refl refl refl;
           };
         })
-    after-ends (drops E′) x E = subst (λ (y : Outcome). Ended y (dropRound C m e)) (one-outcome C A o s e q lawful E′ E)
+    after-ends (drops z E′) x E =
+        subst (λ (y : Outcome). Ended y (dropRound C m e z)) (one-outcome C A o s e q lawful E′ E)
         (record {
           answer = refl;
           next = record {
@@ -163,19 +171,19 @@ module _ (C : Chart) (A : Accepted C) where
             records = ap suc (G .records);
             kept = G .kept;
             dropped = ap suc (G .dropped);
-            at-last = opens-unbroken (e .time) (dropRound C m e .next) refl refl refl refl;
+            at-last = opens-unbroken (e .time) (dropRound C m e z .next) refl refl refl;
           };
         })
-    after-ends (breaks k d E′) x E =
-        subst (λ (y : Outcome). Ended y (breakRound C m e k d)) (one-outcome C A o s e q lawful E′ E)
+    after-ends (breaks k z d E′) x E =
+        subst (λ (y : Outcome). Ended y (breakRound C m e k z d)) (one-outcome C A o s e q lawful E′ E)
         (record {
-          answer = ap (λ (n : ℕ). brokenAt (suc n) k) (G .records);
+          answer = ap (λ (n : ℕ). brokenAt (suc n) k z) (G .records);
           next = record {
             now = refl;
             records = ap suc (G .records);
             kept = G .kept;
             dropped = G .dropped;
-            at-last = record { at-last-accepted = ap suc (G .records); of-stretch = refl };
+            at-last = record { at-last-accepted = ap suc (G .records); of-stretch = refl; has-cause = refl };
           };
         })
 
@@ -194,10 +202,10 @@ module _ (C : Chart) (A : Accepted C) where
       let T : Unbroken C o s m = G .at-last in
       rw (feed-unbroken C m e G, h)
       (after-ends m rs es o s e (T .row) (T .lawful) G (comes-unbroken e m T (B (T .row) (T .lawful))) x E)
-  feed-agrees {rs} {e} m G B (again {k}) =
-      let T : Broken k rs m = G .at-last in
+  feed-agrees {rs} {e} m G B (again {k} {x}) =
+      let T : Broken k x rs m = G .at-last in
       rw (feed-broken C m e (λ z. B (sym (T .at-last-accepted) ∙ z)))
-      (record { answer = ap₂ brokenAt (T .at-last-accepted) (T .of-stretch); next = G })
+      (record { answer = rw (T .at-last-accepted, T .of-stretch, T .has-cause); next = G })
 
   starts : (answers C ε ≡ ε) × Agrees C ε ε (unended 0 ε) (after C ε)
   unfolding answers after AtLast opened
@@ -209,7 +217,7 @@ module _ (C : Chart) (A : Accepted C) where
       kept = refl;
       dropped = refl;
       at-last = opens-unbroken 0 (after C ε) refl
-          (fun-ext (λ c. elim (split (ltb c (C .clocks))) [ inl t ↦ rw t | inr t ↦ rw t ])) refl refl;
+          (fun-ext (λ c. elim (split (ltb c (C .clocks))) [ inl t ↦ rw t | inr t ↦ rw t ])) refl;
     },
   )
 

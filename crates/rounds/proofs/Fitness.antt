@@ -1,20 +1,22 @@
 -- A fresh monitor is fit, and feeding a fit monitor gives a fit one. Assumes nothing.
 use mathlib.Core.Path.{_≡_, refl}
-use mathlib.Core.Logic.{_⊎_, inl, inr}
-use mathlib.Core.Bool.{not, So, false≢true}
+use mathlib.Core.Logic.{_≢_, _⊎_, inl, inr}
+use mathlib.Core.Bool.{false, not, So, false≢true}
 use Prim.Native.Nat.{ℕ, zero, suc, _+_, _≤_, _<_}
 use native.Mathlib.Omega.{arith}
 use lib.Dec.{eqb, ltb, leb}
-use borrow.Author.Tests.{eqb-true, ltb-false, ltb-true, leb-false, not-false}
+use borrow.Author.Tests.{eqb-true, eqb-false, ltb-false, ltb-true, leb-false, not-false}
 use Rattle.base.specs.Lists.{Snoc, ε, _▸_}
 use Rattle.model.specs.Answers.{mostRecords}
-use Rattle.rounds.specs.Chart.{Chart, Accepted}
+use Rattle.model.specs.declared.Cause.{Cause}
+use Rattle.model.specs.Monitor.{noCause, causeOf}
+use Rattle.rounds.specs.Chart.{Chart, conditionOf, Accepted}
 use Rattle.rounds.specs.Rows.{LogRecord, chartMessage, plain, Ready, values, opened, Full}
 use Rattle.rounds.specs.Tally.{noBreak, countedAs}
 use Rattle.rounds.specs.Feeds.{noReadyRegion, conditionFails}
 use Rattle.rounds.specs.Machine.{Place, Monitor, fresh, Move, stuck, fails, rests, readyPlain, readyFor, fire}
 use Rattle.rounds.specs.Machine.{unfired, settle, offer, opening, full, prechartDone, goOn, keepRound, dropRound}
-use Rattle.rounds.specs.Machine.{breakRound, conclude, accept, feed, after, Fit}
+use Rattle.rounds.specs.Machine.{tryRegion, breakRound, conclude, accept, feed, after, CauseIn, Fit}
 use Rattle.base.proofs.Bools.{split, or-right, either}
 use Rattle.base.proofs.Facts.{found}
 use Rattle.rounds.proofs.Machine.{full-false, ready-lacks, unfired-falls, opening-lacks, opening-settled}
@@ -54,14 +56,27 @@ module _ (C : Chart) (A : Accepted C) where
         (split (ltb c (C .clocks))) [ inl q ↦ absurd (omega (arith, ltb-true c (C .clocks) q)) | inr q ↦ rw q ];
   }
 
+  -- a region whose condition fails, with its failing term
+  cause-in : (i : ℕ) (v : ℕ → ℕ) → i < C .regions → conditionOf C i v ≡ false → CauseIn C (causeOf i (C .failing i v))
+  unfolding conditionOf
+  cause-in i v h q =
+      let n : C .failing i v ≢ 0 = eqb-false (C .failing i v) 0 q in
+      record {
+        region = i;
+        term = C .failing i v;
+        is-region = h;
+        is-term = (omega (arith, n), A .own-terms i v);
+        both = refl;
+      }
+
   -- what steps 3 and 4 come to is fit
   FitMove : ℕ → Move → Type 0
   FitMove t stuck = Unit {0}
-  FitMove t (fails i p) = FitPlace t p × (¬ Full C (p .fired))
+  FitMove t (fails i term p) = FitPlace t p × (¬ Full C (p .fired)) × CauseIn C (causeOf i term)
   FitMove t (rests p) = FitPlace t p × Settled p
 
   settle-fits : (t : ℕ) (k : ℕ) (p : Place) → FitPlace t p → unfired C (p .fired) ≤ k → FitMove t (settle C t k p)
-  unfolding FitMove Settled settle
+  unfolding FitMove Settled settle tryRegion
   settle-fits t zero p F h = elim (found (readyPlain C (p .fired))) [
     | inl n ↦ (F, plain-none C A (p .fired) n)
     | inr f ↦ absurd (omega (arith, unfired-falls C t p (f .0) (plain-some C A (p .fired) (f .0) (f .1) .is-ready)))
@@ -70,11 +85,11 @@ module _ (C : Chart) (A : Accepted C) where
     | inl n ↦ rw n (F, plain-none C A (p .fired) n)
     | inr f ↦
         let R : Ready C (p .fired) (f .0) = plain-some C A (p .fired) (f .0) (f .1) .is-ready in
-        elim (split (C .condition (f .0) (values C t (p .clocks)))) [
+        elim (split (conditionOf C (f .0) (values C t (p .clocks)))) [
           | inl q ↦ rw (f .1, q)
               (settle-fits t k (fire C t p (f .0)) (fire-fits t p (f .0) F R)
               (omega (arith, unfired-falls C t p (f .0) R)))
-          | inr q ↦ rw (f .1, q) (F, ready-lacks C (p .fired) (f .0) R)
+          | inr q ↦ rw (f .1, q) (F, ready-lacks C (p .fired) (f .0) R, cause-in (f .0) _ (R .region) q)
         ]
   ]
 
@@ -84,11 +99,13 @@ module _ (C : Chart) (A : Accepted C) where
     | inl n ↦ rw (offer-stuck C p e n) tt
     | inr f ↦
         let R : Ready C (p .fired) (f .0) = for-some C A (p .fired) e (f .0) (f .1) .0 in
-        elim (split (C .condition (f .0) (values C (e .time) (p .clocks)))) [
+        elim (split (conditionOf C (f .0) (values C (e .time) (p .clocks)))) [
           | inl q ↦ rw (offer-fires C p e (f .0) (f .1) q)
               (settle-fits (e .time) (unfired C (fire C (e .time) p (f .0) .fired)) (fire C (e .time) p (f .0))
               (fire-fits (e .time) p (f .0) F R) (omega arith))
-          | inr q ↦ rw (offer-fails C p e (f .0) (f .1) q) (F, ready-lacks C (p .fired) (f .0) R)
+          | inr q ↦
+              rw (offer-fails C p e (f .0) (f .1) q)
+              (F, ready-lacks C (p .fired) (f .0) R, cause-in (f .0) _ (R .region) q)
         ]
   ]
 
@@ -121,7 +138,7 @@ module _ (C : Chart) (A : Accepted C) where
       unused = P .unused;
       few = room;
       counts = h;
-      break-fits = inl (refl, refl);
+      break-fits = inl (refl, refl, refl);
     }
 
     opening-fit : (k d : ℕ) → k + d ≤ suc (m .tally .records) → Fit C (unbrokenAt (opening C (e .time)) k d)
@@ -129,19 +146,20 @@ module _ (C : Chart) (A : Accepted C) where
     opening-fit k d h =
         unbroken-fits (opening C (e .time)) k d (opening-fits (e .time)) (opening-lacks C A) (opening-settled C A) h
 
-    drop-fit : Fit C (dropRound C m e .next)
+    drop-fit : (x : Cause) → Fit C (dropRound C m e x .next)
     unfolding dropRound
-    drop-fit = opening-fit (m .tally .kept) (suc (m .tally .dropped)) (omega (arith, F .counts))
+    drop-fit x = opening-fit (m .tally .kept) (suc (m .tally .dropped)) (omega (arith, F .counts))
 
     keep-fit : Fit C (keepRound C m e .next)
     unfolding keepRound
     keep-fit = opening-fit (suc (m .tally .kept)) (m .tally .dropped) (omega (arith, F .counts))
 
-    break-fit : (k : ℕ) (p : Place) → (k ≡ noReadyRegion) ⊎ (k ≡ conditionFails) → FitPlace (e .time) p
+    break-fit : (k : ℕ) (x : Cause) (p : Place)
+        → ((k ≡ noReadyRegion) × (x ≡ noCause)) ⊎ ((k ≡ conditionFails) × CauseIn C x) → FitPlace (e .time) p
         → ¬ Full C (p .fired)
-        → Fit C (breakRound C m e k p .next)
+        → Fit C (breakRound C m e k x p .next)
     unfolding breakRound
-    break-fit k p h P n = record {
+    break-fit k x p h P n = record {
       closed = P .closed;
       within = P .within;
       unfinished = n;
@@ -156,12 +174,12 @@ module _ (C : Chart) (A : Accepted C) where
     conclude-fit : (v : Move) → FitMove (e .time) v → Fit C (conclude C m e v .next)
     unfolding FitMove conclude goOn
     conclude-fit stuck S = elim (split (prechartDone C (m .place .fired))) [
-      | inl q ↦ rw q (break-fit noReadyRegion (m .place) (inl refl) at-now (F .unfinished))
-      | inr q ↦ rw q drop-fit
+      | inl q ↦ rw q (break-fit noReadyRegion noCause (m .place) (inl (refl, refl)) at-now (F .unfinished))
+      | inr q ↦ rw q (drop-fit noCause)
     ]
-    conclude-fit (fails i p) S = elim (split (C .hot i)) [
-      | inl q ↦ rw q (break-fit conditionFails p (inr refl) (S .0) (S .1))
-      | inr q ↦ rw q drop-fit
+    conclude-fit (fails i term p) S = elim (split (C .hot i)) [
+      | inl q ↦ rw q (break-fit conditionFails (causeOf i term) p (inr (refl, S .2)) (S .0) (S .1))
+      | inr q ↦ rw q (drop-fit (causeOf i term))
     ]
     conclude-fit (rests p) S = elim (split (full C (p .fired))) [
       | inl q ↦ rw q keep-fit
@@ -205,7 +223,7 @@ module _ (C : Chart) (A : Accepted C) where
     unused = λ c h. refl;
     few = omega arith;
     counts = omega arith;
-    break-fits = inl (refl, refl);
+    break-fits = inl (refl, refl, refl);
   }
 
   pub after-fit : (fs : Snoc LogRecord) → Fit C (after C fs)

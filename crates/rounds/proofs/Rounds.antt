@@ -7,14 +7,17 @@ use mathlib.Core.Bool.{Bool, false, cond, So}
 use mathlib.Core.Option.{none, some}
 use Prim.Native.Nat.{ℕ, zero, suc, _≤_, _<_}
 use native.Mathlib.Omega.{arith}
-use lib.Dec.{ltb}
+use lib.Dec.{eqb, ltb}
 use borrow.Author.Tests.{lt-ltb}
 use Rattle.base.specs.Lists.{Snoc, ε, _▸_, size, each, EachIn}
-use Rattle.rounds.specs.Chart.{Chart, Accepted}
+use Rattle.model.specs.declared.Cause.{Cause}
+use Rattle.model.specs.Monitor.{causeOf}
+use Rattle.rounds.specs.Chart.{Chart, conditionOf, Accepted}
 use Rattle.rounds.specs.Rows.{LogRecord, Row, stands, chartMessage, chartMessages, messageRegions, Ready, values}
 use Rattle.rounds.specs.Rows.{momentOf, resetMoment, holds, Placed, Lawful, waived, LawfulButLast, firstFailing}
+use Rattle.rounds.specs.Rows.{LawfulButLastBy, LawfulBy, clockTest, firstFailingBy, holdsBy, waivedBy}
 use Rattle.rounds.specs.Machine.{Place, Move, stuck, fails, rests, readyPlain, readyFor, unfired, fire, settle}
-use Rattle.rounds.specs.Machine.{offer}
+use Rattle.rounds.specs.Machine.{tryRegion, offer}
 use Rattle.base.proofs.Bools.{split, clash, or-left}
 use Rattle.base.proofs.Facts.{found, none-some}
 use Rattle.rounds.proofs.Machine.{plain-some, plain-none, for-some, has-message, offer-stuck, offer-fails}
@@ -31,7 +34,7 @@ placeOf C o l r = record { fired = stands r; clocks = resetMoment C o l r }
 
 -- a row's settling, as the machine's move
 asMove : Chart → ℕ → Snoc LogRecord → RowMove → Move
-asMove C o l (failsAt r i) = fails i (placeOf C o l r)
+asMove C o l (failsAt r i) = fails i (clockTest C o l r i) (placeOf C o l r)
 asMove C o l (restsAt r) = rests (placeOf C o l r)
 
 -- the machine's settling at moment t is the settling of rows whose regions to come belong to a record of that time
@@ -42,10 +45,15 @@ module _ (C : Chart) (o : ℕ) (l : Snoc LogRecord) (t : ℕ) where
       (λ (u : ℕ). record { fired = stands (q ▸ i); clocks = λ c. cond (C .resets i c) u (resetMoment C o l q c) })
       (sym h)
 
+  terms-same : (q : Row) (i : ℕ) → momentOf C o l (q ▸ i) ≡ t
+      → clockTest C o l q i ≡ C .failing i (values C t (placeOf C o l q .clocks))
+  unfolding clockTest placeOf
+  terms-same q i h = ap (λ (u : ℕ). C .failing i (values C u (resetMoment C o l q))) h
+
   tests-same : (q : Row) (i : ℕ) → momentOf C o l (q ▸ i) ≡ t
-      → holds C o l q i ≡ C .condition i (values C t (placeOf C o l q .clocks))
-  unfolding holds placeOf
-  tests-same q i h = ap (λ (u : ℕ). C .condition i (values C u (resetMoment C o l q))) h
+      → holds C o l q i ≡ conditionOf C i (values C t (placeOf C o l q .clocks))
+  unfolding holdsBy conditionOf
+  tests-same q i h = ap (λ (k : ℕ). eqb k 0) (terms-same q i h)
 
   module _ (A : Accepted C) where
     plain-moment : (q : Row) (i : ℕ) → readyPlain C (stands q) ≡ some i → momentOf C o l (q ▸ i) ≡ momentOf C o l q
@@ -54,7 +62,7 @@ module _ (C : Chart) (o : ℕ) (l : Snoc LogRecord) (t : ℕ) where
 
     settle-is : (k : ℕ) (q : Row) → momentOf C o l q ≡ t
         → settle C t k (placeOf C o l q) ≡ asMove C o l (settleRow C (holds C o l) k q)
-    unfolding settle settleRow asMove placeOf
+    unfolding settle tryRegion settleRow asMove placeOf
     settle-is zero q h = refl
     settle-is (suc k) q h = elim (found (readyPlain C (stands q))) [
       | inl n ↦ rw n
@@ -63,25 +71,25 @@ module _ (C : Chart) (o : ℕ) (l : Snoc LogRecord) (t : ℕ) where
           let g : momentOf C o l (q ▸ i) ≡ t = plain-moment q i (f .1) ∙ h in
           elim (split (holds C o l q i)) [
             | inl u ↦ rw (f .1, u, ← (tests-same q i g), u) (ap (settle C t k) (fire-is q i g) ∙ settle-is k (q ▸ i) g)
-            | inr u ↦ rw (f .1, u, ← (tests-same q i g), u)
+            | inr u ↦ rw (f .1, u, ← (tests-same q i g), u, ← (terms-same q i g))
           ]
     ]
 
 -- which condition of a row fails first
 module _ (C : Chart) (o : ℕ) (l : Snoc LogRecord) where
   pub all-hold : (r : Row) → EachIn (Placed C (holds C o l)) r → firstFailing C o l r ≡ none
-  unfolding firstFailing
+  unfolding firstFailingBy
   all-hold ε P = refl
   all-hold (p ▸ i) P = rw (all-hold p (P .0), P .1 .condition)
 
   fails-last : (p : Row) (i : ℕ) → firstFailing C o l p ≡ none → holds C o l p i ≡ false
-      → firstFailing C o l (p ▸ i) ≡ some i
-  unfolding firstFailing
+      → firstFailing C o l (p ▸ i) ≡ some (causeOf i (clockTest C o l p i))
+  unfolding firstFailingBy
   fails-last p i h t = rw (h, t)
 
-  fails-still : (ok : Row → ℕ → Bool) {b r : Row} {i : ℕ} → Plains C ok b r → firstFailing C o l b ≡ some i
-      → firstFailing C o l r ≡ some i
-  unfolding firstFailing
+  fails-still : (ok : Row → ℕ → Bool) {b r : Row} {x : Cause} → Plains C ok b r → firstFailing C o l b ≡ some x
+      → firstFailing C o l r ≡ some x
+  unfolding firstFailingBy
   fails-still ok stop h = h
   fails-still ok (more w e t) h = rw (fails-still ok w h)
 
@@ -93,9 +101,9 @@ longer C ok (more w e t) = omega (arith, longer C ok w)
 -- what the machine's move on the record e means, after the row q of s
 pub data Means (C : Chart) (o : ℕ) (s : Snoc LogRecord) (q : Row) (e : LogRecord) : Move → Type 0 where
   unplaced : ((r : Row) → ¬ LawfulButLast C o s e r) → Means C o s q e stuck
-  failed : (p : Row) (i : ℕ) (r : Row) → LawfulButLast C o s e r
-      → firstFailing C o (chartMessages C (s ▸ e)) r ≡ some i
-      → Means C o s q e (fails i (placeOf C o (chartMessages C (s ▸ e)) p))
+  failed : (p : Row) (i term : ℕ) (r : Row) → LawfulButLast C o s e r
+      → firstFailing C o (chartMessages C (s ▸ e)) r ≡ some (causeOf i term)
+      → Means C o s q e (fails i term (placeOf C o (chartMessages C (s ▸ e)) p))
   grown : (r : Row) → Lawful C o (s ▸ e) r → size q < size r
       → Means C o s q e (rests (placeOf C o (chartMessages C (s ▸ e)) r))
 
@@ -116,7 +124,7 @@ module _ (C : Chart) (A : Accepted C) (o : ℕ) (s : Snoc LogRecord) (e : LogRec
   only r M = one-row C A o s q r lawful M
 
   size-q : size (messageRegions C q) ≡ size (chartMessages C s)
-  unfolding Lawful
+  unfolding LawfulBy
   size-q = as-many C (chartMessages C s) q (lawful .one-for-one)
 
   -- e changes nothing at q
@@ -126,7 +134,7 @@ module _ (C : Chart) (A : Accepted C) (o : ℕ) (s : Snoc LogRecord) (e : LogRec
       (rw (chartMessages-take C s e chart) (resetMoment-earlier C o (chartMessages C s) e q (omega (arith, size-q))))
 
   placed-q : EachIn (Placed C strict) q
-  unfolding Lawful
+  unfolding LawfulBy
   placed-q = retest C (holds C o (chartMessages C s)) strict (size (chartMessages C s))
       (λ p i h t. rw (chartMessages-take C s e chart, holds-earlier C o (chartMessages C s) e p i h) t)
       q (omega (arith, size-q)) (lawful .placed)
@@ -140,7 +148,7 @@ module _ (C : Chart) (A : Accepted C) (o : ℕ) (s : Snoc LogRecord) (e : LogRec
   now r h = rw (chartMessages-take C s e chart) (momentOf-last C o (chartMessages C s) e r h)
 
   waived-last : (p : Row) (i : ℕ) → OfLast (p ▸ i) → So (loose p i)
-  unfolding waived OfLast
+  unfolding waivedBy OfLast
   waived-last p i h = or-left {x = ltb (size (chartMessages C s)) (size (messageRegions C (p ▸ i)))} (strict p i)
       (lt-ltb (size (chartMessages C s)) (size (messageRegions C (p ▸ i))) (omega arith))
 
@@ -159,12 +167,12 @@ module _ (C : Chart) (A : Accepted C) (o : ℕ) (s : Snoc LogRecord) (e : LogRec
   -- the row p is lawful as far as it goes, its next region i could stand, and its condition fails
   fails-here : (p : Row) (i : ℕ) → EachIn (Placed C strict) p → Placed C loose p i → strict p i ≡ false
       → each (C .key) (messageRegions C (p ▸ i)) ≡ codes l → OfLast (p ▸ i)
-      → Means C o s q e (fails i (placeOf C o l p))
-  unfolding LawfulButLast
+      → Means C o s q e (fails i (clockTest C o l p i) (placeOf C o l p))
+  unfolding LawfulButLastBy
   fails-here p i P N t c h =
       let W : (r : Row) × Plains C loose (p ▸ i) r × (readyPlain C (stands r) ≡ none)
       = rests-loose (p ▸ i) h (settling C A loose (p ▸ i)) in
-      failed p i (W .0)
+      failed p i (clockTest C o l p i) (W .0)
       (record {
         one-for-one = rw (plains-messages C A loose (W .1)) c;
         placed = plains-placed C A loose (W .1) (placed-waived C o s e p P, N);
@@ -178,7 +186,7 @@ module _ (C : Chart) (A : Accepted C) (o : ℕ) (s : Snoc LogRecord) (e : LogRec
     key-m = for-some C A (stands q) e m fits .1
 
     placed-m : (ok : Row → ℕ → Bool) → So (ok q m) → Placed C ok q m
-    unfolding Lawful
+    unfolding LawfulBy
     placed-m ok t =
         let R : Ready C (stands q) m = for-some C A (stands q) e m fits .0 in
         record {
@@ -194,7 +202,7 @@ module _ (C : Chart) (A : Accepted C) (o : ℕ) (s : Snoc LogRecord) (e : LogRec
     last-m = rw (messageRegions-take C q m (has-message C e m chart key-m)) (ap suc size-q)
 
     codes-m : each (C .key) (messageRegions C (q ▸ m)) ≡ codes l
-    unfolding Lawful
+    unfolding LawfulBy
     codes-m =
         rw (
           messageRegions-take C q m (has-message C e m chart key-m),
@@ -204,7 +212,7 @@ module _ (C : Chart) (A : Accepted C) (o : ℕ) (s : Snoc LogRecord) (e : LogRec
         )
 
     means-settled : (v : RowMove) → So (strict q m) → Result C strict (q ▸ m) v → Means C o s q e (asMove C o l v)
-    unfolding asMove Lawful
+    unfolding asMove LawfulBy
     means-settled v t (resting {r} w n) = grown r
         (record {
           one-for-one = rw (plains-messages C A strict w) codes-m;
@@ -234,13 +242,16 @@ module _ (C : Chart) (A : Accepted C) (o : ℕ) (s : Snoc LogRecord) (e : LogRec
           rw (place-settles t)
           (means-settled (settleRow C strict (free C (q ▸ m)) (q ▸ m)) t (settling C A strict (q ▸ m)))
       | inr t ↦
-          rw (offer-fails C (placeOf C o l q) e m fits (sym (tests-same C o l (e .time) q m (now (q ▸ m) last-m)) ∙ t))
+          rw (
+            offer-fails C (placeOf C o l q) e m fits (sym (tests-same C o l (e .time) q m (now (q ▸ m) last-m)) ∙ t),
+            ← (terms-same C o l (e .time) q m (now (q ▸ m) last-m)),
+          )
           (fails-here q m placed-q (placed-m loose (waived-last q m last-m)) t codes-m last-m)
     ]
 
   -- the machine's move on a chart message, after the lawful row of the stretch so far
   pub move-means : Means C o s q e (offer C (placeOf C o (chartMessages C s) q) e)
-  unfolding LawfulButLast placeOf
+  unfolding LawfulButLastBy placeOf
   move-means = rw (← place-q) (elim (found (readyFor C (stands q) e)) [
     | inl n ↦ rw (offer-stuck C (placeOf C o l q) e n) (unplaced
         (λ r M. none-some n (through C A o s e chart q only loose r (waived-early C o s e chart) M .fits)))

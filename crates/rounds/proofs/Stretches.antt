@@ -30,12 +30,12 @@ module _ (C : Chart) (A : Accepted C) where
   -- what runs on in the last stretch
   abbrev AtLast : Last → Type 0
   AtLast (unended o s) = RunsOn C o s
-  AtLast (afterBreak k) = Unit {0}
+  AtLast (afterBreak k x) = Unit {0}
 
   after-it : (x : Outcome) (t : ℕ) → AtLast (lastAfter x t)
   after-it kept t = opened t
-  after-it dropped t = opened t
-  after-it (broken k) t = tt
+  after-it (dropped x) t = opened t
+  after-it (broken k x) t = tt
 
   record Cut (es : Snoc Stretch) (last : Last) : Type 0 where
     ended : EachIn (λ before x. Ended C x) es

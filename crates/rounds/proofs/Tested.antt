@@ -12,6 +12,7 @@ use Rattle.base.specs.Lists.{Snoc, ε, _▸_, each, EachIn, onFound}
 use Rattle.rounds.specs.Chart.{Chart, Accepted}
 use Rattle.rounds.specs.Rows.{LogRecord, Row, stands, chartMessage, chartMessages, plain, messageRegions, Ready}
 use Rattle.rounds.specs.Rows.{holds, Placed, LawfulIf, Lawful, waived, LawfulButLast}
+use Rattle.rounds.specs.Rows.{LawfulButLastBy, LawfulBy}
 use Rattle.rounds.specs.Machine.{Move, stuck, ready, readyPlain, offer}
 use Rattle.base.proofs.Bools.{and-left, and-right}
 use Rattle.base.proofs.Facts.{found}
@@ -73,12 +74,12 @@ module _ (C : Chart) (ok : Row → ℕ → Bool) where
 module _ (C : Chart) (A : Accepted C) (o : ℕ) (s : Snoc LogRecord) where
   pub lawful-tested : (r : Row) → each (C .key) (messageRegions C r) ≡ codes (chartMessages C s)
       → So (rowTest C (holds C o (chartMessages C s)) r) → readyPlain C (stands r) ≡ none → Lawful C o s r
-  unfolding Lawful
+  unfolding LawfulBy
   lawful-tested r m h n = tested C (holds C o (chartMessages C s)) A s r m h n
 
   pub waived-tested : (e : LogRecord) (r : Row) → each (C .key) (messageRegions C r) ≡ codes (chartMessages C (s ▸ e))
       → So (rowTest C (waived C o s e) r) → readyPlain C (stands r) ≡ none → LawfulButLast C o s e r
-  unfolding LawfulButLast
+  unfolding LawfulButLastBy
   waived-tested e r m h n = tested C (waived C o s e) A (s ▸ e) r m h n
 
 -- one more chart message, after the lawful row q of the stretch s

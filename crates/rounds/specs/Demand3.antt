@@ -3,17 +3,20 @@ use mathlib.Core.Path.{_≡_}
 use mathlib.Core.Option.{none}
 use Prim.Native.Nat.{ℕ}
 use Rattle.base.specs.Lists.{Snoc, _▸_, size, EachIn, Beginning}
+use Rattle.model.specs.declared.Cause.{Cause}
+use Rattle.model.specs.Monitor.{noCause}
 use Rattle.rounds.specs.Chart.{Chart}
-use Rattle.rounds.specs.Rows.{LogRecord, Row, stands, chartMessages, resetMoment, Lawful, Full}
-use Rattle.rounds.specs.Rows.{LawfulButLast}
-use Rattle.rounds.specs.Feeds.{lastMoment, refusal, Stretch, Last, unended, afterBreak, Ends, Answer, Fed}
+use Rattle.rounds.specs.Rows.{LogRecord, Row, Test, stands, chartMessages, resetMoment, clockTest, Full}
+use Rattle.rounds.specs.Rows.{Lawful, LawfulButLast}
+use Rattle.rounds.specs.Feeds.{lastMoment, refusal, Stretch, Last, unended, afterBreak, Ends, Answer, FedBy}
 use Rattle.rounds.specs.Feeds.{keptAmong, droppedAmong, Exactly}
 use Rattle.rounds.specs.Machine.{Monitor, feed, after, answers, Fit}
 
--- W27, after a broken stretch: how many records were accepted, and its reason
-pub record Broken (k : ℕ) (rs : Snoc LogRecord) (m : Monitor) : Type 0 where
+-- W27, after a broken stretch: how many records were accepted, its reason and its cause
+pub record Broken (k : ℕ) (x : Cause) (rs : Snoc LogRecord) (m : Monitor) : Type 0 where
   pub at-last-accepted : m .tally .broken .at ≡ size rs
   pub of-stretch : m .tally .broken .reason ≡ k
+  pub has-cause : m .tally .broken .cause ≡ x
 
 module _ (C : Chart) where
   -- W27, W28, without a broken stretch: no break, and the monitor has the fired regions and the reset moments that the
@@ -25,11 +28,12 @@ module _ (C : Chart) where
     pub has-clocks : m .place .clocks ≡ resetMoment C o (chartMessages C s) row
     pub no-break : m .tally .broken .at ≡ 0
     pub no-reason : m .tally .broken .reason ≡ 0
+    pub no-cause : m .tally .broken .cause ≡ noCause
 
   -- what the monitor holds of the last stretch
   unfoldable pub AtLast : Last → Snoc LogRecord → Monitor → Type 0
   AtLast (unended o s) rs m = Unbroken o s m
-  AtLast (afterBreak k) rs m = Broken k rs m
+  AtLast (afterBreak k x) rs m = Broken k x rs m
 
   -- W26: counts and time, each as the accepted records and the stretches have it; the rest by W27 and W28
   pub record Agrees (rs : Snoc LogRecord) (es : Snoc Stretch) (last : Last) (m : Monitor) : Type 0 where
@@ -51,24 +55,29 @@ module _ (C : Chart) where
     pub ran-on : RunsOn (x .opening) before
     pub ends : Ends C (x .opening) before last (x .outcome)
 
-  -- What a list of feeds means: its answers, the accepted records, the ended stretches and what follows them.
-  pub record Meaning (fs : Snoc LogRecord) : Type 0 where
-    pub ans : Snoc Answer
-    pub accepted : Snoc LogRecord
-    pub stretches : Snoc Stretch
-    pub last : Last
-    pub fed : Fed C fs ans accepted stretches last
+-- What a list of feeds means: its answers, the accepted records, the ended stretches and what follows them.
+pub record MeaningBy (C : Chart) (T : Test) (fs : Snoc LogRecord) : Type 0 where
+  pub ans : Snoc Answer
+  pub accepted : Snoc LogRecord
+  pub stretches : Snoc Stretch
+  pub last : Last
+  pub fed : FedBy C T fs ans accepted stretches last
 
-  pub record Same {fs : Snoc LogRecord} (M M′ : Meaning fs) : Type 0 where
-    pub same-answers : M .ans ≡ M′ .ans
-    pub same-accepted : M .accepted ≡ M′ .accepted
-    pub same-stretches : M .stretches ≡ M′ .stretches
-    pub same-last : M .last ≡ M′ .last
+abbrev pub Meaning : Chart → Snoc LogRecord → Type 0
+Meaning C = MeaningBy C (clockTest C)
+
+-- the same meaning, perhaps of another chart and by another test
+pub record SameBy {C D : Chart} {T U : Test} {fs : Snoc LogRecord} (M : MeaningBy C T fs) (N : MeaningBy D U fs)
+    : Type 0 where
+  pub same-answers : M .ans ≡ N .ans
+  pub same-accepted : M .accepted ≡ N .accepted
+  pub same-stretches : M .stretches ≡ N .stretches
+  pub same-last : M .last ≡ N .last
 
 pub record Demand3 (C : Chart) : Type 0 where
   -- W11 to W23: each list of feeds has a meaning, and only one
   pub cut-exists : (fs : Snoc LogRecord) → Meaning C fs
-  pub cut-unique : {fs : Snoc LogRecord} (M M′ : Meaning C fs) → Same C M M′
+  pub cut-unique : {fs : Snoc LogRecord} (M M′ : Meaning C fs) → SameBy M M′
   -- W24: the answer to one more accepted record, after the list fs
   pub exactly : {fs : Snoc LogRecord} (M : Meaning C fs) (o : ℕ) (s : Snoc LogRecord) (e : LogRecord)
       → M .last ≡ unended o s

@@ -6,10 +6,12 @@ use mathlib.Core.Option.{Option, none, some}
 use Prim.Native.Nat.{ℕ, suc, _<_}
 use lib.Dec.{ltb, leb}
 use Rattle.base.specs.Lists.{Snoc, ε, _▸_, size, keep}
+use Rattle.model.specs.declared.Cause.{Cause}
+use Rattle.model.specs.Monitor.{noCause, causeOf}
 use Rattle.model.specs.Answers.{timeFalls, tooManyRecords, mostRecords}
 use Rattle.rounds.specs.Chart.{Chart}
-use Rattle.rounds.specs.Rows.{LogRecord, Row, stands, chartMessages, Lawful, NoRow, Full, PrechartDone}
-use Rattle.rounds.specs.Rows.{LawfulButLast, firstFailing}
+use Rattle.rounds.specs.Rows.{LogRecord, Row, Test, stands, chartMessages, Full, PrechartDone, clockTest}
+use Rattle.rounds.specs.Rows.{LawfulBy, NoRowBy, LawfulButLastBy, firstFailingBy}
 
 -- T19, T21: the reasons of a break
 abbrev pub noReadyRegion : ℕ
@@ -28,11 +30,11 @@ unfoldable pub refusal : Snoc LogRecord → LogRecord → Option ℕ
 refusal accepted e = cond (ltb (e .time) (lastMoment accepted)) (some timeFalls)
     (cond (leb mostRecords (size accepted)) (some tooManyRecords) none)
 
--- how a stretch ends; a broken one with its reason
+-- how a stretch ends; a dropped one with its cause (W30), a broken one with its reason and its cause
 pub data Outcome : Type 0 where
   kept : Outcome
-  dropped : Outcome
-  broken : ℕ → Outcome
+  dropped : Cause → Outcome
+  broken : ℕ → Cause → Outcome
 
 -- a stretch that has ended: the moment of its opening, its records, its outcome
 pub record Stretch : Type 0 where
@@ -41,45 +43,48 @@ pub record Stretch : Type 0 where
   pub outcome : Outcome
 
 -- W16: what follows the ended stretches: one that has not ended, with its opening and its records; or, after a broken
--- one, nothing, with the reason.
+-- one, nothing, with the reason and the cause.
 pub data Last : Type 0 where
   unended : ℕ → Snoc LogRecord → Last
-  afterBreak : ℕ → Last
+  afterBreak : ℕ → Cause → Last
 
 -- W15: what follows a stretch that ends at moment t
 abbrev pub lastAfter : Outcome → ℕ → Last
 lastAfter kept t = unended t ε
-lastAfter dropped t = unended t ε
-lastAfter (broken k) t = afterBreak k
+lastAfter (dropped x) t = unended t ε
+lastAfter (broken k x) t = afterBreak k x
 
-module _ (C : Chart) where
+module _ (C : Chart) (T : Test) where
   -- W14: the stretch of s and then e ends with e, with this outcome.
-  pub data Ends (o : ℕ) (s : Snoc LogRecord) (e : LogRecord) : Outcome → Type 0 where
+  pub data EndsBy (o : ℕ) (s : Snoc LogRecord) (e : LogRecord) : Outcome → Type 0 where
     -- W17: some lawful row has all regions
-    complete : (r : Row) → Lawful C o (s ▸ e) r → Full C (stands r) → Ends o s e kept
+    complete : (r : Row) → LawfulBy C T o (s ▸ e) r → Full C (stands r) → EndsBy o s e kept
     -- W19: there is no row even with the last conditions waived; the row q without the record says which phase it was
-    unplaced-main : (q : Row) → ((r : Row) → ¬ LawfulButLast C o s e r)
-        → Lawful C o s q → PrechartDone C (stands q) → Ends o s e (broken noReadyRegion)
-    unplaced-prechart : (q : Row) → ((r : Row) → ¬ LawfulButLast C o s e r)
-        → Lawful C o s q → ¬ PrechartDone C (stands q) → Ends o s e dropped
+    unplaced-main : (q : Row) → ((r : Row) → ¬ LawfulButLastBy C T o s e r)
+        → LawfulBy C T o s q → PrechartDone C (stands q) → EndsBy o s e (broken noReadyRegion noCause)
+    unplaced-prechart : (q : Row) → ((r : Row) → ¬ LawfulButLastBy C T o s e r)
+        → LawfulBy C T o s q → ¬ PrechartDone C (stands q) → EndsBy o s e (dropped noCause)
     -- W20: there is a row with those waived, and the leftmost condition that fails in it is hot, or cold. In all four
     -- cases no row is lawful: that follows, and `Exactly.dropped-or-broken-exactly` claims it.
-    fails-hot : (r : Row) (i : ℕ) → LawfulButLast C o s e r
-        → firstFailing C o (chartMessages C (s ▸ e)) r ≡ some i → So (C .hot i) → Ends o s e (broken conditionFails)
-    fails-cold : (r : Row) (i : ℕ) → LawfulButLast C o s e r
-        → firstFailing C o (chartMessages C (s ▸ e)) r ≡ some i → C .hot i ≡ false → Ends o s e dropped
+    fails-hot : (r : Row) (i term : ℕ) → LawfulButLastBy C T o s e r
+        → firstFailingBy C T o (chartMessages C (s ▸ e)) r ≡ some (causeOf i term) → So (C .hot i)
+        → EndsBy o s e (broken conditionFails (causeOf i term))
+    fails-cold : (r : Row) (i term : ℕ) → LawfulButLastBy C T o s e r
+        → firstFailingBy C T o (chartMessages C (s ▸ e)) r ≡ some (causeOf i term) → C .hot i ≡ false
+        → EndsBy o s e (dropped (causeOf i term))
 
--- N9, T27: the answers to a feed
+-- N9, T27, T31: the answers to a feed
 pub data Answer : Type 0 where
   refused : ℕ → Answer
-  brokenAt : ℕ → ℕ → Answer
-  keptNow droppedNow entered moved quiet : Answer
+  brokenAt : ℕ → ℕ → Cause → Answer
+  droppedNow : Cause → Answer
+  keptNow entered moved quiet : Answer
 
 -- W22: the answer where a stretch ends, at the n-th accepted record
 abbrev pub ending : Outcome → ℕ → Answer
 ending kept n = keptNow
-ending dropped n = droppedNow
-ending (broken k) n = brokenAt n k
+ending (dropped x) n = droppedNow x
+ending (broken k x) n = brokenAt n k x
 
 module _ (C : Chart) where
   -- W23: the answer where the round runs on, from row q to row r
@@ -88,41 +93,54 @@ module _ (C : Chart) where
     fires : size q < size r → (PrechartDone C (stands r) → PrechartDone C (stands q)) → Onward q r moved
     stays : q ≡ r → Onward q r quiet
 
+module _ (C : Chart) (T : Test) where
   -- One feed, of record e: the accepted records, the ended stretches and what follows them, before it; its answer; and
   -- the same three after it.
-  pub data FedOne (rs : Snoc LogRecord) (es : Snoc Stretch) (e : LogRecord)
+  pub data FedOneBy (rs : Snoc LogRecord) (es : Snoc Stretch) (e : LogRecord)
       : Last → Answer → Snoc LogRecord → Snoc Stretch → Last → Type 0 where
     -- W25: refused, and nothing changes
     refuses : {o : ℕ} {s : Snoc LogRecord} (k : ℕ) → refusal rs e ≡ some k
-        → FedOne rs es e (unended o s) (refused k) rs es (unended o s)
+        → FedOneBy rs es e (unended o s) (refused k) rs es (unended o s)
     -- W14: accepted, and the stretch has a row that lacks a region; or it ends
     runs-on : {o : ℕ} {s : Snoc LogRecord} → refusal rs e ≡ none
-        → (q r : Row) (a : Answer) → Lawful C o s q → Lawful C o (s ▸ e) r → ¬ Full C (stands r) → Onward q r a
-        → FedOne rs es e (unended o s) a (rs ▸ e) es (unended o (s ▸ e))
+        → (q r : Row) (a : Answer) → LawfulBy C T o s q → LawfulBy C T o (s ▸ e) r → ¬ Full C (stands r)
+        → Onward C q r a
+        → FedOneBy rs es e (unended o s) a (rs ▸ e) es (unended o (s ▸ e))
     ends : {o : ℕ} {s : Snoc LogRecord} → refusal rs e ≡ none
-        → (x : Outcome) → Ends C o s e x
-        → FedOne rs es e (unended o s) (ending x (suc (size rs))) (rs ▸ e)
+        → (x : Outcome) → EndsBy C T o s e x
+        → FedOneBy rs es e (unended o s) (ending x (suc (size rs))) (rs ▸ e)
         (es ▸ record { opening = o; records = s ▸ e; outcome = x }) (lastAfter x (e .time))
     -- W25: after a break the answer is the same again
-    again : {k : ℕ} → FedOne rs es e (afterBreak k) (brokenAt (size rs) k) rs es (afterBreak k)
+    again : {k : ℕ} {x : Cause} → FedOneBy rs es e (afterBreak k x) (brokenAt (size rs) k x) rs es (afterBreak k x)
 
   -- W10, W13: a whole list of feeds, with its answers, the accepted records, the ended stretches and what follows them.
-  pub data Fed : Snoc LogRecord → Snoc Answer → Snoc LogRecord → Snoc Stretch → Last → Type 0 where
-    none-yet : Fed ε ε ε ε (unended 0 ε)
+  pub data FedBy : Snoc LogRecord → Snoc Answer → Snoc LogRecord → Snoc Stretch → Last → Type 0 where
+    none-yet : FedBy ε ε ε ε (unended 0 ε)
     one-more : {fs : Snoc LogRecord} {ans : Snoc Answer} {rs rs′ : Snoc LogRecord} {es es′ : Snoc Stretch}
         {last last′ : Last}
-        {e : LogRecord} {a : Answer} → Fed fs ans rs es last → FedOne rs es e last a rs′ es′ last′
-        → Fed (fs ▸ e) (ans ▸ a) rs′ es′ last′
+        {e : LogRecord} {a : Answer} → FedBy fs ans rs es last → FedOneBy rs es e last a rs′ es′ last′
+        → FedBy (fs ▸ e) (ans ▸ a) rs′ es′ last′
+
+module _ (C : Chart) where
+  abbrev pub Ends : ℕ → Snoc LogRecord → LogRecord → Outcome → Type 0
+  Ends = EndsBy C (clockTest C)
+
+  abbrev pub FedOne
+      : Snoc LogRecord → Snoc Stretch → LogRecord → Last → Answer → Snoc LogRecord → Snoc Stretch → Last → Type 0
+  FedOne = FedOneBy C (clockTest C)
+
+  abbrev pub Fed : Snoc LogRecord → Snoc Answer → Snoc LogRecord → Snoc Stretch → Last → Type 0
+  Fed = FedBy C (clockTest C)
 
 abbrev pub isKept : Outcome → Bool
 isKept kept = true
-isKept dropped = false
-isKept (broken k) = false
+isKept (dropped x) = false
+isKept (broken k x) = false
 
 abbrev pub isDropped : Outcome → Bool
 isDropped kept = false
-isDropped dropped = true
-isDropped (broken k) = false
+isDropped (dropped x) = true
+isDropped (broken k x) = false
 
 -- W26: how many stretches ended so
 abbrev pub keptAmong : Snoc Stretch → ℕ
@@ -136,13 +154,16 @@ abbrev pub SaysRunsOn : Answer → Type 0
 SaysRunsOn a = (a ≡ entered) ⊎ (a ≡ moved) ⊎ (a ≡ quiet)
 
 abbrev pub SaysDroppedOrBroken : Answer → Type 0
-SaysDroppedOrBroken a = (a ≡ droppedNow) ⊎ ((n : ℕ) × (k : ℕ) × (a ≡ brokenAt n k))
+SaysDroppedOrBroken a = ((x : Cause) × (a ≡ droppedNow x)) ⊎ ((n k : ℕ) × (x : Cause) × (a ≡ brokenAt n k x))
 
 -- W24, of the answer to record e after the stretch s
-pub record Exactly (C : Chart) (o : ℕ) (s : Snoc LogRecord) (e : LogRecord) (a : Answer) : Type 0 where
+pub record ExactlyBy (C : Chart) (T : Test) (o : ℕ) (s : Snoc LogRecord) (e : LogRecord) (a : Answer) : Type 0 where
   -- kept: some lawful row is complete
-  pub kept-exactly : (a ≡ keptNow) ↔ ((r : Row) × Lawful C o (s ▸ e) r × Full C (stands r))
+  pub kept-exactly : (a ≡ keptNow) ↔ ((r : Row) × LawfulBy C T o (s ▸ e) r × Full C (stands r))
   -- running on: some lawful row is not
-  pub runs-on-exactly : SaysRunsOn a ↔ ((r : Row) × Lawful C o (s ▸ e) r × (¬ Full C (stands r)))
+  pub runs-on-exactly : SaysRunsOn a ↔ ((r : Row) × LawfulBy C T o (s ▸ e) r × (¬ Full C (stands r)))
   -- dropped or broken: no row is lawful
-  pub dropped-or-broken-exactly : SaysDroppedOrBroken a ↔ NoRow C o (s ▸ e)
+  pub dropped-or-broken-exactly : SaysDroppedOrBroken a ↔ NoRowBy C T o (s ▸ e)
+
+abbrev pub Exactly : Chart → ℕ → Snoc LogRecord → LogRecord → Answer → Type 0
+Exactly C = ExactlyBy C (clockTest C)

@@ -1,4 +1,4 @@
--- T1 to T30 as a machine over an abstract chart, step by step, and which monitors are fit (M10).
+-- T1 to T32 as a machine over an abstract chart, step by step, and which monitors are fit (M10).
 use mathlib.Core.Path.{_≡_}
 use mathlib.Core.Logic.{_⊎_}
 use mathlib.Core.Bool.{Bool, false, not, cond, So, _&&_, _||_}
@@ -6,8 +6,10 @@ use mathlib.Core.Option.{Option}
 use Prim.Native.Nat.{ℕ, zero, suc, _+_, _≤_, _<_}
 use lib.Dec.{eqb, ltb, leb}
 use Rattle.base.specs.Lists.{Snoc, ε, _▸_, allBelow, countBelow, first, onFound}
+use Rattle.model.specs.declared.Cause.{Cause}
+use Rattle.model.specs.Monitor.{noCause, causeOf}
 use Rattle.model.specs.Answers.{timeFalls, tooManyRecords, mostRecords}
-use Rattle.rounds.specs.Chart.{Chart}
+use Rattle.rounds.specs.Chart.{Chart, conditionOf}
 use Rattle.rounds.specs.Rows.{LogRecord, chartMessage, plain, Ready, Full, values, opened}
 use Rattle.rounds.specs.Tally.{Tally, freshTally, counted, countedKept, countedDropped, countedBroken}
 use Rattle.rounds.specs.Feeds.{noReadyRegion, conditionFails, Answer}
@@ -32,11 +34,11 @@ pub record Step : Type 0 where
   pub answer : Answer
   pub next : Monitor
 
--- how steps 3 and 4 end: no ready region has the message; region i's condition fails, with the place just before it; or
--- no plain region is ready any more, with the place then
+-- how steps 3 and 4 end: no ready region has the message; a region's condition fails, with its first failing term and
+-- the place just before it; or no plain region is ready any more, with the place then
 pub data Move : Type 0 where
   stuck : Move
-  fails : ℕ → Place → Move
+  fails : ℕ → ℕ → Place → Move
   rests : Place → Move
 
 module _ (C : Chart) where
@@ -60,19 +62,21 @@ module _ (C : Chart) where
   unfoldable pub unfired : (ℕ → Bool) → ℕ
   unfired fired = countBelow (C .regions) (λ i. not (fired i))
 
+  -- T12, C19: region i is tried at moment t; the move is `next` if its condition holds
+  unfoldable pub tryRegion : ℕ → Place → ℕ → Move → Move
+  tryRegion t p i next = cond (conditionOf C i (values C t (p .clocks))) next
+      (fails i (C .failing i (values C t (p .clocks))) p)
+
   -- T13 to T15: plain regions are tested and fired at moment t until none is ready. The second number bounds the turns
   -- of the loop.
   unfoldable pub settle : ℕ → ℕ → Place → Move
   settle t zero p = rests p
-  settle t (suc k) p = onFound (readyPlain (p .fired)) (rests p)
-      (λ i. cond (C .condition i (values C t (p .clocks))) (settle t k (fire t p i)) (fails i p))
+  settle t (suc k) p = onFound (readyPlain (p .fired)) (rests p) (λ i. tryRegion t p i (settle t k (fire t p i)))
 
   -- T11, T12: the message's region is tested and fired, its resets come after the test; then T13
   unfoldable pub offer : Place → LogRecord → Move
   offer p e = onFound (readyFor (p .fired) e) stuck
-      (λ i. cond (C .condition i (values C (e .time) (p .clocks)))
-      (let q = fire (e .time) p i in settle (e .time) (unfired (q .fired)) q)
-      (fails i p))
+      (λ i. tryRegion (e .time) p i (let q = fire (e .time) p i in settle (e .time) (unfired (q .fired)) q))
 
   -- T22: how a round opens at moment t
   unfoldable pub opening : ℕ → Place
@@ -90,31 +94,33 @@ module _ (C : Chart) where
   unfoldable pub goOn : Monitor → LogRecord → Answer → Place → Step
   goOn m e a p = record { answer = a; next = record { place = p; tally = counted (m .tally) (e .time) } }
 
-  -- T17, T18: one more round is kept, or dropped, and another opens
+  -- T17, T18: one more round is kept, or dropped with cause z (T31), and another opens
   unfoldable pub keepRound : Monitor → LogRecord → Step
   keepRound m e = record {
     answer = keptNow;
     next = record { place = opening (e .time); tally = countedKept (m .tally) (e .time) };
   }
 
-  unfoldable pub dropRound : Monitor → LogRecord → Step
-  dropRound m e = record {
-    answer = droppedNow;
+  unfoldable pub dropRound : Monitor → LogRecord → Cause → Step
+  dropRound m e z = record {
+    answer = droppedNow z;
     next = record { place = opening (e .time); tally = countedDropped (m .tally) (e .time) };
   }
 
-  -- T23 to T25: the break has this record and reason k, and the place is p
-  unfoldable pub breakRound : Monitor → LogRecord → ℕ → Place → Step
-  breakRound m e k p = record {
-    answer = brokenAt (suc (m .tally .records)) k;
-    next = record { place = p; tally = countedBroken (m .tally) (e .time) k };
+  -- T23 to T25, T32: the break has this record, reason k and cause z, and the place is p
+  unfoldable pub breakRound : Monitor → LogRecord → ℕ → Cause → Place → Step
+  breakRound m e k z p = record {
+    answer = brokenAt (suc (m .tally .records)) k z;
+    next = record { place = p; tally = countedBroken (m .tally) (e .time) k z };
   }
 
   -- T18, T19: no ready region has the message; the phase says whether the round is dropped or broken. T21: a condition
   -- fails, cold or hot. T17: all regions are fired; if not, T28 and T29.
   unfoldable pub conclude : Monitor → LogRecord → Move → Step
-  conclude m e stuck = cond (prechartDone (m .place .fired)) (breakRound m e noReadyRegion (m .place)) (dropRound m e)
-  conclude m e (fails i p) = cond (C .hot i) (breakRound m e conditionFails p) (dropRound m e)
+  conclude m e stuck =
+      cond (prechartDone (m .place .fired)) (breakRound m e noReadyRegion noCause (m .place)) (dropRound m e noCause)
+  conclude m e (fails i term p) =
+      cond (C .hot i) (breakRound m e conditionFails (causeOf i term) p) (dropRound m e (causeOf i term))
   conclude m e (rests p) = cond (full (p .fired)) (keepRound m e)
       (goOn m e (cond (not (prechartDone (m .place .fired)) && prechartDone (p .fired)) entered moved) p)
 
@@ -125,7 +131,7 @@ module _ (C : Chart) where
   -- M12 to M14: broken again, 22 or 23, each with the monitor unchanged; or the record is taken
   unfoldable pub feed : Monitor → LogRecord → Step
   feed m e = cond (not (eqb (m .tally .broken .at) 0))
-      (record { answer = brokenAt (m .tally .broken .at) (m .tally .broken .reason); next = m })
+      (let b = m .tally .broken in record { answer = brokenAt (b .at) (b .reason) (b .cause); next = m })
       (cond (ltb (e .time) (m .tally .now)) (record { answer = refused timeFalls; next = m })
       (cond (leb mostRecords (m .tally .records)) (record { answer = refused tooManyRecords; next = m })
       (accept m e)))
@@ -138,6 +144,14 @@ module _ (C : Chart) where
   unfoldable pub answers : Snoc LogRecord → Snoc Answer
   answers ε = ε
   answers (fs ▸ e) = answers fs ▸ feed (after fs) e .answer
+
+-- M10: the cause is a region of the chart, with one of its terms
+pub record CauseIn (C : Chart) (x : Cause) : Type 0 where
+  pub region : ℕ
+  pub term : ℕ
+  pub is-region : region < C .regions
+  pub is-term : (1 ≤ term) × (term ≤ C .terms region)
+  pub both : x ≡ causeOf region term
 
 -- M10: the monitor fits the chart.
 pub record Fit (C : Chart) (m : Monitor) : Type 0 where
@@ -156,7 +170,8 @@ pub record Fit (C : Chart) (m : Monitor) : Type 0 where
   pub few : m .tally .records ≤ mostRecords
   -- no more rounds have ended than records came
   pub counts : m .tally .kept + m .tally .dropped ≤ m .tally .records
-  -- no break and no reason; or both, at a record that was counted
-  pub break-fits : ((m .tally .broken .at ≡ 0) × (m .tally .broken .reason ≡ 0))
+  -- no break, no reason and no cause; or a break at a record that was counted, with a condition's cause for reason 2
+  pub break-fits : ((m .tally .broken .at ≡ 0) × (m .tally .broken .reason ≡ 0) × (m .tally .broken .cause ≡ noCause))
       ⊎ ((1 ≤ m .tally .broken .at) × (m .tally .broken .at ≤ m .tally .records)
-      × ((m .tally .broken .reason ≡ noReadyRegion) ⊎ (m .tally .broken .reason ≡ conditionFails)))
+      × (((m .tally .broken .reason ≡ noReadyRegion) × (m .tally .broken .cause ≡ noCause))
+      ⊎ ((m .tally .broken .reason ≡ conditionFails) × CauseIn C (m .tally .broken .cause))))

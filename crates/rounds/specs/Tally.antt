@@ -1,10 +1,13 @@
 -- The counts of a log and its break, with what each of the four ways to take a record makes of them.
 use Prim.Native.Nat.{ℕ, suc}
+use Rattle.model.specs.declared.Cause.{Cause}
+use Rattle.model.specs.Monitor.{noCause}
 
--- where and why the log is broken: the record's number and the reason, both zero if there is no break
+-- where and why the log is broken: the record's number, the reason and the cause (T31), all zero if there is no break
 pub record Break : Type 0 where
   pub at : ℕ
   pub reason : ℕ
+  pub cause : Cause
 
 -- the last record's time; the numbers of records, of kept rounds and of dropped rounds; the break
 pub record Tally : Type 0 where
@@ -15,7 +18,7 @@ pub record Tally : Type 0 where
   pub broken : Break
 
 abbrev pub noBreak : Break
-noBreak = record { at = 0; reason = 0 }
+noBreak = record { at = 0; reason = 0; cause = noCause }
 
 -- before the first record
 abbrev pub freshTally : Tally
@@ -43,6 +46,7 @@ countedKept x t = countedAs x t (suc (x .kept)) (x .dropped) noBreak
 abbrev pub countedDropped : Tally → ℕ → Tally
 countedDropped x t = countedAs x t (x .kept) (suc (x .dropped)) noBreak
 
--- the round is broken for reason k, at the record that is counted
-abbrev pub countedBroken : Tally → ℕ → ℕ → Tally
-countedBroken x t k = countedAs x t (x .kept) (x .dropped) (record { at = suc (x .records); reason = k })
+-- the round is broken for reason k, with cause z, at the record that is counted
+abbrev pub countedBroken : Tally → ℕ → ℕ → Cause → Tally
+countedBroken x t k z =
+    countedAs x t (x .kept) (x .dropped) (record { at = suc (x .records); reason = k; cause = z })

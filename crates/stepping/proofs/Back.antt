@@ -13,9 +13,9 @@ use Rattle.stepping.specs.Answers.{answerOf, HandsBack}
 
 unfoldable pub NotRefused : AbstractAnswer → Type 0
 NotRefused (refused k) = ⊥
-NotRefused (brokenAt n k) = Unit {0}
+NotRefused (brokenAt n k x) = Unit {0}
 NotRefused keptNow = Unit {0}
-NotRefused droppedNow = Unit {0}
+NotRefused (droppedNow x) = Unit {0}
 NotRefused entered = Unit {0}
 NotRefused moved = Unit {0}
 NotRefused quiet = Unit {0}
@@ -29,8 +29,8 @@ module _ (C : Chart) (m : AbstractMonitor) (e : LogRecord) where
   conclude-taken : (v : Move) → NotRefused (conclude C m e v .answer)
   unfolding conclude goOn keepRound dropRound breakRound NotRefused
   conclude-taken stuck =
-      either-taken (prechartDone C (m .place .fired)) (breakRound C m e _ (m .place)) (dropRound C m e) tt tt
-  conclude-taken (fails i p) = either-taken (C .hot i) (breakRound C m e _ p) (dropRound C m e) tt tt
+      either-taken (prechartDone C (m .place .fired)) (breakRound C m e _ _ (m .place)) (dropRound C m e _) tt tt
+  conclude-taken (fails i term p) = either-taken (C .hot i) (breakRound C m e _ _ p) (dropRound C m e _) tt tt
   conclude-taken (rests p) =
       either-taken (full C (p .fired)) (keepRound C m e) _ tt
       (on (not (prechartDone C (m .place .fired)) && prechartDone C (p .fired)))

@@ -12,9 +12,9 @@ use Rattle.stepping.specs.declared.Step.{Step}
 
 abbrev pub answerOf : Answer → AbstractAnswer
 answerOf (Refused k) = refused (feedRefusalNumber k)
-answerOf (Broken n k) = brokenAt n k
+answerOf (Broken n k x) = brokenAt n k x
 answerOf Kept = keptNow
-answerOf Dropped = droppedNow
+answerOf (Dropped x) = droppedNow x
 answerOf Entered = entered
 answerOf Moved = moved
 answerOf Quiet = quiet

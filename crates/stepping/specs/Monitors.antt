@@ -12,7 +12,7 @@ use Rattle.stepping.specs.Answers.{answerOf}
 
 -- a stored break and a stored tally
 abbrev pub breakAt : Break → AbstractBreak
-breakAt b = record { at = b .at; reason = b .reason }
+breakAt b = record { at = b .at; reason = b .reason; cause = b .cause }
 
 abbrev pub tallyAt : Tally → AbstractTally
 tallyAt x = record {

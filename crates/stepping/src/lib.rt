@@ -6,6 +6,7 @@ use layout::Head;
 use layout::TERM_PLACES;
 use model::Answer;
 use model::Break;
+use model::Cause;
 use model::FeedRefusal;
 use model::MOST_RECORDS;
 use model::MOST_REGIONS;
@@ -61,7 +62,7 @@ fn counted(x: Tally, t: Moment) -> Tally
     requires { ⌜ x .records < mostRecords ⌝ }
     ensures { λ r. ⌜ tallyAt r ≡ tallied (tallyAt x) (t .0) ⌝ }
 {
-    counted_as(x, t, x.kept, x.dropped, Break { at: 0, reason: 0 })
+    counted_as(x, t, x.kept, x.dropped, model::no_break())
 }
 
 // A record is counted, and the round is kept.
@@ -69,7 +70,7 @@ fn counted_kept(x: Tally, t: Moment) -> Tally
     requires { ⌜ (x .records < mostRecords) × (x .kept ≤ x .records) ⌝ }
     ensures { λ r. ⌜ tallyAt r ≡ countedKept (tallyAt x) (t .0) ⌝ }
 {
-    counted_as(x, t, x.kept + 1, x.dropped, Break { at: 0, reason: 0 })
+    counted_as(x, t, x.kept + 1, x.dropped, model::no_break())
 }
 
 // A record is counted, and the round is dropped.
@@ -77,16 +78,20 @@ fn counted_dropped(x: Tally, t: Moment) -> Tally
     requires { ⌜ (x .records < mostRecords) × (x .dropped ≤ x .records) ⌝ }
     ensures { λ r. ⌜ tallyAt r ≡ countedDropped (tallyAt x) (t .0) ⌝ }
 {
-    counted_as(x, t, x.kept, x.dropped + 1, Break { at: 0, reason: 0 })
+    counted_as(x, t, x.kept, x.dropped + 1, model::no_break())
 }
 
 // A record is counted, and the round is broken at it.
-fn counted_broken(x: Tally, t: Moment, reason: u8) -> Tally
+fn counted_broken(x: Tally, t: Moment, reason: u8, cause: Cause) -> Tally
     requires { ⌜ x .records < mostRecords ⌝ }
-    ensures { λ r. ⌜ tallyAt r ≡ countedBroken (tallyAt x) (t .0) reason ⌝ }
+    ensures { λ r. ⌜ tallyAt r ≡ countedBroken (tallyAt x) (t .0) reason cause ⌝ }
 {
-    let n = x.records + 1;
-    counted_as(x, t, x.kept, x.dropped, Break { at: n, reason })
+    let broken = Break {
+        at: x.records + 1,
+        reason,
+        cause,
+    };
+    counted_as(x, t, x.kept, x.dropped, broken)
 }
 
 // The round runs on at a place.
@@ -117,30 +122,30 @@ fn keep_round(clocks: usize, m: Monitor, t: Moment) -> Step
     }
 }
 
-// The round is dropped.
-fn drop_round(clocks: usize, m: Monitor, t: Moment) -> Step
+// The round is dropped; the cause is in the answer alone (T32).
+fn drop_round(clocks: usize, m: Monitor, t: Moment, cause: Cause) -> Step
     requires { ⌜ clocks ≤ mostClocks ⌝ }
     requires { ⌜ (m .tally .records < mostRecords) × (m .tally .dropped ≤ m .tally .records) ⌝ }
     ensures { λ r. ⌜ ((C : Chart) (code : ℕ) → C .clocks ≡ clocks
-        → stepOf r ≡ dropRound C (monitorAt m) (recordOf code (t .0))) ⌝ }
+        → stepOf r ≡ dropRound C (monitorAt m) (recordOf code (t .0)) cause) ⌝ }
 {
     let place = firing::opening(clocks, t);
     let tally = counted_dropped(m.tally, t);
     Step {
-        answer: Answer::Dropped,
+        answer: Answer::Dropped(cause),
         next: Monitor { place, tally },
     }
 }
 
 // The round is broken, with this place (T24, T25).
-fn break_round(m: Monitor, t: Moment, reason: u8, place: Place) -> Step
+fn break_round(m: Monitor, t: Moment, reason: u8, cause: Cause, place: Place) -> Step
     requires { ⌜ m .tally .records < mostRecords ⌝ }
     ensures { λ r. ⌜ ((C : Chart) (code : ℕ) → stepOf r
-        ≡ breakRound C (monitorAt m) (recordOf code (t .0)) reason (placeAt place)) ⌝ }
+        ≡ breakRound C (monitorAt m) (recordOf code (t .0)) reason cause (placeAt place)) ⌝ }
 {
-    let tally = counted_broken(m.tally, t, reason);
+    let tally = counted_broken(m.tally, t, reason, cause);
     Step {
-        answer: Answer::Broken(tally.broken.at, reason),
+        answer: Answer::Broken(tally.broken.at, reason, cause),
         next: Monitor { place, tally },
     }
 }
@@ -164,16 +169,16 @@ fn unplaced(h: Head, m: Monitor, t: Moment) -> Step
 {
     let place = m.place;
     if firing::all_fired(h.prechart, place.fired) {
-        return break_round(m, t, NO_READY_REGION, place);
+        return break_round(m, t, NO_READY_REGION, model::no_cause(), place);
     }
-    drop_round(h.clocks, m, t)
+    drop_round(h.clocks, m, t, model::no_cause())
 }
 
 // T17, T21, T28, T29: what follows from the end of steps 3 and 4.
 fn conclude(h: Head, m: Monitor, t: Moment, s: Settled) -> Step
     requires { ⌜ (h .count ≤ mostRegions) × (h .prechart ≤ mostRegions) × (h .clocks ≤ mostClocks) ⌝ }
     requires { ⌜ (m .tally .records < mostRecords) × (m .tally .kept + m .tally .dropped ≤ m .tally .records) ⌝ }
-    requires { ⌜ ((i : ℕ) → s .rest ≡ FailsAt i → i < mostRegions) ⌝ }
+    requires { ⌜ ((i term : ℕ) → s .rest ≡ FailsAt i term → i < mostRegions) ⌝ }
     ensures { λ r. ⌜ ((keys above resets terms : List ℕ) (code : ℕ)
         → stepOf r
         ≡ concluded (planChart h keys above resets terms) (monitorAt m) (recordOf code (t .0)) (moveOf s)) ⌝ }
@@ -182,11 +187,12 @@ fn conclude(h: Head, m: Monitor, t: Moment, s: Settled) -> Step
     let place = s.place;
     let from = m.place;
     match rest {
-        Rest::Fails(i) => {
+        Rest::Fails(i, term) => {
+            let cause = model::cause_of(i, term);
             if bitset::member(h.hot, i as u32) {
-                return break_round(m, t, CONDITION_FAILS, place);
+                return break_round(m, t, CONDITION_FAILS, cause, place);
             }
-            drop_round(h.clocks, m, t)
+            drop_round(h.clocks, m, t, cause)
         }
         Rest::Rests => {
             if firing::all_fired(h.count, place.fired) {
@@ -256,9 +262,11 @@ pub fn feed_fit<'a>(
     ensures back { λ r. ⌜ HandsBack m r ⌝ }
 {
     let tally = m.tally;
-    if tally.broken.at != 0 {
+    let broken = tally.broken;
+    if broken.at != 0 {
+        let cause = broken.cause;
         return Step {
-            answer: Answer::Broken(tally.broken.at, tally.broken.reason),
+            answer: Answer::Broken(broken.at, broken.reason, cause),
             next: m,
         };
     }

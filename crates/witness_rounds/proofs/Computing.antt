@@ -2,15 +2,15 @@
 -- Assumes nothing.
 use Rattle.bitset.specs.Set.{contains, single, inserted, union, isSubset, within}
 use Rattle.order.specs.Order.{isOver, gathered, aboveSets}
-use Rattle.condition.specs.Condition.{termsHold}
 use Rattle.chart_reader.specs.Read.{readChart, readFrom, advanceOf}
 use Rattle.chart_value.specs.WellFormed.{isZeroTerm, termPlaced, termsFit, regionFits, isZeroRegion, touchedBefore}
 use Rattle.chart_value.specs.WellFormed.{regionPlaced, wellFormed}
+use Rattle.rounds.specs.Chart.{conditionOf}
 use Rattle.rounds.specs.Rows.{momentAt, chartMessage, chartMessages, plain, messageRegions, momentOf, values, opened}
-use Rattle.rounds.specs.Rows.{resetMoment, holds, waived, firstFailing}
+use Rattle.rounds.specs.Rows.{resetMoment, clockTest, holdsBy, waivedBy, firstFailingBy}
 use Rattle.rounds.specs.Feeds.{refusal}
-use Rattle.rounds.specs.Machine.{ready, readyFor, readyPlain, fire, unfired, settle, offer, opening, full, prechartDone}
-use Rattle.rounds.specs.Machine.{goOn, keepRound, dropRound, breakRound, conclude, accept, feed, after}
+use Rattle.rounds.specs.Machine.{ready, readyFor, readyPlain, fire, unfired, tryRegion, settle, offer, opening, full}
+use Rattle.rounds.specs.Machine.{prechartDone, goOn, keepRound, dropRound, breakRound, conclude, accept, feed, after}
 use Rattle.rounds.proofs.Tested.{promptTest, placedTest, rowTest}
 use Rattle.rounds.proofs.Rounds.{placeOf}
 use Rattle.paper.specs.Runs.{add, reset, shift, configAt}
@@ -20,5 +20,5 @@ use Rattle.judge.specs.Judge.{judgeOf}
 use Rattle.judge.specs.Verdict.{standingOf}
 
 unfoldable pub computing : Unit {0}
-unfolding contains single inserted union isSubset within isOver gathered aboveSets termsHold readChart readFrom advanceOf isZeroTerm termPlaced termsFit regionFits isZeroRegion touchedBefore regionPlaced wellFormed momentAt chartMessage chartMessages plain messageRegions momentOf values opened resetMoment holds waived firstFailing refusal ready readyFor readyPlain fire unfired settle offer opening full prechartDone goOn keepRound dropRound breakRound conclude accept feed after promptTest placedTest rowTest placeOf add reset shift configAt recordsFrom recordsIn stepAt checkFrom checkLog standingOf judgeOf
+unfolding contains single inserted union isSubset within isOver gathered aboveSets readChart readFrom advanceOf isZeroTerm termPlaced termsFit regionFits isZeroRegion touchedBefore regionPlaced wellFormed conditionOf momentAt chartMessage chartMessages plain messageRegions momentOf values opened resetMoment clockTest holdsBy waivedBy firstFailingBy refusal ready readyFor readyPlain fire unfired tryRegion settle offer opening full prechartDone goOn keepRound dropRound breakRound conclude accept feed after promptTest placedTest rowTest placeOf add reset shift configAt recordsFrom recordsIn stepAt checkFrom checkLog standingOf judgeOf
 computing = tt

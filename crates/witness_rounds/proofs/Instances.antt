@@ -12,7 +12,7 @@ use borrow.Author.Tests.{ltb-true}
 use Rattle.model.specs.declared.Monitor.{Monitor}
 use Rattle.model.specs.declared.Record.{Record}
 use Rattle.model.specs.Chart.{zeroChart}
-use Rattle.model.specs.Monitor.{zeroMonitor}
+use Rattle.model.specs.Monitor.{noCause, zeroMonitor}
 use Rattle.chart_reader.specs.Said.{acceptedAs}
 use Rattle.chart_value.specs.Given.{Given}
 use Rattle.chart_value.proofs.Sound.{sound}
@@ -25,7 +25,8 @@ use Rattle.paper.specs.Taken.{Taken, statusOf, Acceptable}
 use Rattle.paper.proofs.Demand2.{demand-2}
 use Rattle.stepping.specs.Monitors.{monitorAt}
 use Rattle.chart_value.specs.Records.{logRecord}
-use Rattle.monitor.specs.Fit.{closedUpward, restsUnlessBroken, momentsFit, countsFit, breakFits, placeFits, fits}
+use Rattle.monitor.specs.Fit.{closedUpward, restsUnlessBroken, momentsFit, countsFit, causeFits, breakFits, placeFits}
+use Rattle.monitor.specs.Fit.{fits}
 use Rattle.monitor.specs.History.{HistoryOver}
 use Rattle.monitor.proofs.Fitness.{of-fit, fit-exactly}
 use Rattle.monitor.proofs.History.{feeding}
@@ -63,19 +64,19 @@ fit : (m : Monitor) → length (m .place .resets) ≡ 8 → fits U m ≡ true �
 fit m p q = fit-exactly U accepted-u m p true (sym q) .0 refl
 
 unfit : FeedsAs valueU (stored 7 0 0 3 0 0) (undo 100) (refused 21) (stored 7 0 0 3 0 0)
-unfolding computing fits placeFits closedUpward restsUnlessBroken momentsFit countsFit breakFits
+unfolding computing fits placeFits closedUpward restsUnlessBroken momentsFit countsFit causeFits breakFits
 unfit = cases.unfit given-u (λ F. clash (of-fit U accepted-u (stored 7 0 0 3 0 0) F) refl)
 
-broken-again : FeedsAs valueU (stored 1 0 110 2 2 1) (undo 120) (brokenAt 2 1) (stored 1 0 110 2 2 1)
-unfolding computing fits placeFits closedUpward restsUnlessBroken momentsFit countsFit breakFits
+broken-again : FeedsAs valueU (stored 1 0 110 2 2 1) (undo 120) (brokenAt 2 1 noCause) (stored 1 0 110 2 2 1)
+unfolding computing fits placeFits closedUpward restsUnlessBroken momentsFit countsFit causeFits breakFits
 broken-again = cases.broken-again given-u (fit (stored 1 0 110 2 2 1) refl refl) (λ z. omega (arith, z))
 
 time-falls : FeedsAs valueU (stored 0 0 100 1 0 0) (undo 99) (refused 22) (stored 0 0 100 1 0 0)
-unfolding computing fits placeFits closedUpward restsUnlessBroken momentsFit countsFit breakFits
+unfolding computing fits placeFits closedUpward restsUnlessBroken momentsFit countsFit causeFits breakFits
 time-falls = cases.time-falls given-u (fit (stored 0 0 100 1 0 0) refl refl) refl (omega arith)
 
 too-many : FeedsAs valueU (stored 0 0 100 1000000 0 0) (undo 100) (refused 23) (stored 0 0 100 1000000 0 0)
-unfolding computing fits placeFits closedUpward restsUnlessBroken momentsFit countsFit breakFits
+unfolding computing fits placeFits closedUpward restsUnlessBroken momentsFit countsFit causeFits breakFits
 too-many = cases.too-many given-u (fit (stored 0 0 100 1000000 0 0) refl refl) refl (omega arith) (omega arith)
 
 -- undo, fed to a fresh monitor: the monitor of a list of one feed
@@ -184,7 +185,7 @@ overflow k q =
     (omega arith)
 
 judges : JudgesAs valueU (written (ε ▸ undo 100 ▸ references 120 ▸ headings 140) [])
-    (record { number = 0; offset = 0; verdict = verdictFrom 0 1 0 3 0 0 })
+    (record { number = 0; offset = 0; verdict = verdictFrom 0 1 0 3 0 0 0 0 })
 unfolding computing
 judges =
     cases.judges given-u

@@ -84,7 +84,7 @@ module _ (C : Chart) where
 abbrev pub statusWith : Config → Monitor → Status
 statusWith z m =
     statusAs z (m .tally .now) (m .tally .records) (m .tally .kept) (m .tally .dropped) (m .tally .broken .at)
-    (m .tally .broken .reason)
+    (m .tally .broken .reason) (m .tally .broken .cause)
 
 -- one more record, after the records fs
 module _ (C : Chart) (A : Accepted C) (fs : Snoc LogRecord) (e : LogRecord) where
@@ -117,12 +117,12 @@ module _ (C : Chart) (A : Accepted C) (fs : Snoc LogRecord) (e : LogRecord) wher
     unfolding AtRest
     at-rest = P .fit .settled (P .unbroken)
 
-    turn-failing : (i : ℕ) (p : Place) → So (chartMessage C e) → offer C (m .place) e ≡ fails i p
+    turn-failing : (i term : ℕ) (p : Place) → So (chartMessage C e) → offer C (m .place) e ≡ fails i term p
         → Turn C (statusOf C m) e i (configAt C (e .time) p)
     unfolding configAt
-    turn-failing i p c q =
+    turn-failing i term p c q =
         turn-of C (statusOf C m) e at-rest
-        (failure-of C A (m .place) e (m .tally .now) (P .fit .moments) (P .forward) c i p q)
+        (failure-of C A (m .place) e (m .tally .now) (P .fit .moments) (P .forward) c i term p q)
 
   -- taken by this case, with the machine's status, whose configuration is z
   abbrev TakenSo : ℕ → Config → Answer → Type 0
@@ -158,10 +158,10 @@ module _ (C : Chart) (A : Accepted C) (fs : Snoc LogRecord) (e : LogRecord) wher
   taken-at n r l a h f k q c =
       taken-by n (configOf r l) a h (config-at C (v .next .tally .now) (v .next .place) r l f k) q c
 
-  -- the condition of region i fails when it is its turn
-  pub turn-at : (i : ℕ) (p : Place) (r : Row) (l : List ℕ) → So accepts → So (chartMessage C e)
-      → offer C (m .place) e ≡ fails i p → p .fired ≡ stands r → table (C .clocks) (values C (e .time) (p .clocks)) ≡ l
+  -- the condition of region i fails when it is its turn, by this term
+  pub turn-at : (i term : ℕ) (p : Place) (r : Row) (l : List ℕ) → So accepts → So (chartMessage C e)
+      → offer C (m .place) e ≡ fails i term p → p .fired ≡ stands r → table (C .clocks) (values C (e .time) (p .clocks)) ≡ l
       → Turn C (statusOf C m) e i (configOf r l)
-  turn-at i p r l h c q f k =
+  turn-at i term p r l h c q f k =
       subst (λ (y : Config). Turn C (statusOf C m) e i y) (config-at C (e .time) p r l f k)
-      (turn-failing (acceptable h) i p c q)
+      (turn-failing (acceptable h) i term p c q)

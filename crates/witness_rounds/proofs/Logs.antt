@@ -3,7 +3,8 @@ use mathlib.Core.Path.{_≡_, refl}
 use mathlib.Core.Bool.{false}
 use mathlib.Core.Option.{some}
 use mathlib.Core.List.{[], _∷_}
-use Prim.Native.Nat.{ℕ}
+use Rattle.model.specs.declared.Cause.{Cause}
+use Rattle.model.specs.Monitor.{causeOf}
 use Rattle.chart_reader.specs.Read.{readChart}
 use Rattle.chart_reader.specs.Said.{acceptedAs}
 use Rattle.chart_value.proofs.Shown.{shown-of}
@@ -48,19 +49,19 @@ pub accepted-b : Accepted B
 accepted-b = shown-of chartB (valueOf chartB) read-b .accepted
 
 -- a round that ends where a condition fails, from the tests of its row
-failing : (g : Round) (A : Accepted (theory (g .chart))) (i : ℕ)
+failing : (g : Round) (A : Accepted (theory (g .chart))) (x : Cause)
     → readChart (g .chart) ≡ acceptedAs (valueOf (g .chart))
     → recordsIn (written (g .before ▸ g .last) []) ≡ g .before ▸ g .last
     → judgeOf (valueOf (g .chart))
     (written (g .before ▸ g .last) []) ≡ record { number = 0; offset = 0; verdict = g .verdict }
     → Lawful (theory (g .chart)) 0 (logged (g .before)) (g .row)
     → (W : LawfulButLast (theory (g .chart)) 0 (logged (g .before)) (logRecord (g .last)) (g .whole))
-    → g .failing ≡ some i
+    → g .failing ≡ some x
     → firstFailing (theory (g .chart)) 0 (chartMessages (theory (g .chart)) (logged (g .before) ▸ logRecord (g .last)))
-    (g .whole) ≡ some i
+    (g .whole) ≡ some x
     → Ends (theory (g .chart)) 0 (logged (g .before)) (logRecord (g .last)) (g .outcome) → isKept (g .outcome) ≡ false
     → TakenBy (g .case) (theory (g .chart)) (g .before) (g .last) (g .status) (g .ans) → RoundShown g
-failing g A i c l j Q W f h E k T = record {
+failing g A x c l j Q W f h E k T = record {
   chart-read = c;
   log-read = l;
   judged = j;
@@ -111,10 +112,10 @@ dropped-a =
     let e : LogRecord = logRecord (droppedA .last) in
     let W : LawfulButLast A 0 s e (droppedA .whole) = waived-tested A accepted-a 0 s e
     (droppedA .whole) refl refl refl in
-    failing droppedA accepted-a 2 refl refl refl
+    failing droppedA accepted-a (causeOf 2 1) refl refl refl
     (lawful-tested A accepted-a 0 s (droppedA .row) refl refl refl) W refl refl
-    (fails-cold (droppedA .whole) 2 W refl refl) refl
-    (taken-anew A accepted-a s e 4 droppedNow refl refl refl refl)
+    (fails-cold (droppedA .whole) 2 1 W refl refl) refl
+    (taken-anew A accepted-a s e 4 (droppedNow (causeOf 2 1)) refl refl refl refl)
 
 pub broken-a : RoundShown brokenA
 unfolding computing unplaceable caseFor accepts
@@ -122,11 +123,11 @@ broken-a =
     let s : Snoc LogRecord = logged (brokenA .before) in
     let e : LogRecord = logRecord (brokenA .last) in
     let W : LawfulButLast A 0 s e (brokenA .whole) = waived-tested A accepted-a 0 s e (brokenA .whole) refl refl refl in
-    failing brokenA accepted-a 4 refl refl refl
+    failing brokenA accepted-a (causeOf 4 1) refl refl refl
     (lawful-tested A accepted-a 0 s (brokenA .row) refl refl refl) W refl refl
-    (fails-hot (brokenA .whole) 4 W refl refl) refl
+    (fails-hot (brokenA .whole) 4 1 W refl refl) refl
     (taken-at A accepted-a s e 5 (ε ▸ 0 ▸ 1 ▸ 2 ▸ 3) (31 ∷ 21 ∷ [])
-    (brokenAt 3 conditionFails) refl refl refl refl refl)
+    (brokenAt 3 conditionFails (causeOf 4 1)) refl refl refl refl refl)
 
 pub kept-b : RoundShown keptB
 unfolding computing unplaceable caseFor accepts
@@ -152,10 +153,10 @@ dropped-b =
     let e : LogRecord = logRecord (droppedB .last) in
     let W : LawfulButLast B 0 s e (droppedB .whole) = waived-tested B accepted-b 0 s e
     (droppedB .whole) refl refl refl in
-    failing droppedB accepted-b 2 refl refl refl
+    failing droppedB accepted-b (causeOf 2 1) refl refl refl
     (lawful-tested B accepted-b 0 s (droppedB .row) refl refl refl) W refl refl
-    (fails-cold (droppedB .whole) 2 W refl refl) refl
-    (taken-anew B accepted-b s e 4 droppedNow refl refl refl refl)
+    (fails-cold (droppedB .whole) 2 1 W refl refl) refl
+    (taken-anew B accepted-b s e 4 (droppedNow (causeOf 2 1)) refl refl refl refl)
 
 pub broken-b : RoundShown brokenB
 unfolding computing unplaceable caseFor accepts
@@ -163,7 +164,7 @@ broken-b =
     let s : Snoc LogRecord = logged (brokenB .before) in
     let e : LogRecord = logRecord (brokenB .last) in
     let W : LawfulButLast B 0 s e (brokenB .whole) = waived-tested B accepted-b 0 s e (brokenB .whole) refl refl refl in
-    failing brokenB accepted-b 3 refl refl refl
+    failing brokenB accepted-b (causeOf 3 1) refl refl refl
     (lawful-tested B accepted-b 0 s (brokenB .row) refl refl refl) W refl refl
-    (fails-hot (brokenB .whole) 3 W refl refl) refl
-    (taken-at B accepted-b s e 5 (ε ▸ 0 ▸ 2 ▸ 1) (20 ∷ []) (brokenAt 2 conditionFails) refl refl refl refl refl)
+    (fails-hot (brokenB .whole) 3 1 W refl refl) refl
+    (taken-at B accepted-b s e 5 (ε ▸ 0 ▸ 2 ▸ 1) (20 ∷ []) (brokenAt 2 conditionFails (causeOf 3 1)) refl refl refl refl refl)

@@ -6,6 +6,7 @@ use mathlib.Core.List.{[], _∷_}
 use Prim.Native.Nat.{ℕ}
 use native.Mathlib.Omega.{arith}
 use Rattle.base.specs.Lists.{Snoc, ε, _▸_}
+use Rattle.model.specs.Monitor.{noCause}
 use Rattle.model.specs.Answers.{timeFalls}
 use Rattle.rounds.specs.Rows.{LogRecord, Row, stands, plain, Lawful, LawfulButLast, PrechartDone}
 use Rattle.rounds.specs.Feeds.{noReadyRegion, dropped, broken, Ends, unplaced-main, unplaced-prechart, droppedNow}
@@ -58,18 +59,18 @@ done : PrechartDone U (stands (ε ▸ 0))
 unfolding computing
 done = done-true U (stands (ε ▸ 0)) refl
 
-breaks : (o : ℕ) → Ends U o undone second (broken noReadyRegion)
+breaks : (o : ℕ) → Ends U o undone second (broken noReadyRegion noCause)
 breaks o = unplaced-main (ε ▸ 0) (no-second o) (row-undo o) done
 
-pub unplaced-in-prechart : Unplaced U ε (headings 5) dropped
+pub unplaced-in-prechart : Unplaced U ε (headings 5) (dropped noCause)
 unfolding computing
 unplaced-in-prechart =
     let e : LogRecord = logRecord (headings 5) in
     let W : (r : Row) → ¬ LawfulButLast U 0 ε e r = no-region U accepted-u 0 ε e ε (row-empty 0) refl refl in
-    let E : Ends U 0 ε e dropped = unplaced-prechart ε W (row-empty 0) not-done in
+    let E : Ends U 0 ε e (dropped noCause) = unplaced-prechart ε W (row-empty 0) not-done in
     (unlawful U accepted-u 0 ε e E refl, W, E)
 
-pub unplaced-in-main : Unplaced U (ε ▸ undo 100) (undo 110) (broken noReadyRegion)
+pub unplaced-in-main : Unplaced U (ε ▸ undo 100) (undo 110) (broken noReadyRegion noCause)
 unplaced-in-main = (unlawful U accepted-u 0 undone second (breaks 0) refl, no-second 0, breaks 0)
 
 pub row-entered : Onward U ε (ε ▸ 0) entered
@@ -86,10 +87,10 @@ unfolding computing
 five-fed =
     let lacks = full-false U (stands (ε ▸ 0)) refl in
     one-more (one-more (one-more (one-more (one-more none-yet
-    (ends refl dropped (unplaced-in-prechart .2)))
+    (ends refl (dropped noCause) (unplaced-in-prechart .2)))
     (runs-on refl ε (ε ▸ 0) entered (row-empty 5) (row-undo 5) lacks row-entered))
     (refuses timeFalls refl))
-    (ends refl (broken noReadyRegion) (breaks 5)))
+    (ends refl (broken noReadyRegion noCause) (breaks 5)))
     again
 
 -- chart A's configurations: 10 ticks after the opening; after ask; 10 ticks later, after pass; and after region 2
@@ -182,7 +183,7 @@ unfolding computing accepts
 turn-heard =
     let s : Snoc LogRecord = logged (ε ▸ undo 100 ▸ references 120) in
     let e : LogRecord = logRecord (headings 141) in
-    (refl, turn-at U accepted-u s e 1 (after U s .place) (ε ▸ 0 ▸ 2) (41 ∷ []) refl refl refl refl refl)
+    (refl, turn-at U accepted-u s e 1 1 (after U s .place) (ε ▸ 0 ▸ 2) (41 ∷ []) refl refl refl refl refl)
 
 pub turn-plain : (plain A 4 ≡ true)
     × TurnOf A (ε ▸ ask 10 ▸ pass 20) (answer 41) 4 (configOf (ε ▸ 0 ▸ 1 ▸ 2 ▸ 3) (31 ∷ 21 ∷ []))
@@ -191,30 +192,31 @@ turn-plain =
     let s : Snoc LogRecord = logged (ε ▸ ask 10 ▸ pass 20) in
     let e : LogRecord = logRecord (answer 41) in (
       refl,
-      turn-at A accepted-a s e 4 (after A (s ▸ e) .place) (ε ▸ 0 ▸ 1 ▸ 2 ▸ 3)
+      turn-at A accepted-a s e 4 1 (after A (s ▸ e) .place) (ε ▸ 0 ▸ 1 ▸ 2 ▸ 3)
           (31 ∷ 21 ∷ []) refl refl refl refl refl,
     )
 
-pub passes-by : TakenBy 0 U (ε ▸ undo 100) (passed 110) (statusAs (configOf (ε ▸ 0) (10 ∷ [])) 110 2 0 0 0 0) quiet
+pub passes-by : TakenBy 0 U (ε ▸ undo 100) (passed 110)
+    (statusAs (configOf (ε ▸ 0) (10 ∷ [])) 110 2 0 0 0 0 noCause) quiet
 unfolding computing accepts caseFor unplaceable
 passes-by = taken-at U accepted-u undone (logRecord (passed 110)) 0 (ε ▸ 0) (10 ∷ []) quiet refl refl refl refl refl
 
-pub moves-by : TakenBy 1 U (ε ▸ undo 100) (references 120) (statusAs (configOf (ε ▸ 0 ▸ 2) (20 ∷ [])) 120 2 0 0 0 0)
-    moved
+pub moves-by : TakenBy 1 U (ε ▸ undo 100) (references 120)
+    (statusAs (configOf (ε ▸ 0 ▸ 2) (20 ∷ [])) 120 2 0 0 0 0 noCause) moved
 unfolding computing accepts caseFor unplaceable
 moves-by =
     taken-at U accepted-u undone (logRecord (references 120)) 1 (ε ▸ 0 ▸ 2) (20 ∷ []) moved refl refl refl refl refl
 
-pub enters-by : TakenBy 2 U ε (undo 100) (statusAs (configOf (ε ▸ 0) (0 ∷ [])) 100 1 0 0 0 0) entered
+pub enters-by : TakenBy 2 U ε (undo 100) (statusAs (configOf (ε ▸ 0) (0 ∷ [])) 100 1 0 0 0 0 noCause) entered
 unfolding computing accepts caseFor unplaceable
 enters-by = taken-at U accepted-u ε (logRecord (undo 100)) 2 (ε ▸ 0) (0 ∷ []) entered refl refl refl refl refl
 
-pub unmatched-in-prechart : TakenBy 6 U ε (headings 5) (statusAs initial 5 1 0 1 0 0) droppedNow
+pub unmatched-in-prechart : TakenBy 6 U ε (headings 5) (statusAs initial 5 1 0 1 0 0 noCause) (droppedNow noCause)
 unfolding computing accepts caseFor unplaceable
-unmatched-in-prechart = taken-anew U accepted-u ε (logRecord (headings 5)) 6 droppedNow refl refl refl refl
+unmatched-in-prechart = taken-anew U accepted-u ε (logRecord (headings 5)) 6 (droppedNow noCause) refl refl refl refl
 
 pub unmatched-in-main : TakenBy 7 U (ε ▸ undo 100) (undo 110)
-    (statusAs (configOf (ε ▸ 0) (10 ∷ [])) 110 2 0 0 2 noReadyRegion) (brokenAt 2 noReadyRegion)
+    (statusAs (configOf (ε ▸ 0) (10 ∷ [])) 110 2 0 0 2 noReadyRegion noCause) (brokenAt 2 noReadyRegion noCause)
 unfolding computing accepts caseFor unplaceable
 unmatched-in-main =
-    taken-at U accepted-u undone second 7 (ε ▸ 0) (10 ∷ []) (brokenAt 2 noReadyRegion) refl refl refl refl refl
+    taken-at U accepted-u undone second 7 (ε ▸ 0) (10 ∷ []) (brokenAt 2 noReadyRegion noCause) refl refl refl refl refl

@@ -4,7 +4,7 @@ use Prim.Native.Nat.{ℕ, zero, suc}
 use Rattle.model.specs.declared.Chart.{Chart}
 use Rattle.model.specs.declared.Monitor.{Monitor}
 use Rattle.model.specs.Chart.{zeroChart}
-use Rattle.model.specs.Monitor.{zeroMonitor}
+use Rattle.model.specs.Monitor.{noCause, zeroMonitor}
 use Rattle.base.specs.Lists.{ε, _▸_}
 use Rattle.rounds.specs.Feeds.{refused, brokenAt, entered}
 use Rattle.chart_reader.specs.Said.{acceptedAs}
@@ -36,7 +36,7 @@ pub record Cases : Type 0 where
   -- feeding: no chart; every region fired; broken at record 2; a time below now; a record too many; undo is taken
   pub not-a-chart : FeedsAs zeroChart zeroMonitor (undo 100) (refused 20) zeroMonitor
   pub unfit : FeedsAs valueU (stored 7 0 0 3 0 0) (undo 100) (refused 21) (stored 7 0 0 3 0 0)
-  pub broken-again : FeedsAs valueU (stored 1 0 110 2 2 1) (undo 120) (brokenAt 2 1) (stored 1 0 110 2 2 1)
+  pub broken-again : FeedsAs valueU (stored 1 0 110 2 2 1) (undo 120) (brokenAt 2 1 noCause) (stored 1 0 110 2 2 1)
   pub time-falls : FeedsAs valueU (stored 0 0 100 1 0 0) (undo 99) (refused 22) (stored 0 0 100 1 0 0)
   pub too-many : FeedsAs valueU (stored 0 0 100 1000000 0 0) (undo 100) (refused 23) (stored 0 0 100 1000000 0 0)
   pub takes : (n : Monitor) × FeedsAs valueU zeroMonitor (undo 100) entered n
@@ -56,4 +56,4 @@ pub record Cases : Type 0 where
   pub falls : JudgesAs valueU (written (ε ▸ undo 100 ▸ headings 99) []) (refusedLog 22 9)
   pub overflows : JudgesAs valueU (ticks 1000001) (refusedLog 23 5000000)
   pub judges : JudgesAs valueU (written (ε ▸ undo 100 ▸ references 120 ▸ headings 140) [])
-      (record { number = 0; offset = 0; verdict = verdictFrom 0 1 0 3 0 0 })
+      (record { number = 0; offset = 0; verdict = verdictFrom 0 1 0 3 0 0 0 0 })

@@ -4,9 +4,11 @@ use mathlib.Core.List.{List, [], _∷_}
 use mathlib.Core.Option.{Option, none, some}
 use Prim.Native.Nat.{ℕ}
 use lib.ListN.{getD}
+use Rattle.model.specs.declared.Cause.{Cause}
 use Rattle.model.specs.declared.Chart.{Chart}
 use Rattle.model.specs.declared.Record.{Record}
 use Rattle.model.specs.declared.Verdict.{Verdict}
+use Rattle.model.specs.Monitor.{noCause, causeOf}
 use Rattle.model.specs.Answers.{verdictFrom}
 use Rattle.chart_reader.specs.Read.{readChart}
 use Rattle.chart_reader.specs.Said.{acceptedAs}
@@ -47,11 +49,17 @@ B = theory chartB
 abbrev pub configOf : Row → List ℕ → Config
 configOf row clocks = record { cut = stands row; valuation = λ x. getD clocks x 0 }
 
-abbrev pub statusAs : Config → ℕ → ℕ → ℕ → ℕ → ℕ → ℕ → Status
-statusAs config now n k d break reason =
+abbrev pub statusAs : Config → ℕ → ℕ → ℕ → ℕ → ℕ → ℕ → Cause → Status
+statusAs config now n k d break reason x =
     record {
       config = config;
-      tally = record { now = now; records = n; kept = k; dropped = d; broken = record { at = break; reason = reason } };
+      tally = record {
+        now = now;
+        records = n;
+        kept = k;
+        dropped = d;
+        broken = record { at = break; reason = reason; cause = x };
+      };
     }
 
 -- After the records s, record e is taken by the case of this number, with this status after it and this answer. The
@@ -66,9 +74,10 @@ pub record Round : Type 0 where
   pub before : Snoc Record
   pub last : Record
   -- the row of the records before the last; the row with the last, its conditions waived if one fails; and that region
+  -- with its first failing term
   pub row : Row
   pub whole : Row
-  pub failing : Option ℕ
+  pub failing : Option Cause
   pub outcome : Outcome
   -- the last record's case in `Taken`, its answer and the status after it; and the verdict over the log
   pub case : ℕ
@@ -77,11 +86,11 @@ pub record Round : Type 0 where
   pub verdict : Verdict
 
 -- The row with the last record: lawful and with every region; or, where there is no lawful one, lawful with the
--- conditions at the last record waived, and region i is the first in it whose condition fails.
-abbrev pub RowOf : Abstract → Snoc LogRecord → LogRecord → Row → Option ℕ → Type 0
+-- conditions at the last record waived, and x is the first region in it whose condition fails, with its term.
+abbrev pub RowOf : Abstract → Snoc LogRecord → LogRecord → Row → Option Cause → Type 0
 RowOf C s e r none = Lawful C 0 (s ▸ e) r × Full C (stands r)
-RowOf C s e r (some i) =
-    NoRow C 0 (s ▸ e) × LawfulButLast C 0 s e r × (firstFailing C 0 (chartMessages C (s ▸ e)) r ≡ some i)
+RowOf C s e r (some x) =
+    NoRow C 0 (s ▸ e) × LawfulButLast C 0 s e r × (firstFailing C 0 (chartMessages C (s ▸ e)) r ≡ some x)
 
 -- what the fields of a round say is true
 pub record RoundShown (g : Round) : Type 0 where
@@ -106,8 +115,8 @@ roundU = record {
   outcome = kept;
   case = 3;
   ans = keptNow;
-  status = statusAs initial 140 3 1 0 0 0;
-  verdict = verdictFrom 0 1 0 3 0 0;
+  status = statusAs initial 140 3 1 0 0 0 noCause;
+  verdict = verdictFrom 0 1 0 3 0 0 0 0;
 }
 
 -- chart A, all in time
@@ -122,11 +131,11 @@ keptA = record {
   outcome = kept;
   case = 3;
   ans = keptNow;
-  status = statusAs initial 40 3 1 0 0 0;
-  verdict = verdictFrom 0 1 0 3 0 0;
+  status = statusAs initial 40 3 1 0 0 0 noCause;
+  verdict = verdictFrom 0 1 0 3 0 0 0 0;
 }
 
--- passed on a tick late: region 2, plain and cold, fails
+-- passed on a tick late: region 2, plain and cold, fails by its first term; the verdict has nothing of a drop
 abbrev pub droppedA : Round
 droppedA = record {
   chart = chartA;
@@ -134,15 +143,15 @@ droppedA = record {
   last = pass 21;
   row = ε ▸ 0;
   whole = ε ▸ 0 ▸ 1 ▸ 2;
-  failing = some 2;
-  outcome = dropped;
+  failing = some (causeOf 2 1);
+  outcome = dropped (causeOf 2 1);
   case = 4;
-  ans = droppedNow;
-  status = statusAs initial 21 2 0 1 0 0;
-  verdict = verdictFrom 0 0 1 2 0 0;
+  ans = droppedNow (causeOf 2 1);
+  status = statusAs initial 21 2 0 1 0 0 noCause;
+  verdict = verdictFrom 0 0 1 2 0 0 0 0;
 }
 
--- answered a tick late: region 4, plain and hot, fails, after region 3
+-- answered a tick late: region 4, plain and hot, fails, after region 3; the verdict counts it from 1
 abbrev pub brokenA : Round
 brokenA = record {
   chart = chartA;
@@ -150,12 +159,12 @@ brokenA = record {
   last = answer 41;
   row = ε ▸ 0 ▸ 1 ▸ 2;
   whole = ε ▸ 0 ▸ 1 ▸ 2 ▸ 3 ▸ 4 ▸ 5;
-  failing = some 4;
-  outcome = broken conditionFails;
+  failing = some (causeOf 4 1);
+  outcome = broken conditionFails (causeOf 4 1);
   case = 5;
-  ans = brokenAt 3 conditionFails;
-  status = statusAs (configOf (ε ▸ 0 ▸ 1 ▸ 2 ▸ 3) (31 ∷ 21 ∷ [])) 41 3 0 0 3 conditionFails;
-  verdict = verdictFrom 3 0 0 3 3 conditionFails;
+  ans = brokenAt 3 conditionFails (causeOf 4 1);
+  status = statusAs (configOf (ε ▸ 0 ▸ 1 ▸ 2 ▸ 3) (31 ∷ 21 ∷ [])) 41 3 0 0 3 conditionFails (causeOf 4 1);
+  verdict = verdictFrom 3 0 0 3 3 conditionFails 5 1;
 }
 
 -- chart B, all in time
@@ -170,8 +179,8 @@ keptB = record {
   outcome = kept;
   case = 3;
   ans = keptNow;
-  status = statusAs initial 69 2 1 0 0 0;
-  verdict = verdictFrom 0 1 0 2 0 0;
+  status = statusAs initial 69 2 1 0 0 0 noCause;
+  verdict = verdictFrom 0 1 0 2 0 0 0 0;
 }
 
 -- loaded a tick late: region 2, plain and cold, fails
@@ -182,12 +191,12 @@ droppedB = record {
   last = load 51;
   row = ε ▸ 1;
   whole = ε ▸ 1 ▸ 0 ▸ 2 ▸ 3;
-  failing = some 2;
-  outcome = dropped;
+  failing = some (causeOf 2 1);
+  outcome = dropped (causeOf 2 1);
   case = 4;
-  ans = droppedNow;
-  status = statusAs initial 51 2 0 1 0 0;
-  verdict = verdictFrom 0 0 1 2 0 0;
+  ans = droppedNow (causeOf 2 1);
+  status = statusAs initial 51 2 0 1 0 0 noCause;
+  verdict = verdictFrom 0 0 1 2 0 0 0 0;
 }
 
 -- checked a tick late: region 3, plain and hot, fails, after region 1
@@ -198,10 +207,10 @@ brokenB = record {
   last = check 70;
   row = ε ▸ 0 ▸ 2;
   whole = ε ▸ 0 ▸ 2 ▸ 1 ▸ 3;
-  failing = some 3;
-  outcome = broken conditionFails;
+  failing = some (causeOf 3 1);
+  outcome = broken conditionFails (causeOf 3 1);
   case = 5;
-  ans = brokenAt 2 conditionFails;
-  status = statusAs (configOf (ε ▸ 0 ▸ 2 ▸ 1) (20 ∷ [])) 70 2 0 0 2 conditionFails;
-  verdict = verdictFrom 3 0 0 2 2 conditionFails;
+  ans = brokenAt 2 conditionFails (causeOf 3 1);
+  status = statusAs (configOf (ε ▸ 0 ▸ 2 ▸ 1) (20 ∷ [])) 70 2 0 0 2 conditionFails (causeOf 3 1);
+  verdict = verdictFrom 3 0 0 2 2 conditionFails 4 1;
 }

@@ -5,6 +5,7 @@ use mathlib.Core.List.{[], _∷_}
 use mathlib.Core.Option.{some}
 use Prim.Native.Nat.{ℕ}
 use Rattle.model.specs.declared.Record.{Record}
+use Rattle.model.specs.Monitor.{noCause}
 use Rattle.model.specs.Answers.{timeFalls}
 use Rattle.base.specs.Lists.{Snoc, ε, _▸_}
 use Rattle.rounds.specs.Chart.{Chart}
@@ -38,11 +39,12 @@ TurnOf C s e i z = Turn C (statusOf C (after C (logged s))) (logRecord e) i z
 abbrev pub FiveFed : Type 0
 FiveFed = Fed U
     (logged (ε ▸ headings 5 ▸ undo 100 ▸ headings 99 ▸ undo 110 ▸ references 120))
-    (ε ▸ droppedNow ▸ entered ▸ refused timeFalls ▸ brokenAt 3 noReadyRegion ▸ brokenAt 3 noReadyRegion)
+    (ε ▸ droppedNow noCause ▸ entered ▸ refused timeFalls ▸ brokenAt 3 noReadyRegion noCause
+    ▸ brokenAt 3 noReadyRegion noCause)
     (logged (ε ▸ headings 5 ▸ undo 100 ▸ undo 110))
-    (ε ▸ record { opening = 0; records = logged (ε ▸ headings 5); outcome = dropped }
-    ▸ record { opening = 5; records = logged (ε ▸ undo 100 ▸ undo 110); outcome = broken noReadyRegion })
-    (afterBreak noReadyRegion)
+    (ε ▸ record { opening = 0; records = logged (ε ▸ headings 5); outcome = dropped noCause }
+    ▸ record { opening = 5; records = logged (ε ▸ undo 100 ▸ undo 110); outcome = broken noReadyRegion noCause })
+    (afterBreak noReadyRegion noCause)
 
 pub record Witnesses : Type 0 where
   -- seven rounds, from bytes to rows; `Ends` by `complete`, `fails-cold` and `fails-hot`; `Taken` by cases 3, 4 and 5
@@ -54,8 +56,8 @@ pub record Witnesses : Type 0 where
   pub dropped-b : RoundShown droppedB
   pub broken-b : RoundShown brokenB
   -- `Ends`: no region has the message, in the prechart and in the main chart
-  pub unplaced-in-prechart : Unplaced U ε (headings 5) dropped
-  pub unplaced-in-main : Unplaced U (ε ▸ undo 100) (undo 110) (broken noReadyRegion)
+  pub unplaced-in-prechart : Unplaced U ε (headings 5) (dropped noCause)
+  pub unplaced-in-main : Unplaced U (ε ▸ undo 100) (undo 110) (broken noReadyRegion noCause)
   -- `Onward`: the three ways in which a round runs on
   pub row-entered : Onward U ε (ε ▸ 0) entered
   pub row-moved : Onward U (ε ▸ 0) (ε ▸ 0 ▸ 2) moved
@@ -79,10 +81,12 @@ pub record Witnesses : Type 0 where
   pub turn-plain : (plain A 4 ≡ true)
       × TurnOf A (ε ▸ ask 10 ▸ pass 20) (answer 41) 4 (configOf (ε ▸ 0 ▸ 1 ▸ 2 ▸ 3) (31 ∷ 21 ∷ []))
   -- `Taken` by the other cases: passes, moves, enters, unmatched in the prechart and in the main chart
-  pub passes-by : TakenBy 0 U (ε ▸ undo 100) (passed 110) (statusAs (configOf (ε ▸ 0) (10 ∷ [])) 110 2 0 0 0 0) quiet
-  pub moves-by : TakenBy 1 U (ε ▸ undo 100) (references 120) (statusAs (configOf (ε ▸ 0 ▸ 2) (20 ∷ [])) 120 2 0 0 0 0)
-      moved
-  pub enters-by : TakenBy 2 U ε (undo 100) (statusAs (configOf (ε ▸ 0) (0 ∷ [])) 100 1 0 0 0 0) entered
-  pub unmatched-in-prechart : TakenBy 6 U ε (headings 5) (statusAs initial 5 1 0 1 0 0) droppedNow
+  pub passes-by : TakenBy 0 U (ε ▸ undo 100) (passed 110)
+      (statusAs (configOf (ε ▸ 0) (10 ∷ [])) 110 2 0 0 0 0 noCause) quiet
+  pub moves-by : TakenBy 1 U (ε ▸ undo 100) (references 120)
+      (statusAs (configOf (ε ▸ 0 ▸ 2) (20 ∷ [])) 120 2 0 0 0 0 noCause) moved
+  pub enters-by : TakenBy 2 U ε (undo 100) (statusAs (configOf (ε ▸ 0) (0 ∷ [])) 100 1 0 0 0 0 noCause) entered
+  pub unmatched-in-prechart : TakenBy 6 U ε (headings 5) (statusAs initial 5 1 0 1 0 0 noCause)
+      (droppedNow noCause)
   pub unmatched-in-main : TakenBy 7 U (ε ▸ undo 100) (undo 110)
-      (statusAs (configOf (ε ▸ 0) (10 ∷ [])) 110 2 0 0 2 noReadyRegion) (brokenAt 2 noReadyRegion)
+      (statusAs (configOf (ε ▸ 0) (10 ∷ [])) 110 2 0 0 2 noReadyRegion noCause) (brokenAt 2 noReadyRegion noCause)

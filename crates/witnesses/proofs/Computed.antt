@@ -6,14 +6,15 @@ use borrow.Author.Tests.{lt-ltb}
 use lib.ListN.{length}
 use Rattle.bitset.specs.Set.{contains, single, inserted, union, isSubset, within}
 use Rattle.order.specs.Order.{isOver, gathered, aboveSets}
-use Rattle.condition.specs.Condition.{termsHold}
 use Rattle.chart_reader.specs.Read.{readChart, readFrom, advanceOf}
 use Rattle.chart_value.specs.WellFormed.{isZeroTerm, termPlaced, termsFit, regionFits, isZeroRegion, touchedBefore}
 use Rattle.chart_value.specs.WellFormed.{regionPlaced, wellFormed}
+use Rattle.rounds.specs.Chart.{conditionOf}
 use Rattle.rounds.specs.Rows.{chartMessage, plain, values, opened}
-use Rattle.rounds.specs.Machine.{ready, readyFor, readyPlain, fire, unfired, settle, offer, opening, full, prechartDone}
-use Rattle.rounds.specs.Machine.{goOn, keepRound, dropRound, breakRound, conclude, accept, feed, after}
-use Rattle.monitor.specs.Fit.{closedUpward, restsUnlessBroken, momentsFit, breakFits, countsFit, placeFits, fits}
+use Rattle.rounds.specs.Machine.{ready, readyFor, readyPlain, fire, unfired, tryRegion, settle, offer, opening, full}
+use Rattle.rounds.specs.Machine.{prechartDone, goOn, keepRound, dropRound, breakRound, conclude, accept, feed, after}
+use Rattle.monitor.specs.Fit.{closedUpward, restsUnlessBroken, momentsFit, causeFits, breakFits, countsFit, placeFits}
+use Rattle.monitor.specs.Fit.{fits}
 use Rattle.monitor.specs.Feed.{feedOf}
 use Rattle.log_reader.specs.Records.{recordsFrom, recordsIn}
 use Rattle.judge.specs.Check.{stepAt, checkFrom, checkLog}
@@ -25,13 +26,13 @@ use Rattle.respond.specs.Respond.{partsReport, reportOf, textOf}
 use Rattle.claims.specs.Examples.{Says}
 use Rattle.witnesses.specs.Each.{Each}
 use Rattle.witnesses.specs.Charts.{refusals, limits}
-use Rattle.witnesses.specs.Rounds.{conditions, clocks, orders, logs}
-use Rattle.witnesses.specs.Feeds.{Answers, feeds}
+use Rattle.witnesses.specs.Rounds.{conditions, clocks, causes, orders, logs}
+use Rattle.witnesses.specs.Feeds.{Answers, feeds, fitness, Stores, breaks}
 use Rattle.witnesses.specs.Formats.{Prints, texts, LastRecord, Formats}
 
 -- every definition that the lines look into
 computed : Unit {0}
-unfolding contains single inserted union isSubset within isOver gathered aboveSets termsHold readChart readFrom advanceOf isZeroTerm termPlaced termsFit regionFits isZeroRegion touchedBefore regionPlaced wellFormed chartMessage plain values opened ready readyFor readyPlain fire unfired settle offer opening full prechartDone goOn keepRound dropRound breakRound conclude accept feed after closedUpward restsUnlessBroken momentsFit breakFits countsFit placeFits fits feedOf recordsFrom recordsIn stepAt checkFrom checkLog standingOf judgeOf bytesOf digitsOf verdictLines refusalLine partsReport reportOf
+unfolding contains single inserted union isSubset within isOver gathered aboveSets readChart readFrom advanceOf isZeroTerm termPlaced termsFit regionFits isZeroRegion touchedBefore regionPlaced wellFormed conditionOf chartMessage plain values opened ready readyFor readyPlain fire unfired tryRegion settle offer opening full prechartDone goOn keepRound dropRound breakRound conclude accept feed after closedUpward restsUnlessBroken momentsFit causeFits breakFits countsFit placeFits fits feedOf recordsFrom recordsIn stepAt checkFrom checkLog standingOf judgeOf bytesOf digitsOf verdictLines refusalLine partsReport reportOf
 computed = tt
 
 refusals-said : Each Says refusals
@@ -188,6 +189,10 @@ clocks-said : Each Says clocks
 unfolding computed
 clocks-said = (refl, (refl, (refl, (refl, (refl, (refl, (refl, (refl, (refl, (refl, tt))))))))))
 
+causes-said : Each Says causes
+unfolding computed
+causes-said = (refl, (refl, (refl, (refl, (refl, (refl, (refl, (refl, (refl, tt)))))))))
+
 orders-said : Each Says orders
 unfolding computed
 orders-said = (refl, (refl, (refl, (refl, (refl, (refl, (refl, (refl, tt))))))))
@@ -199,43 +204,15 @@ logs-said =
 
 feeds-answered : Each Answers feeds
 unfolding computed
-feeds-answered = (
-  (refl, refl),
-  (
-    (refl, refl),
-    (
-      (refl, refl),
-      (
-        (refl, refl),
-        (
-          (refl, refl),
-          (
-            (refl, refl),
-            (
-              (refl, refl),
-              (
-                (refl, refl),
-                (
-                  (refl, refl),
-                  (
-                    (refl, refl),
-                    (
-                      (refl, refl),
-                      (
-                        (refl, refl),
-                        ((refl, refl), ((refl, refl), ((refl, refl), ((refl, refl), ((refl, refl), ((refl, refl), ((refl, refl), ((refl, refl), ((refl, refl), ((refl, refl), ((refl, refl), ((refl, refl), ((refl, refl), ((refl, refl), tt)))))))))))))),
-                      ),
-                    ),
-                  ),
-                ),
-              ),
-            ),
-          ),
-        ),
-      ),
-    ),
-  ),
-)
+feeds-answered = ((refl, refl), ((refl, refl), ((refl, refl), ((refl, refl), ((refl, refl), ((refl, refl), ((refl, refl), ((refl, refl), ((refl, refl), ((refl, refl), ((refl, refl), ((refl, refl), ((refl, refl), ((refl, refl), ((refl, refl), ((refl, refl), ((refl, refl), ((refl, refl), ((refl, refl), ((refl, refl), ((refl, refl), ((refl, refl), ((refl, refl), ((refl, refl), ((refl, refl), ((refl, refl), ((refl, refl), ((refl, refl), ((refl, refl), ((refl, refl), tt))))))))))))))))))))))))))))))
+
+fitness-answered : Each Answers fitness
+unfolding computed
+fitness-answered = ((refl, refl), ((refl, refl), ((refl, refl), ((refl, refl), ((refl, refl), ((refl, refl), ((refl, refl), ((refl, refl), ((refl, refl), ((refl, refl), ((refl, refl), ((refl, refl), ((refl, refl), ((refl, refl), ((refl, refl), ((refl, refl), ((refl, refl), ((refl, refl), tt))))))))))))))))))
+
+breaks-stored : Each Stores breaks
+unfolding computed
+breaks-stored = (refl, (refl, (refl, (refl, (refl, tt)))))
 
 texts-printed : Each Prints texts
 unfolding computed
@@ -260,9 +237,12 @@ formats-hold =
       limits-said = limits-said;
       conditions-said = conditions-said;
       clocks-said = clocks-said;
+      causes-said = causes-said;
       orders-said = orders-said;
       logs-said = logs-said;
       feeds-answered = feeds-answered;
+      fitness-answered = fitness-answered;
+      breaks-stored = breaks-stored;
       texts-printed = texts-printed;
       last-record = last-record;
       input-40 = input-40;

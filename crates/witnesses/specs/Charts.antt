@@ -82,14 +82,14 @@ ofTerms n rest = hex "10 02 01 20 00 01 00 01" ++ terms n (hex rest)
 abbrev pub limits : List Example
 limits =
     -- 16 lines, 8 clocks: a message to line 15, on it a plain region that resets clock 7, both fired by one record
-    judged (hex "10 10 08 50 20 00 0F 00 01 21 80 00 40 80 7F") (hex "01 00 0F 00 01 00 00 00 00") 0 1 0 1 0 0
+    judged (hex "10 10 08 50 20 00 0F 00 01 21 80 00 40 80 7F") (hex "01 00 0F 00 01 00 00 00 00") 0 1 0 1 0 0 0 0
     -- 32 regions are taken; the 33rd stands at 4 + 32 * 5: 5, also where none is above it, but 4 if it is of one line
-    ∷ judged (ofRegions 32 "7F") [] 0 0 0 0 0 0
+    ∷ judged (ofRegions 32 "7F") [] 0 0 0 0 0 0 0 0
     ∷ refusedChart (ofRegions 33 "7F") 5 164
     ∷ refusedChart (ofRegions 32 "21 00 04") 5 164
     ∷ refusedChart (ofRegions 32 "20 00 00 00 01") 4 164
     -- four terms are taken; the fifth stands at 8 + 4 * 7: 5, but 4 if it is of clock 1, which the chart has not
-    ∷ judged (ofTerms 4 "50 20 00 01 00 02 7F") [] 0 0 0 0 0 0
+    ∷ judged (ofTerms 4 "50 20 00 01 00 02 7F") [] 0 0 0 0 0 0 0 0
     ∷ refusedChart (ofTerms 5 "") 5 36
     ∷ refusedChart (ofTerms 4 "30 01 01 00 00 00 28") 4 36
     ∷ refusedChart (ofTerms 4 "31 00 01 01 00 00 00 28") 4 36

@@ -17,8 +17,8 @@ use Rattle.claims.specs.Examples.{chartU, Says}
 use Rattle.witnesses.specs.Hex.{hex}
 use Rattle.witnesses.specs.Each.{Each}
 use Rattle.witnesses.specs.Charts.{refusals, limits}
-use Rattle.witnesses.specs.Rounds.{conditions, clocks, orders, logs}
-use Rattle.witnesses.specs.Feeds.{Answers, feeds}
+use Rattle.witnesses.specs.Rounds.{conditions, clocks, causes, orders, logs}
+use Rattle.witnesses.specs.Feeds.{Answers, feeds, fitness, Stores, breaks}
 
 -- an input, and the text that is printed for it
 pub record Print : Type 0 where
@@ -52,8 +52,8 @@ texts =
     ∷ printed (hex "00 0B 10 02 00 50 20 00 01 00 01 7F 00") "refused chart 11 at 10\n"
     ∷ printed (hex "00 0A 10 02 00 50 20 00 01 00 01 7F 02 00 00 00 05 02 00 00 00 04") "refused log 22 at 5\n"
     -- headings at 140 and at 141
-    ∷ printed (undone "8C") "STANDING KEPT DROPPED RECORDS BREAK REASON\n0 1 0 3 0 0\n"
-    ∷ printed (undone "8D") "STANDING KEPT DROPPED RECORDS BREAK REASON\n3 0 0 3 3 2\n"
+    ∷ printed (undone "8C") "STANDING KEPT DROPPED RECORDS BREAK REASON REGION TERM\n0 1 0 3 0 0 0 0\n"
+    ∷ printed (undone "8D") "STANDING KEPT DROPPED RECORDS BREAK REASON REGION TERM\n3 0 0 3 3 2 2 1\n"
     ∷ []
 
 -- a log's record of time 5 at offset 0, checked after n others and the time 5
@@ -73,9 +73,12 @@ pub record Formats : Type 0 where
   pub limits-said : Each Says limits
   pub conditions-said : Each Says conditions
   pub clocks-said : Each Says clocks
+  pub causes-said : Each Says causes
   pub orders-said : Each Says orders
   pub logs-said : Each Says logs
   pub feeds-answered : Each Answers feeds
+  pub fitness-answered : Each Answers fitness
+  pub breaks-stored : Each Stores breaks
   pub texts-printed : Each Prints texts
   pub last-record : LastRecord
   -- an input of over 65,536 bytes is 40; of 65,536 bytes, with a length of 65,535, it is 41

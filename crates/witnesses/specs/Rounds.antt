@@ -15,10 +15,10 @@ abbrev pub sentAt : String → List ℕ
 sentAt time = hex "01 00 01 00 01" ++ hex time
 
 abbrev pub holds : String → String → Example
-holds term time = judged (clockChart term) (sentAt time) 0 1 0 1 0 0
+holds term time = judged (clockChart term) (sentAt time) 0 1 0 1 0 0 0 0
 
 abbrev pub fails : String → String → Example
-fails term time = judged (clockChart term) (sentAt time) 3 0 0 1 1 2
+fails term time = judged (clockChart term) (sentAt time) 3 0 0 1 1 2 1 1
 
 -- Two messages: the first resets clock 0, the second's hot condition is a term of clock 0 minus clock 1, which is minus
 -- the first message's time.
@@ -29,10 +29,10 @@ abbrev pub bothFrom : String → List ℕ
 bothFrom time = sentAt time ++ hex "01 00 01 00 02 FF FF FF FF"
 
 abbrev pub differs : String → String → Example
-differs term time = judged (differenceChart term) (bothFrom time) 0 1 0 2 0 0
+differs term time = judged (differenceChart term) (bothFrom time) 0 1 0 2 0 0 0 0
 
 abbrev pub misses : String → String → Example
-misses term time = judged (differenceChart term) (bothFrom time) 3 0 0 2 2 2
+misses term time = judged (differenceChart term) (bothFrom time) 3 0 0 2 2 2 2 1
 
 -- Each relation at its edge; n is signed.
 abbrev pub conditions : List Example
@@ -107,20 +107,56 @@ fiveToTen = hex "10 02 01 50 20 00 01 00 01 30 00 03 00 00 00 05 30 00 01 00 00 
 -- Which clocks a condition sees, and what its failing does.
 abbrev pub clocks : List Example
 clocks =
-    judged (asked "00 01 02 00 00 00 14") threeSent 0 1 0 3 0 0
-    ∷ judged (asked "01 00 02 FF FF FF EC") threeSent 0 1 0 3 0 0
-    ∷ judged (asked "01 00 02 00 00 00 14") threeSent 3 0 0 3 3 2
+    judged (asked "00 01 02 00 00 00 14") threeSent 0 1 0 3 0 0 0 0
+    ∷ judged (asked "01 00 02 FF FF FF EC") threeSent 0 1 0 3 0 0 0 0
+    ∷ judged (asked "01 00 02 00 00 00 14") threeSent 3 0 0 3 3 2 3 1
     -- both terms must hold
-    ∷ judged fiveToTen (sentAt "00 00 00 04") 3 0 0 1 1 2
-    ∷ judged fiveToTen (sentAt "00 00 00 05") 0 1 0 1 0 0
-    ∷ judged fiveToTen (sentAt "00 00 00 0B") 3 0 0 1 1 2
+    ∷ judged fiveToTen (sentAt "00 00 00 04") 3 0 0 1 1 2 1 1
+    ∷ judged fiveToTen (sentAt "00 00 00 05") 0 1 0 1 0 0 0 0
+    ∷ judged fiveToTen (sentAt "00 00 00 0B") 3 0 0 1 1 2 1 2
     -- a region's own reset comes after its test: the clock is 3
-    ∷ judged (hex "10 02 01 50 20 00 01 00 01 30 00 03 00 00 00 03 40 01 32 7F") (sentAt "00 00 00 03") 0 1 0 1 0 0
+    ∷ judged (hex "10 02 01 50 20 00 01 00 01 30 00 03 00 00 00 03 40 01 32 7F") (sentAt "00 00 00 03") 0 1 0 1 0 0 0 0
     -- without a 32 the round is dropped
-    ∷ judged (hex "10 02 01 50 20 00 01 00 01 30 00 01 00 00 00 0A 7F") (sentAt "00 00 00 0B") 0 0 1 1 0 0
+    ∷ judged (hex "10 02 01 50 20 00 01 00 01 30 00 01 00 00 00 0A 7F") (sentAt "00 00 00 0B") 0 0 1 1 0 0 0 0
     -- a round kept at 10 opens the next there: the clock is 10 at 20, and 11 at 21
-    ∷ judged (clockChart "01 00 00 00 0A") (sentAt "00 00 00 0A" ++ sentAt "00 00 00 14") 0 2 0 2 0 0
-    ∷ judged (clockChart "01 00 00 00 0A") (sentAt "00 00 00 0A" ++ sentAt "00 00 00 15") 3 1 0 2 2 2
+    ∷ judged (clockChart "01 00 00 00 0A") (sentAt "00 00 00 0A" ++ sentAt "00 00 00 14") 0 2 0 2 0 0 0 0
+    ∷ judged (clockChart "01 00 00 00 0A") (sentAt "00 00 00 0A" ++ sentAt "00 00 00 15") 3 1 0 2 2 2 1 1
+    ∷ []
+
+-- Two messages, the first of which resets clock 0. The second's hot condition has four terms: clock 0 ≥ 5, clock 1
+-- minus clock 0 ≤ 10, clock 0 < 20, clock 0 minus clock 1 < -2. With the first at a and the second at t, clock 0 is
+-- t - a, and clock 1 minus clock 0 is a.
+abbrev pub fourTerms : List ℕ
+fourTerms =
+    hex "10 02 02 20 00 01 00 01 40 01 50 20 00 01 00 02"
+    ++ (hex "30 00 03 00 00 00 05 31 01 00 01 00 00 00 0A 30 00 00 00 00 00 14 31 00 01 00 FF FF FF FE" ++ hex "32 7F")
+
+abbrev pub sentBoth : String → String → List ℕ
+sentBoth a t = sentAt a ++ (hex "01 00 01 00 02" ++ hex t)
+
+-- a message, and a plain region on its source line, whose hot condition is clock 0 ≤ 10
+abbrev pub plainHot : List ℕ
+plainHot = hex "10 02 01 50 20 00 01 00 01 21 00 01 30 00 01 00 00 00 0A 32 7F"
+
+-- The region and the term that a break has.
+abbrev pub causes : List Example
+causes =
+    -- a is 10, clock 0 is 5: all four hold
+    judged fourTerms (sentBoth "00 00 00 0A" "00 00 00 0F") 0 1 0 2 0 0 0 0
+    -- clock 0 is 4: the first alone fails
+    ∷ judged fourTerms (sentBoth "00 00 00 0A" "00 00 00 0E") 3 0 0 2 2 2 2 1
+    -- a is 11: the second
+    ∷ judged fourTerms (sentBoth "00 00 00 0B" "00 00 00 10") 3 0 0 2 2 2 2 2
+    -- clock 0 is 20: the third
+    ∷ judged fourTerms (sentBoth "00 00 00 0A" "00 00 00 1E") 3 0 0 2 2 2 2 3
+    -- a is 2: the fourth
+    ∷ judged fourTerms (sentBoth "00 00 00 02" "00 00 00 07") 3 0 0 2 2 2 2 4
+    -- clock 0 is 4 and a is 2: the first and the fourth; a is 11 and clock 0 is 20: the second and the third
+    ∷ judged fourTerms (sentBoth "00 00 00 02" "00 00 00 06") 3 0 0 2 2 2 2 1
+    ∷ judged fourTerms (sentBoth "00 00 00 0B" "00 00 00 1F") 3 0 0 2 2 2 2 2
+    -- the plain region, not the message's
+    ∷ judged plainHot (sentAt "00 00 00 0A") 0 1 0 1 0 0 0 0
+    ∷ judged plainHot (sentAt "00 00 00 0B") 3 0 0 1 1 2 2 1
     ∷ []
 
 -- two regions of a main chart, of four lines: the first's label is 1, the second's 2
@@ -135,17 +171,17 @@ turned a b = hex "01" ++ (hex b ++ (hex "00 02 00 00 00 01 01" ++ (hex a ++ hex 
 abbrev pub orders : List Example
 orders =
     -- one source; the first's destination, the second's source; one destination; the first's source, the second's end
-    judged (two "00 01" "00 02") (turned "00 01" "00 02") 3 0 0 1 1 1
-    ∷ judged (two "00 01" "01 02") (turned "00 01" "01 02") 3 0 0 1 1 1
-    ∷ judged (two "00 02" "01 02") (turned "00 02" "01 02") 3 0 0 1 1 1
-    ∷ judged (two "00 01" "02 00") (turned "00 01" "02 00") 3 0 0 1 1 1
+    judged (two "00 01" "00 02") (turned "00 01" "00 02") 3 0 0 1 1 1 0 0
+    ∷ judged (two "00 01" "01 02") (turned "00 01" "01 02") 3 0 0 1 1 1 0 0
+    ∷ judged (two "00 02" "01 02") (turned "00 02" "01 02") 3 0 0 1 1 1 0 0
+    ∷ judged (two "00 01" "02 00") (turned "00 01" "02 00") 3 0 0 1 1 1 0 0
     -- no common line, no order
-    ∷ judged (two "00 01" "02 03") (turned "00 01" "02 03") 0 1 0 2 0 0
+    ∷ judged (two "00 01" "02 03") (turned "00 01" "02 03") 0 1 0 2 0 0 0 0
     -- in a prechart: a plain region on the message's source line, or on its destination line, has one above it
-    ∷ judged (hex "10 02 01 20 00 01 00 01 21 00 01 40 01 50 20 00 01 00 02 7F") (sentAt "00 00 00 05") 2 0 0 1 0 0
-    ∷ judged (hex "10 02 01 20 00 01 00 01 21 00 02 40 01 50 20 00 01 00 02 7F") (sentAt "00 00 00 05") 2 0 0 1 0 0
+    ∷ judged (hex "10 02 01 20 00 01 00 01 21 00 01 40 01 50 20 00 01 00 02 7F") (sentAt "00 00 00 05") 2 0 0 1 0 0 0 0
+    ∷ judged (hex "10 02 01 20 00 01 00 01 21 00 02 40 01 50 20 00 01 00 02 7F") (sentAt "00 00 00 05") 2 0 0 1 0 0 0 0
     -- a plain region first in a main chart, after a prechart; it fires at once
-    ∷ judged (hex "10 03 01 20 00 01 00 01 50 21 00 04 40 01 7F") (sentAt "00 00 00 05") 0 1 0 1 0 0
+    ∷ judged (hex "10 03 01 20 00 01 00 01 50 21 00 04 40 01 7F") (sentAt "00 00 00 05") 0 1 0 1 0 0 0 0
     ∷ []
 
 -- X17: a prechart of labels 1 and 2, from 0 to 1, then a main chart of label 3, from 1 to 0
@@ -159,15 +195,15 @@ logFault log number offset = record { chart = chartP; log = hex log; report = Re
 abbrev pub logs : List Example
 logs =
     -- 1 is in the prechart, 2 in the main chart, 0 nothing fired, 3 broken, here for want of a ready region
-    judged chartP (hex "01 00 01 00 01 00 00 00 05") 1 0 0 1 0 0
-    ∷ judged chartP (hex "01 00 01 00 01 00 00 00 05 01 00 01 00 02 00 00 00 05") 2 0 0 2 0 0
-    ∷ judged chartP (hex "01 00 01 00 01 00 00 00 05 01 00 01 00 02 00 00 00 05 01 01 00 00 03 00 00 00 06") 0 1 0 3 0 0
-    ∷ judged chartP (hex "01 00 01 00 01 00 00 00 05 01 00 01 00 02 00 00 00 05 01 00 01 00 02 00 00 00 06") 3 0 0 3 3 1
+    judged chartP (sentAt "00 00 00 05") 1 0 0 1 0 0 0 0
+    ∷ judged chartP (sentBoth "00 00 00 05" "00 00 00 05") 2 0 0 2 0 0 0 0
+    ∷ judged chartP (sentBoth "00 00 00 05" "00 00 00 05" ++ hex "01 01 00 00 03 00 00 00 06") 0 1 0 3 0 0 0 0
+    ∷ judged chartP (sentBoth "00 00 00 05" "00 00 00 05" ++ hex "01 00 01 00 02 00 00 00 06") 3 0 0 3 3 1 0 0
     -- X17: the second label 1 drops the round and is used up; label 2 drops the next
-    ∷ judged chartP (hex "01 00 01 00 01 00 00 00 05 01 00 01 00 01 00 00 00 06 01 00 01 00 02 00 00 00 07") 0 0 2 3 0 0
+    ∷ judged chartP (sentAt "00 00 00 05" ++ sentBoth "00 00 00 06" "00 00 00 07") 0 0 2 3 0 0 0 0
     -- times, and label 256, are counted and do nothing more; equal times are taken, and the last moment
-    ∷ judged chartP (hex "02 00 00 00 05 02 00 00 00 05 01 00 01 00 01 00 00 00 05") 1 0 0 3 0 0
-    ∷ judged chartP (hex "01 00 01 01 00 00 00 00 05 02 FF FF FF FF") 0 0 0 2 0 0
+    ∷ judged chartP (hex "02 00 00 00 05 02 00 00 00 05 01 00 01 00 01 00 00 00 05") 1 0 0 3 0 0 0 0
+    ∷ judged chartP (hex "01 00 01 01 00 00 00 00 05 02 FF FF FF FF") 0 0 0 2 0 0 0 0
     -- 31: 03 and 00 are unknown, before 30
     ∷ logFault "03 00 00 00 05" 31 0
     ∷ logFault "02 00 00 00 05 00" 31 5

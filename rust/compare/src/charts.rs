@@ -171,7 +171,7 @@ mod tests {
         assert!(chart.regions.iter().all(|region| region.term_count == 4));
         let log = keeping_log(&chart, 10_000, 1);
         let verdict = judge(&chart, &breaking_log(&chart, &log)).unwrap();
-        let (record, _) = Break::numbers(verdict.broken);
+        let (record, ..) = Break::numbers(verdict.broken);
         assert!((7..40).contains(&record), "{verdict:?}");
         let verdict = judge(&chart, &log).unwrap();
         assert!(verdict.kept > 350, "{verdict:?}");

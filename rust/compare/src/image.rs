@@ -11,7 +11,9 @@ const REGION_IMAGE: usize = 42;
 /// Bytes of a chart's image.
 pub const CHART_IMAGE: usize = 4 + MAX_REGIONS * REGION_IMAGE;
 /// Bytes of a monitor's image.
-pub const MONITOR_IMAGE: usize = 57;
+pub const MONITOR_IMAGE: usize = 59;
+/// Where a monitor's image has the reason; region and term come after it.
+const REASON: usize = 56;
 /// Bytes of a live monitor before its chart: the image and the chart's length.
 pub const LIVE_HEAD: usize = MONITOR_IMAGE + 8;
 
@@ -138,7 +140,8 @@ impl Image for MonitorValue {
         for (number, part) in numbers.iter().zip(image.chunks_exact_mut(4)) {
             part.copy_from_slice(&number.to_be_bytes());
         }
-        image[MONITOR_IMAGE - 1] = self.reason;
+        let Cause { region, term } = self.cause;
+        image[REASON..].copy_from_slice(&[self.reason, region, term]);
         image
     }
 
@@ -162,7 +165,11 @@ impl Image for MonitorValue {
             kept: number(11),
             dropped: number(12),
             break_record: number(13),
-            reason: image[MONITOR_IMAGE - 1],
+            reason: image[REASON],
+            cause: Cause {
+                region: image[REASON + 1],
+                term: image[REASON + 2],
+            },
         })
     }
 }

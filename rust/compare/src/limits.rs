@@ -2,7 +2,7 @@
 
 use crate::charts;
 use crate::difference::{same, Both, Difference};
-use crate::image::{live_bytes, Image};
+use crate::image::{live_bytes, Image, LIVE_HEAD};
 use crate::kinds::{compare_bytes, compare_judge, compare_print, compare_values, Compare};
 use crate::seen::Seen;
 use lsc::call;
@@ -99,7 +99,7 @@ fn fed() -> Vec<Case> {
 fn live_sizes(_: &[u8], _: &[u8], _: &mut Seen) -> Result<(), Both> {
     let near = (0..70).map(|less| usize::MAX - less);
     for length in (0..70).chain(near).chain([65_536, 1 << 32, 1 << 63]) {
-        let wanted = length.saturating_add(65);
+        let wanted = length.saturating_add(LIVE_HEAD);
         same("live size", call::live_size(length), wanted)?;
     }
     Ok(())

@@ -1,7 +1,7 @@
-//! What a run has reached: refusals, answers and standings that the library gave.
+//! What a run has reached: refusals, answers, standings and terms that the library gave.
 
-use crate::coverage::{Coverage, ANSWERS, REFUSALS};
-use lsc_reference::value::Answer;
+use crate::coverage::{Coverage, ANSWERS, DECIDED_TERMS, REFUSALS, UNFIT};
+use lsc_reference::value::{Answer, ChartValue, MonitorValue};
 use std::collections::BTreeMap;
 use std::fmt;
 
@@ -29,8 +29,12 @@ impl Seen {
         self.coverage.standing(standing as u8);
     }
 
-    pub fn answer(&mut self, answer: &Answer) {
-        self.coverage.answer(answer);
+    pub fn fed(&mut self, chart: &ChartValue, before: &MonitorValue, answer: &Answer) {
+        self.coverage.fed(chart, before, answer);
+    }
+
+    pub fn told(&mut self, again: bool, answer: &Answer) {
+        self.coverage.told(again, answer);
     }
 
     pub fn printed(&mut self, text: &str) {
@@ -51,9 +55,9 @@ impl Seen {
         missing
     }
 
-    /// How many refusals, answers and standings were reached, and how many there are.
+    /// How much of what must be reached was reached, and how much there is.
     pub fn reached(&self) -> (usize, usize) {
-        let all = REFUSALS.len() + 1 + ANSWERS.len() + 4;
+        let all = REFUSALS.len() + 1 + ANSWERS.len() + 4 + DECIDED_TERMS + UNFIT.len();
         (all - self.missing().len(), all)
     }
 }
@@ -73,6 +77,12 @@ impl fmt::Display for Seen {
         }
         for (standing, times) in &self.coverage.standings {
             writeln!(f, "| standing {standing} | {times} |")?;
+        }
+        for ((decided, term), times) in &self.coverage.terms {
+            writeln!(f, "| {decided} by term {term} | {times} |")?;
+        }
+        for (name, times) in &self.coverage.unfit {
+            writeln!(f, "| unfit: {name} | {times} |")?;
         }
         Ok(())
     }

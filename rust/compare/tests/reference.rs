@@ -38,7 +38,7 @@ fn steps_against_rows(rng: &mut Rng, seen: &mut Coverage) {
             if matches!(answer, Answer::Refused(_)) {
                 assert_eq!(after, monitor);
             }
-            seen.answer(&answer);
+            seen.fed(&chart, &monitor, &answer);
             monitor = after;
         }
         assert_eq!(meaning.answers.len(), feeds.len());
@@ -119,7 +119,7 @@ fn feeds_of_values(rng: &mut Rng, seen: &mut Coverage) {
             Answer::Refused(_) => assert_eq!(after, monitor),
             _ => assert!(monitor::is_fit(&chart, &after)),
         }
-        seen.answer(&answer);
+        seen.fed(&chart, &monitor, &answer);
     }
 }
 
@@ -171,10 +171,11 @@ fn fast_text(input: &[u8]) -> String {
     match fast::judge(&chart, log) {
         Err((code, offset)) => format!("refused log {code} at {offset}"),
         Ok(verdict) => {
-            let [standing, kept, dropped, records, record, reason] = verdict.numbers();
+            let [standing, kept, dropped, records, record, reason, region, term] =
+                verdict.numbers();
             format!(
-                "STANDING KEPT DROPPED RECORDS BREAK REASON\n\
-                 {standing} {kept} {dropped} {records} {record} {reason}"
+                "STANDING KEPT DROPPED RECORDS BREAK REASON REGION TERM\n\
+                 {standing} {kept} {dropped} {records} {record} {reason} {region} {term}"
             )
         }
     }
@@ -185,6 +186,7 @@ fn steps_and_rows_agree() {
     let seen = reached(1, 1_500, steps_against_rows);
     println!("steps against rows: {seen:?}");
     assert!(ANSWERS.iter().all(|name| seen.answers.contains_key(name)));
+    assert_eq!(seen.missing_terms(), Vec::<String>::new());
 }
 
 #[test]

@@ -1,7 +1,7 @@
 //! Terms at the ends of the range: judging, feeding values and feeding live bytes against the
 //! table of relations and signs, and against the reference.
 
-use lsc::{LiveMonitor, Reason};
+use lsc::{Cause, LiveMonitor, Reason};
 use lsc_compare::image::{Image, MONITOR_IMAGE};
 use lsc_compare::testing;
 use lsc_reference::log::{judge, write_log};
@@ -45,6 +45,9 @@ const NUMBERS: [i32; 9] = [
 const ANSWER_BROKEN: u8 = 1;
 const ANSWER_KEPT: u8 = 2;
 
+/// The only term of the second region.
+const DECIDES: Cause = Cause { region: 2, term: 1 };
+
 /// No prechart. The first message resets clock 0; the second has the term, and is hot.
 fn chart(term: &[u8]) -> Vec<u8> {
     let first = [0x10, 2, 2, 0x50, 0x20, 0, 1, 0, 1, 0x40, 1];
@@ -67,11 +70,11 @@ fn check(bytes: &[u8], times: [u32; 2], holds: bool) {
     let what = format!("{bytes:02X?} at {times:?}");
     let written = write_log(&log(times));
     let verdict = lsc::judge(bytes, &written).expect("no fault");
-    let broken = (verdict.break_record, verdict.reason);
+    let broken = (verdict.break_record, verdict.reason, verdict.cause);
     if holds {
-        assert_eq!((verdict.kept, broken), (1, (0, None)), "{what}");
+        assert_eq!((verdict.kept, broken), (1, (0, None, None)), "{what}");
     } else {
-        let expected = (2, Some(Reason::ConditionFails));
+        let expected = (2, Some(Reason::ConditionFails), Some(DECIDES));
         assert_eq!((verdict.kept, broken), (0, expected), "{what}");
     }
 

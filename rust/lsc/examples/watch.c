@@ -34,9 +34,17 @@ static const struct message messages[] = {
 
 static const char *const answers[] = {"kept", "dropped", "entered", "moved", "quiet"};
 
-/* Writes what the monitor says to one message. */
-static void tell(const struct message *m, uint8_t answer, const uint64_t *verdict)
+/* What the monitor says to one message: the answer, and the condition that decided, if one did. */
+struct said {
+    uint8_t answer;
+    uint64_t region, term;
+};
+
+/* Writes it. */
+static void tell(const struct message *m, const struct said *said, const uint64_t *verdict)
 {
+    uint8_t answer = said->answer;
+
     printf("%s at %lu: ", m->name, (unsigned long)m->time);
     if (answer == LSC_BROKEN)
         printf("broken at record %lu, reason %lu", (unsigned long)verdict[4],
@@ -45,12 +53,15 @@ static void tell(const struct message *m, uint8_t answer, const uint64_t *verdic
         printf("%s", answers[answer - LSC_KEPT]);
     else
         printf("refused %u", (unsigned)answer);
+    if (said->region != 0)
+        printf(", region %lu, term %lu", (unsigned long)said->region,
+               (unsigned long)said->term);
     printf("; standing %lu\n", (unsigned long)verdict[0]);
 }
 
 int main(void)
 {
-    uint8_t live[65 + sizeof chart];
+    uint8_t live[67 + sizeof chart];
     uint64_t verdict[LSC_VERDICT_PLACES] = {0};
     uint64_t at = 0;
     uint8_t refused = lsc_open(chart, sizeof chart, live, sizeof live, &at);
@@ -62,13 +73,14 @@ int main(void)
     }
     for (i = 0; i < sizeof messages / sizeof messages[0]; i++) {
         const struct message *m = &messages[i];
-        uint8_t answer = lsc_feed_message(live, sizeof live, m->source, m->destination,
-                                          m->label, m->time);
+        struct said said;
+        said.answer = lsc_feed_message_why(live, sizeof live, m->source, m->destination,
+                                           m->label, m->time, &said.region, &said.term);
         if (lsc_standing(live, sizeof live, verdict, LSC_VERDICT_PLACES) != 0)
             return 1;
-        tell(m, answer, verdict);
+        tell(m, &said, verdict);
     }
-    puts("STANDING KEPT DROPPED RECORDS BREAK REASON");
+    puts("STANDING KEPT DROPPED RECORDS BREAK REASON REGION TERM");
     for (i = 0; i < LSC_VERDICT_PLACES; i++)
         printf("%lu%c", (unsigned long)verdict[i], i + 1 < LSC_VERDICT_PLACES ? ' ' : '\n');
     return 0;

@@ -36,13 +36,17 @@ pub fn watch(out: &mut dyn Write) -> Result<(), Box<dyn Error>> {
     ];
     let mut monitor = LiveMonitor::open(&CHART)?;
     for ((name, source, destination, label), time) in messages {
-        match monitor.feed_message(source, destination, label, time) {
-            Ok(answer) => write!(out, "{name} at {time}: {answer}")?,
+        match monitor.feed_message_why(source, destination, label, time) {
+            Ok((answer, None)) => write!(out, "{name} at {time}: {answer}")?,
+            Ok((answer, Some(cause))) => write!(out, "{name} at {time}: {answer}, {cause}")?,
             Err(refusal) => write!(out, "{name} at {time}: refused {}", refusal.number())?,
         }
         writeln!(out, "; standing {}", monitor.standing().standing.number())?;
     }
-    writeln!(out, "STANDING KEPT DROPPED RECORDS BREAK REASON")?;
+    writeln!(
+        out,
+        "STANDING KEPT DROPPED RECORDS BREAK REASON REGION TERM"
+    )?;
     writeln!(out, "{}", monitor.standing())?;
     Ok(())
 }

@@ -7,6 +7,12 @@
 
 use crate::raw;
 
+/// The places that `lsc_judge` and `lsc_standing` want.
+pub const VERDICT_PLACES: usize = 8;
+
+/// The bytes that `lsc_print` wants: no text is longer.
+pub const TEXT_ROOM: usize = 223;
+
 /// `lsc_judge`: 0 and the verdict, or the refusal's number and where; 12 for a short `out`.
 pub fn judge(chart: &[u8], log: &[u8], out: &mut [u64]) -> u8 {
     // SAFETY: the pointers and lengths are those of slices borrowed for the whole call,
@@ -70,6 +76,33 @@ pub fn feed_message(live: &mut [u8], source: u8, destination: u8, label: u16, ti
             destination,
             label,
             time,
+        )
+    }
+}
+
+/// `lsc_feed_message_why`: what `lsc_feed_message` gives, and the region and the term that
+/// decided, both from 1, or zeros.
+pub fn feed_message_why(
+    live: &mut [u8],
+    source: u8,
+    destination: u8,
+    label: u16,
+    time: u32,
+    region: &mut u64,
+    term: &mut u64,
+) -> u8 {
+    // SAFETY: the pointer and length are those of a slice borrowed mutably for the call, and
+    // `region` and `term` are references to one number each; none of them overlap.
+    unsafe {
+        raw::lsc_feed_message_why(
+            live.as_mut_ptr(),
+            live.len(),
+            source,
+            destination,
+            label,
+            time,
+            region,
+            term,
         )
     }
 }

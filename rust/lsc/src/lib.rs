@@ -27,7 +27,7 @@
 //! assert_eq!(monitor.feed_message(2, 3, 3, 120), Ok(Answer::Moved));
 //! assert_eq!(monitor.standing().standing, Standing::Owed);
 //! assert_eq!(monitor.feed_message(1, 0, 2, 140), Ok(Answer::Kept));
-//! assert_eq!(monitor.standing().to_string(), "0 1 0 3 0 0");
+//! assert_eq!(monitor.standing().to_string(), "0 1 0 3 0 0 0 0");
 //!
 //! // The same as a log: a record byte, the message, the time.
 //! let log = [
@@ -37,6 +37,12 @@
 //! ];
 //! let verdict = lsc::judge(&chart, &log)?;
 //! assert_eq!((verdict.standing, verdict.kept), (Standing::Open, 1));
+//!
+//! // Headings a tick later: the chart's second region breaks it, by its first term.
+//! let mut late = log;
+//! late[26] = 141;
+//! let cause = lsc::judge(&chart, &late)?.cause.unwrap();
+//! assert_eq!((cause.region, cause.term), (2, 1));
 //! # Ok::<(), lsc::Refusal>(())
 //! ```
 #![deny(unsafe_code)]
@@ -49,16 +55,15 @@ pub mod raw;
 mod values;
 
 pub use live::LiveMonitor;
-pub use values::{Answer, FeedRefusal, Part, Reason, Refusal, Standing, Verdict};
+pub use values::{Answer, Cause, FeedRefusal, Part, Reason, Refusal, Standing, Verdict};
 
-/// The places of `out` for a text: `lsc_print` writes at most so many bytes.
-const TEXT_ROOM: usize = 169;
+use call::{TEXT_ROOM, VERDICT_PLACES};
 
 /// Judges a whole log by a chart; both as bytes.
 ///
 /// The chart is read first, then the whole log is checked, and only then are records taken.
 pub fn judge(chart: &[u8], log: &[u8]) -> Result<Verdict, Refusal> {
-    let mut out = [0; 6];
+    let mut out = [0; VERDICT_PLACES];
     match call::judge(chart, log, &mut out) {
         0 => Ok(Verdict::of(&out)),
         number => Err(Refusal {

@@ -1,7 +1,7 @@
 //! A monitor that takes one record at a time.
 
-use crate::call;
-use crate::values::{Answer, FeedRefusal, Part, Reason, Refusal, Verdict};
+use crate::call::{self, VERDICT_PLACES};
+use crate::values::{Answer, Cause, FeedRefusal, Part, Reason, Refusal, Verdict};
 
 /// A monitor with its chart, in bytes of its own that can be stored and taken up again.
 ///
@@ -30,13 +30,13 @@ impl LiveMonitor {
     /// Takes up a monitor from the bytes of an earlier one. Refused with 20 or 21 if they
     /// hold no live monitor, or an unfit one. Bytes after the chart are kept and not read.
     pub fn from_bytes(bytes: Vec<u8>) -> Result<LiveMonitor, FeedRefusal> {
-        match call::standing(&bytes, &mut [0; 6]) {
+        match call::standing(&bytes, &mut [0; VERDICT_PLACES]) {
             0 => Ok(LiveMonitor { bytes }),
             number => Err(FeedRefusal::of(number)),
         }
     }
 
-    /// The bytes: the monitor's image (57), the chart's length (8), the chart; numbers most
+    /// The bytes: the monitor's image (59), the chart's length (8), the chart; numbers most
     /// significant byte first.
     pub fn as_bytes(&self) -> &[u8] {
         &self.bytes
@@ -60,6 +60,28 @@ impl LiveMonitor {
         self.answer(number)
     }
 
+    /// Feeds a message as [`feed_message`](LiveMonitor::feed_message) does. With
+    /// [`Answer::Broken`] and [`Answer::Dropped`] comes the cause, if a condition decided.
+    pub fn feed_message_why(
+        &mut self,
+        source: u8,
+        destination: u8,
+        label: u16,
+        time: u32,
+    ) -> Result<(Answer, Option<Cause>), FeedRefusal> {
+        let (mut region, mut term) = (0, 0);
+        let number = call::feed_message_why(
+            &mut self.bytes,
+            source,
+            destination,
+            label,
+            time,
+            &mut region,
+            &mut term,
+        );
+        Ok((self.answer(number)?, Cause::of(region, term)))
+    }
+
     /// Feeds a record of time. Refusals as for a message.
     pub fn feed_time(&mut self, time: u32) -> Result<Answer, FeedRefusal> {
         let number = call::feed_time(&mut self.bytes, time);
@@ -71,9 +93,9 @@ impl LiveMonitor {
         Verdict::of(&self.verdict())
     }
 
-    /// The six numbers of the verdict so far.
-    fn verdict(&self) -> [u64; 6] {
-        let mut out = [0; 6];
+    /// The eight numbers of the verdict so far.
+    fn verdict(&self) -> [u64; VERDICT_PLACES] {
+        let mut out = [0; VERDICT_PLACES];
         let number = call::standing(&self.bytes, &mut out);
         debug_assert_eq!(number, 0, "the bytes hold a fit live monitor");
         out
@@ -83,7 +105,7 @@ impl LiveMonitor {
     fn answer(&self, number: u8) -> Result<Answer, FeedRefusal> {
         match number {
             1 => {
-                let [.., record, reason] = self.verdict();
+                let [.., record, reason, _, _] = self.verdict();
                 Ok(Answer::Broken {
                     record: record as u32,
                     reason: Reason::of(reason),

@@ -40,6 +40,17 @@ extern "C" {
         time: u32,
     ) -> u8;
 
+    pub fn lsc_feed_message_why(
+        live: *mut u8,
+        live_length: usize,
+        source: u8,
+        destination: u8,
+        label: u16,
+        time: u32,
+        region: *mut u64,
+        term: *mut u64,
+    ) -> u8;
+
     pub fn lsc_feed_time(live: *mut u8, live_length: usize, time: u32) -> u8;
 
     pub fn lsc_standing(

@@ -1,5 +1,6 @@
 //! Verdicts, answers and refusals.
 
+use crate::call::VERDICT_PLACES;
 use std::error::Error;
 use std::fmt;
 
@@ -64,6 +65,31 @@ impl Reason {
     }
 }
 
+/// The condition that decided, as a place in the chart.
+#[derive(Clone, Copy, Debug, PartialEq, Eq, Hash)]
+pub struct Cause {
+    /// Its region, counted from 1 in the order of the chart's bytes, both halves together.
+    pub region: u8,
+    /// The first of its terms that failed, counted from 1 in that order.
+    pub term: u8,
+}
+
+impl Cause {
+    /// The cause of two numbers; none of zeros.
+    pub(crate) fn of(region: u64, term: u64) -> Option<Cause> {
+        (region != 0).then_some(Cause {
+            region: region as u8,
+            term: term as u8,
+        })
+    }
+}
+
+impl fmt::Display for Cause {
+    fn fmt(&self, f: &mut fmt::Formatter<'_>) -> fmt::Result {
+        write!(f, "region {}, term {}", self.region, self.term)
+    }
+}
+
 /// What is known after a log, or so far.
 #[derive(Clone, Copy, Debug, PartialEq, Eq, Hash)]
 pub struct Verdict {
@@ -79,10 +105,12 @@ pub struct Verdict {
     pub break_record: u32,
     /// Why it broke the chart; none if no record did.
     pub reason: Option<Reason>,
+    /// The hot condition that broke the chart; none unless one did.
+    pub cause: Option<Cause>,
 }
 
 impl Verdict {
-    pub(crate) fn of(out: &[u64; 6]) -> Verdict {
+    pub(crate) fn of(out: &[u64; VERDICT_PLACES]) -> Verdict {
         Verdict {
             standing: Standing::of(out[0]),
             kept: out[1] as u32,
@@ -90,22 +118,26 @@ impl Verdict {
             records: out[3] as u32,
             break_record: out[4] as u32,
             reason: (out[5] != 0).then(|| Reason::of(out[5])),
+            cause: Cause::of(out[6], out[7]),
         }
     }
 }
 
-/// The six numbers in the printing program's order.
+/// The eight numbers in the printing program's order.
 impl fmt::Display for Verdict {
     fn fmt(&self, f: &mut fmt::Formatter<'_>) -> fmt::Result {
+        let reason = self.reason.map_or(0, Reason::number);
+        let (region, term) = self
+            .cause
+            .map_or((0, 0), |known| (known.region, known.term));
         write!(
             f,
-            "{} {} {} {} {} {}",
+            "{} {} {} {} {} {reason} {region} {term}",
             self.standing.number(),
             self.kept,
             self.dropped,
             self.records,
-            self.break_record,
-            self.reason.map_or(0, Reason::number)
+            self.break_record
         )
     }
 }

@@ -1,6 +1,6 @@
 //! The safe wrapper on the examples of the rules (X).
 
-use lsc::{Answer, FeedRefusal, LiveMonitor, Part, Reason, Refusal, Standing};
+use lsc::{Answer, Cause, FeedRefusal, LiveMonitor, Part, Reason, Refusal, Standing};
 use lsc_reference::examples::{CHART_U, OVER_CHART_U};
 use lsc_reference::log::write_log;
 use lsc_reference::print::input_of;
@@ -35,7 +35,7 @@ fn charts_that_are_refused() {
 #[test]
 fn printed_texts() {
     let (records, numbers) = OVER_CHART_U[0];
-    let text = format!("STANDING KEPT DROPPED RECORDS BREAK REASON\n{numbers}\n");
+    let text = format!("STANDING KEPT DROPPED RECORDS BREAK REASON REGION TERM\n{numbers}\n");
     assert_eq!(lsc::print(&input_of(&CHART_U, &write_log(records))), text);
     assert_eq!(lsc::print(&[0]), "refused input 41 at 0\n");
     assert_eq!(lsc::print(&[0; 65_537]), "refused input 40 at 0\n");
@@ -58,10 +58,59 @@ fn a_live_monitor_is_stored_and_taken_up_again() {
     };
     assert_eq!(again.feed_message(0, 1, 1, 100), Ok(broken));
     assert_eq!(again.feed_time(0), Ok(broken));
-    assert_eq!(again.standing().to_string(), "3 0 0 3 3 1");
+    assert_eq!(again.standing().to_string(), "3 0 0 3 3 1 0 0");
     assert_eq!(again.standing().reason, Some(Reason::NoReadyRegion));
+    assert_eq!(again.standing().cause, None);
     assert_eq!(monitor.standing().reason, None);
     assert_ne!(again.into_bytes(), monitor.into_bytes());
+}
+
+#[test]
+fn the_condition_that_decides() {
+    // Data with clock 0 at most 9, cold; then, in the main chart, a plain region that resets clock
+    // 1, and an answer with clock 0 at most 20 and at most 5 more than clock 1, hot.
+    let chart = [
+        0x10, 2, 2, 0x20, 0, 1, 0, 1, 0x30, 0, 1, 0, 0, 0, 9, 0x50, 0x21, 0, 1, 0x40, 2, 0x20, 1,
+        0, 0, 2, 0x30, 0, 1, 0, 0, 0, 20, 0x31, 0, 1, 1, 0, 0, 0, 5, 0x32, 0x7F,
+    ];
+    let mut monitor = LiveMonitor::open(&chart).unwrap();
+    let cause = |region, term| Some(Cause { region, term });
+    let mut data = |time| monitor.feed_message_why(0, 1, 1, time);
+    assert_eq!(data(10), Ok((Answer::Dropped, cause(1, 1))));
+    assert_eq!(data(9), Err(FeedRefusal::TimeFalls));
+    assert_eq!(data(16), Ok((Answer::Entered, None)));
+    assert_eq!(monitor.standing().cause, None);
+    // Clock 0 is 7, clock 1 is 1.
+    let broken = Answer::Broken {
+        record: 3,
+        reason: Reason::ConditionFails,
+    };
+    let mut answer = |time| monitor.feed_message_why(1, 0, 2, time);
+    assert_eq!(answer(17), Ok((broken, cause(3, 2))));
+    assert_eq!(answer(0), Ok((broken, cause(3, 2))));
+    assert_eq!(monitor.feed_message(1, 0, 2, 17), Ok(broken));
+    assert_eq!(monitor.standing().cause, cause(3, 2));
+    assert_eq!(monitor.standing().to_string(), "3 0 1 3 3 2 3 2");
+    assert_eq!(cause(3, 2).unwrap().to_string(), "region 3, term 2");
+    // The reason stands at 56 in the image, region and term behind it.
+    assert_eq!(monitor.as_bytes()[56..59], [2, 3, 2]);
+}
+
+#[test]
+fn no_condition_decides() {
+    let mut monitor = LiveMonitor::open(&CHART_U).unwrap();
+    let dropped = monitor.feed_message_why(1, 0, 2, 5);
+    assert_eq!(dropped, Ok((Answer::Dropped, None)));
+    let entered = monitor.feed_message_why(0, 1, 1, 6);
+    assert_eq!(entered, Ok((Answer::Entered, None)));
+    let broken = Answer::Broken {
+        record: 3,
+        reason: Reason::NoReadyRegion,
+    };
+    for time in [7, 0] {
+        let said = monitor.feed_message_why(0, 1, 1, time);
+        assert_eq!(said, Ok((broken, None)));
+    }
 }
 
 #[test]
@@ -69,10 +118,14 @@ fn bytes_that_hold_no_monitor() {
     let no = |bytes: &[u8]| LiveMonitor::from_bytes(bytes.to_vec()).err();
     let good = LiveMonitor::open(&CHART_U).unwrap().into_bytes();
     assert_eq!(no(&good), None);
-    assert_eq!(no(&good[..102]), Some(FeedRefusal::NoLiveMonitor));
+    assert_eq!(no(&good[..104]), Some(FeedRefusal::NoLiveMonitor));
     assert_eq!(no(&[]), Some(FeedRefusal::NoLiveMonitor));
     let mut unfit = good.clone();
     unfit[0] = 1;
+    assert_eq!(no(&unfit), Some(FeedRefusal::Unfit));
+    // A region and a term without a break.
+    let mut unfit = good.clone();
+    unfit[57..59].copy_from_slice(&[2, 1]);
     assert_eq!(no(&unfit), Some(FeedRefusal::Unfit));
     // The count of records stands at 40 in the image.
     let mut full = good;

@@ -47,13 +47,22 @@ pub const fn references(time: u32) -> RecordValue {
 
 /// X3 to X11: a log's records, and the verdict's line or the refusal's.
 pub const OVER_CHART_U: [(&[RecordValue], &str); 9] = [
-    (&[undo(100), references(120), headings(140)], "0 1 0 3 0 0"),
-    (&[undo(100), references(120), headings(141)], "3 0 0 3 3 2"),
-    (&[undo(100), headings(120)], "2 0 0 2 0 0"),
-    (&[undo(100), headings(120), headings(130)], "3 0 0 3 3 1"),
-    (&[undo(100), undo(110)], "3 0 0 2 2 1"),
-    (&[headings(5)], "0 0 1 1 0 0"),
-    (&[undo(100), message(3, 2, 3, 110)], "2 0 0 2 0 0"),
-    (&[], "0 0 0 0 0 0"),
+    (
+        &[undo(100), references(120), headings(140)],
+        "0 1 0 3 0 0 0 0",
+    ),
+    (
+        &[undo(100), references(120), headings(141)],
+        "3 0 0 3 3 2 2 1",
+    ),
+    (&[undo(100), headings(120)], "2 0 0 2 0 0 0 0"),
+    (
+        &[undo(100), headings(120), headings(130)],
+        "3 0 0 3 3 1 0 0",
+    ),
+    (&[undo(100), undo(110)], "3 0 0 2 2 1 0 0"),
+    (&[headings(5)], "0 0 1 1 0 0 0 0"),
+    (&[undo(100), message(3, 2, 3, 110)], "2 0 0 2 0 0 0 0"),
+    (&[], "0 0 0 0 0 0 0 0"),
     (&[undo(100), undo(99)], "refused log 22 at 9"),
 ];

@@ -34,8 +34,8 @@ impl Verdict {
     };
 
     /// The verdict's fields as numbers.
-    pub fn numbers(&self) -> [u32; 6] {
-        let (record, reason) = Break::numbers(self.broken);
+    pub fn numbers(&self) -> [u32; 8] {
+        let (record, reason, cause) = Break::numbers(self.broken);
         let standing = self.standing.into();
         [
             standing,
@@ -44,6 +44,8 @@ impl Verdict {
             self.records,
             record,
             reason.into(),
+            cause.region.into(),
+            cause.term.into(),
         ]
     }
 }

@@ -73,10 +73,14 @@ fn all_fired(chart: &ChartValue, fired: u32) -> bool {
     (0..usize::from(chart.count)).all(|region| has(fired, region))
 }
 
-/// Whether the region's condition holds (C9) with the clocks' values (T4).
-fn condition_holds(region: &RegionValue, now: u32, resets: &[u32; MAX_CLOCKS]) -> bool {
+/// The place (from 0) of the first term that fails with the clocks' values (T4); none if the
+/// condition holds (C9).
+fn failing_term(region: &RegionValue, now: u32, resets: &[u32; MAX_CLOCKS]) -> Option<usize> {
     let value = |clock: u8| i64::from(now) - i64::from(resets[usize::from(clock)]);
-    region.condition().iter().all(|term| term.holds(value))
+    region
+        .condition()
+        .iter()
+        .position(|term| !term.holds(value))
 }
 
 /// A fresh monitor for the chart, or refusal 20 (M8).
@@ -117,7 +121,11 @@ fn is_fit_under(chart: &ChartValue, order: &Order, monitor: &MonitorValue) -> bo
         Some(known) => (1..=monitor.records).contains(&known.record),
         None => monitor.break_record == 0 && monitor.reason == 0,
     };
-    closed && within && unfinished && settled && moments && counts && break_fits
+    let cause_fits = match Reason::of(monitor.reason) {
+        Some(Reason::ConditionFails) => monitor.cause.is_of(chart),
+        _ => monitor.cause == Cause::NONE,
+    };
+    closed && within && unfinished && settled && moments && counts && break_fits && cause_fits
 }
 
 /// Feeding: the tests of M12 in their order, then the steps. A record that is not taken leaves
@@ -188,8 +196,8 @@ fn take(
     match ready {
         Some(region) => fire(chart, order, counted, region),
         // T18 in phase prechart, T19 in phase main.
-        None if in_prechart(chart, before.fired) => drop_round(chart, counted),
-        None => break_round(counted, Reason::NoReadyRegion),
+        None if in_prechart(chart, before.fired) => drop_round(chart, counted, Cause::NONE),
+        None => break_round(counted, Reason::NoReadyRegion, Cause::NONE),
     }
 }
 
@@ -216,12 +224,13 @@ fn fire(
     while let Some(place) = next {
         let region = &chart.regions[place];
         // T12, T15: earlier resets count, the region's own are still to come.
-        if !condition_holds(region, after.now, &after.resets) {
+        if let Some(term) = failing_term(region, after.now, &after.resets) {
             // T21.
+            let cause = Cause::at(place, term);
             return if region.hot {
-                break_round(after, Reason::ConditionFails)
+                break_round(after, Reason::ConditionFails, cause)
             } else {
-                drop_round(chart, after)
+                drop_round(chart, after, cause)
             };
         }
         // T12: now it is fired, and its clocks are reset.
@@ -260,16 +269,26 @@ fn reopen(chart: &ChartValue, mut monitor: MonitorValue) -> MonitorValue {
     monitor
 }
 
-fn drop_round(chart: &ChartValue, mut monitor: MonitorValue) -> (Answer, MonitorValue) {
+/// Drops the round; the monitor does not keep the cause.
+fn drop_round(
+    chart: &ChartValue,
+    mut monitor: MonitorValue,
+    cause: Cause,
+) -> (Answer, MonitorValue) {
     monitor.dropped += 1;
-    (Answer::Dropped, reopen(chart, monitor))
+    (Answer::Dropped(cause), reopen(chart, monitor))
 }
 
 /// T23. Fired regions and reset moments stay as they come here: T24 for reason 1, T25 for
 /// reason 2.
-fn break_round(mut monitor: MonitorValue, reason: Reason) -> (Answer, MonitorValue) {
-    let record = monitor.records;
-    monitor.break_record = record;
+fn break_round(mut monitor: MonitorValue, reason: Reason, cause: Cause) -> (Answer, MonitorValue) {
+    let known = Break {
+        record: monitor.records,
+        reason,
+        cause,
+    };
+    monitor.break_record = known.record;
     monitor.reason = reason.number();
-    (Answer::Broken(Break { record, reason }), monitor)
+    monitor.cause = cause;
+    (Answer::Broken(known), monitor)
 }

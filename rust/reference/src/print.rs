@@ -4,7 +4,7 @@ use crate::log::judge;
 use crate::reader::read_chart;
 
 /// The first line of a verdict (P8, X12).
-pub const HEADER: &str = "STANDING KEPT DROPPED RECORDS BREAK REASON";
+pub const HEADER: &str = "STANDING KEPT DROPPED RECORDS BREAK REASON REGION TERM";
 
 /// The text for an input (P1). Refusals are tried in the order of P2.
 pub fn respond(input: &[u8]) -> String {

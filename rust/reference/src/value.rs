@@ -72,11 +72,20 @@ pub enum Reason {
     ConditionFails = 2,
 }
 
+/// The condition that decided: its region and its first failing term, both from 1. Zeros where
+/// no condition did.
+#[derive(Clone, Copy, Debug, PartialEq, Eq)]
+pub struct Cause {
+    pub region: u8,
+    pub term: u8,
+}
+
 /// What a break stores (T23).
 #[derive(Clone, Copy, Debug, PartialEq, Eq)]
 pub struct Break {
     pub record: u32,
     pub reason: Reason,
+    pub cause: Cause,
 }
 
 /// What a monitor holds (T1, M9).
@@ -92,6 +101,8 @@ pub struct MonitorValue {
     pub break_record: u32,
     /// A reason's number, zero if none; an unfit monitor may have any.
     pub reason: u8,
+    /// Zeros unless a condition broke the round; an unfit monitor may have any.
+    pub cause: Cause,
 }
 
 /// A log's record.
@@ -101,13 +112,14 @@ pub enum RecordValue {
     Time(u32),
 }
 
-/// What feeding says: a refusal (M12), or an answer, in the order of T27.
+/// What feeding says: a refusal (M12), or an answer, in the order of T27. Only the answer tells
+/// why a round was dropped.
 #[derive(Clone, Copy, Debug, PartialEq, Eq)]
 pub enum Answer {
     Refused(u8),
     Broken(Break),
     Kept,
-    Dropped,
+    Dropped(Cause),
     Entered,
     Moved,
     Quiet,
@@ -166,10 +178,45 @@ impl Reason {
     }
 }
 
+impl Cause {
+    /// No condition decided.
+    pub const NONE: Cause = Cause { region: 0, term: 0 };
+
+    /// The cause for places that count from 0.
+    pub fn at(region: usize, term: usize) -> Cause {
+        Cause {
+            region: region as u8 + 1,
+            term: term as u8 + 1,
+        }
+    }
+
+    /// Whether it names one of the chart's regions and one of that region's terms.
+    pub fn is_of(&self, chart: &ChartValue) -> bool {
+        let regions = &chart.regions[..usize::from(chart.count)];
+        (1..)
+            .zip(regions)
+            .any(|(number, region)| number == self.region && region.has_term(self.term))
+    }
+}
+
 impl Break {
-    /// The break as T1 has it: both 0 while there is none.
-    pub fn numbers(broken: Option<Break>) -> (u32, u8) {
-        broken.map_or((0, 0), |known| (known.record, known.reason.number()))
+    /// The break as T1 has it, its reason as a number: zeros while there is none.
+    pub fn numbers(broken: Option<Break>) -> (u32, u8, Cause) {
+        match broken {
+            Some(known) => (known.record, known.reason.number(), known.cause),
+            None => (0, 0, Cause::NONE),
+        }
+    }
+}
+
+impl Answer {
+    /// The region and the term that the answer carries: zeros unless it is broken or dropped.
+    pub fn cause(&self) -> Cause {
+        match self {
+            Answer::Broken(known) => known.cause,
+            Answer::Dropped(cause) => *cause,
+            _ => Cause::NONE,
+        }
     }
 }
 
@@ -219,6 +266,11 @@ impl RegionValue {
     pub fn condition(&self) -> &[TermValue] {
         &self.terms[..usize::from(self.term_count)]
     }
+
+    /// Whether the region has a term of this number, from 1.
+    fn has_term(&self, number: u8) -> bool {
+        (1..=self.term_count).contains(&number)
+    }
 }
 
 impl ChartValue {
@@ -243,6 +295,7 @@ impl MonitorValue {
         dropped: 0,
         break_record: 0,
         reason: 0,
+        cause: Cause::NONE,
     };
 
     /// The break of a fit monitor.
@@ -250,6 +303,7 @@ impl MonitorValue {
         Reason::of(self.reason).map(|reason| Break {
             record: self.break_record,
             reason,
+            cause: self.cause,
         })
     }
 }

@@ -23,7 +23,7 @@ fn numbers(chart: &[u8], records: &[RecordValue]) -> String {
 fn chart_u() {
     assert_eq!(
         printed(&CHART_U, OVER_CHART_U[0].0),
-        "STANDING KEPT DROPPED RECORDS BREAK REASON\n0 1 0 3 0 0\n"
+        "STANDING KEPT DROPPED RECORDS BREAK REASON REGION TERM\n0 1 0 3 0 0 0 0\n"
     );
     let value = read_chart(&CHART_U).unwrap();
     for (records, expected) in OVER_CHART_U {
@@ -42,11 +42,13 @@ fn chart_u() {
             [monitor.kept, monitor.dropped, monitor.break_record],
             [end[1], end[2], end[4]]
         );
+        let Cause { region, term } = monitor.cause;
+        assert_eq!([u32::from(region), u32::from(term)], [end[6], end[7]]);
     }
     // Either order of the two that come back.
     assert_eq!(
         numbers(&CHART_U, &[undo(100), headings(101), references(140)]),
-        "0 1 0 3 0 0"
+        "0 1 0 3 0 0 0 0"
     );
 }
 
@@ -95,7 +97,7 @@ fn thirty_two_regions_are_read_and_a_33rd_refused() {
 
 #[test]
 fn the_latest_time_is_taken() {
-    assert_eq!(numbers(&CHART_U, &[undo(u32::MAX)]), "2 0 0 1 0 0");
+    assert_eq!(numbers(&CHART_U, &[undo(u32::MAX)]), "2 0 0 1 0 0 0 0");
     assert_eq!(
         numbers(
             &CHART_U,
@@ -105,7 +107,7 @@ fn the_latest_time_is_taken() {
                 references(u32::MAX)
             ]
         ),
-        "0 1 0 3 0 0"
+        "0 1 0 3 0 0 0 0"
     );
 }
 
@@ -116,9 +118,9 @@ fn a_then_b_then_c() {
         0x10, 2, 0, 0x20, 0, 1, 0, 1, 0x20, 0, 1, 0, 2, 0x50, 0x20, 1, 0, 0, 3, 0x7F,
     ];
     let (a, b) = (message(0, 1, 1, 1), message(0, 1, 2, 2));
-    assert_eq!(numbers(&chart, &[a, a, b]), "0 0 2 3 0 0");
-    assert_eq!(numbers(&chart, &[a]), "1 0 0 1 0 0");
-    assert_eq!(numbers(&chart, &[a, b]), "2 0 0 2 0 0");
+    assert_eq!(numbers(&chart, &[a, a, b]), "0 0 2 3 0 0 0 0");
+    assert_eq!(numbers(&chart, &[a]), "1 0 0 1 0 0 0 0");
+    assert_eq!(numbers(&chart, &[a, b]), "2 0 0 2 0 0 0 0");
 }
 
 /// Bytes that are refused: the fault that decides, and its offset.
@@ -233,7 +235,11 @@ fn the_exact_signed_difference() {
             message(0, 1, 2, 30),
             message(0, 1, 3, 77),
         ];
-        let expected = if holds { "0 1 0 3 0 0" } else { "0 0 1 3 0 0" };
+        let expected = if holds {
+            "0 1 0 3 0 0 0 0"
+        } else {
+            "0 0 1 3 0 0 0 0"
+        };
         assert_eq!(numbers(&bytes, &records), expected);
     }
 }
@@ -244,14 +250,14 @@ fn the_misreadings() {
     let own_reset = [
         0x10, 2, 1, 0x50, 0x20, 0, 1, 0, 1, 0x40, 1, 0x30, 0, 3, 0, 0, 0, 3, 0x7F,
     ];
-    assert_eq!(numbers(&own_reset, &[undo(3)]), "0 1 0 1 0 0");
-    assert_eq!(numbers(&own_reset, &[undo(2)]), "0 0 1 1 0 0");
+    assert_eq!(numbers(&own_reset, &[undo(3)]), "0 1 0 1 0 0 0 0");
+    assert_eq!(numbers(&own_reset, &[undo(2)]), "0 0 1 1 0 0 0 0");
     // T16: the plain region fires with undo, not with headings.
     let plain = [
         0x10, 2, 1, 0x50, 0x20, 0, 1, 0, 1, 0x40, 1, 0x21, 0, 1, 0x30, 0, 2, 0, 0, 0, 0, 0x20, 1,
         0, 0, 2, 0x7F,
     ];
-    assert_eq!(numbers(&plain, &[undo(5), headings(9)]), "0 1 0 2 0 0");
+    assert_eq!(numbers(&plain, &[undo(5), headings(9)]), "0 1 0 2 0 0 0 0");
     // O4: 0-1 and 2-3 are ordered by way of 1-2.
     let through = [
         0x10, 4, 0, 0x50, 0x20, 0, 1, 0, 1, 0x20, 1, 2, 0, 2, 0x20, 2, 3, 0, 3, 0x7F,
@@ -259,8 +265,11 @@ fn the_misreadings() {
     let value = read_chart(&through).unwrap();
     let order = monitor::Order::of(&value);
     assert!(order.is_above(0, 2) && !order.is_above(2, 0));
-    assert_eq!(numbers(&through, &[references(1)]), "3 0 0 1 1 1");
-    assert_eq!(numbers(&through, &[undo(1), references(2)]), "3 0 0 2 2 1");
+    assert_eq!(numbers(&through, &[references(1)]), "3 0 0 1 1 1 0 0");
+    assert_eq!(
+        numbers(&through, &[undo(1), references(2)]),
+        "3 0 0 2 2 1 0 0"
+    );
 }
 
 #[test]
@@ -275,6 +284,7 @@ fn a_break_keeps_what_stood_before() {
     let broken = Answer::Broken(Break {
         record: 1,
         reason: Reason::ConditionFails,
+        cause: Cause { region: 2, term: 1 },
     });
     assert_eq!(answer, broken);
     assert_eq!((after.fired, after.resets[0], after.resets[1]), (1, 6, 0));
@@ -289,6 +299,7 @@ fn a_break_keeps_what_stood_before() {
     let unbroken = MonitorValue {
         break_record: 0,
         reason: 0,
+        cause: Cause::NONE,
         ..after
     };
     assert!(!monitor::is_fit(&chart, &unbroken));
@@ -344,7 +355,7 @@ fn the_program_s_input() {
     let records = (65_536 - 40) / 5;
     assert_eq!(
         respond(&input),
-        format!("STANDING KEPT DROPPED RECORDS BREAK REASON\n0 0 0 {records} 0 0\n")
+        format!("{HEADER}\n0 0 0 {records} 0 0 0 0\n")
     );
     input.resize(65_536, 2);
     assert_eq!(

@@ -1,6 +1,8 @@
 -- Each claim, by the work that proves it; the examples by computation. Assumes nothing.
 use mathlib.Core.Path.{refl}
+use Rattle.condition.proofs.Failing.{tells}
 use Rattle.condition.proofs.Table.{table-rule}
+use Rattle.chart_value.specs.View.{regionOf}
 use Rattle.chart_value.proofs.Shown.{shown, codes-tell}
 use Rattle.chart_value.proofs.Guards.{never-fire}
 use Rattle.monitor.proofs.History.{view-tells}
@@ -20,6 +22,7 @@ returns c =
       shown = shown;
       codes-tell = codes-tell;
       relations = table-rule;
+      which-term = λ c i value k. tells (regionOf c i) value k;
       guards = never-fire;
       demands = demands-read;
       judged = judged-walk;
@@ -33,6 +36,7 @@ returns c =
         dropped = refl;
         break = refl;
         reason = refl;
+        cause = refl;
       };
       steps = λ r. (refl, refl);
       view-tells = view-tells;

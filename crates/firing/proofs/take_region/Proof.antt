@@ -27,8 +27,8 @@ abbrev μ-loop : tie.MeasureT-loop
 loop-holds : tie.Need-loop-holds Inv-loop μ-loop
 loop-holds c = (way-starts (c .pre .1 .0), c .pre .1 .1)
 
-holds-requires : tie.Need-holds-requires Inv-loop μ-loop
-holds-requires c κs =
+failing-requires : tie.Need-failing-requires Inv-loop μ-loop
+failing-requires c κs =
     let K = c .before .before .pre .0 in
     let W = c .before .loop .inv in
     (omega (arith, K .regions, W .0 .ready .region), W .1)
@@ -38,8 +38,8 @@ unfolding values
 returns c =
     let W = c .before .before .before .loop in
     let K = c .before .before .before .before .pre .0 in (
-      way-fails (W .inv .0) (c .before .holds .ensures _ (testable K)) (c .if1 .taken),
-      λ j e. let q : W .k ≡ j = cc in omega (arith, K .regions, W .inv .0 .ready .region),
+      way-fails (W .inv .0) (c .before .failing .ensures _ (testable K)) (c .if1 .taken),
+      λ j term e. let q : W .k ≡ j = cc in omega (arith, K .regions, W .inv .0 .ready .region),
     )
 
 fire-requires : tie.Need-fire-requires Inv-loop μ-loop
@@ -66,9 +66,9 @@ returns-2 c =
     let f = found-plain K (F .fire .result .fired) _ (c .enum-told .given .1)
     (c .before .before .ready-plain .ensures _ (K .within)) in (
       way-rests (c .before .before .before .before .before .before .before .loop .inv .0)
-          (c .before .before .before .before .before .holds .ensures _ (testable K))
+          (c .before .before .before .before .before .failing .ensures _ (testable K))
           (c .before .before .before .before .if1 .left) (F .fire .ensures) f,
-      λ j e. absurd (let z : _≡_ {A = ℕ} 0 1 = cc in omega arith),
+      λ j term e. absurd (let z : _≡_ {A = ℕ} 0 1 = cc in omega arith),
     )
 
 loop-less : tie.Need-loop-less Inv-loop μ-loop
@@ -76,7 +76,7 @@ unfolding values fire
 loop-less c =
     let T = testable (c .before .before .before .before .before .before .before .before .before .pre .0) in
     way-less (c .before .before .before .before .before .before .before .before .loop .inv .0)
-    (c .before .before .before .before .before .before .holds .ensures _ T)
+    (c .before .before .before .before .before .before .failing .ensures _ T)
     (c .before .before .before .before .before .if1 .left) (c .before .before .before .before .fire .ensures)
 
 loop-again : tie.Need-loop-again Inv-loop μ-loop
@@ -87,7 +87,7 @@ loop-again c =
     let K = c .before .before .before .before .before .before .before .before .before .pre .0 in
     let f = found-plain K (F .fire .result .fired) _ (c .before .f .given .1)
     (c .before .before .before .ready-plain .ensures _ (K .within)) in (
-      way-on (W .inv .0) (c .before .before .before .before .before .before .holds .ensures _ (testable K))
+      way-on (W .inv .0) (c .before .before .before .before .before .before .failing .ensures _ (testable K))
           (c .before .before .before .before .before .if1 .left) (F .fire .ensures) (K .accepted) f,
       fired-early (c .before .before .before .before .before .before .before .before .before .args .resets .now) _
           (W .q) (F .fire .result) (W .k) (F .fire .ensures) (W .inv .1),
@@ -100,7 +100,7 @@ take-region-spec =
     Inv-loop
     μ-loop
     loop-holds
-    holds-requires
+    failing-requires
     returns
     fire-requires
     ready-plain-requires

@@ -22,11 +22,11 @@ enum-known-report-2 c = search needs
 part-number-requires : tie.Need-part-number-requires
 part-number-requires c κs = search needs
 
-cast-put-six : tie.Need-cast-put-six
-cast-put-six c = search needs
+cast-put-eight : tie.Need-cast-put-eight
+cast-put-eight c = search needs
 
-put-six-requires : tie.Need-put-six-requires
-put-six-requires c κs = search needs
+put-eight-requires : tie.Need-put-eight-requires
+put-eight-requires c κs = search needs
 
 same-length : tie.Need-same-length
 same-length c = search needs
@@ -47,7 +47,7 @@ returns-2 c = let g = c .before .before .before .before .before .before .report2
     put-refusal (c .before .before .before .before .before .before .before .before .before .args .report)
     (c .before .before .before .before .before .before .before .before .before .args .out .now) (g .0 .0)
     (g .0 .1 .0) (g .0 .1 .1 .0) _ (g .1) (c .before .before .before .part-number .ensures)
-    (c .before .before .put-six .ensures)
+    (c .before .before .put-eight .ensures)
 
 pub put-report-spec : {M : Type 1} → statement M
 put-report-spec =
@@ -57,8 +57,8 @@ put-report-spec =
     put-verdict-requires
     enum-known-report-2
     part-number-requires
-    cast-put-six
-    put-six-requires
+    cast-put-eight
+    put-eight-requires
     same-length
     returns
     same-length-2

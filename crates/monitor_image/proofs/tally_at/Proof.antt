@@ -6,11 +6,17 @@ use Rattle.monitor_image.proofs.tally_at.Tie as tie
 moment-at-requires : tie.Need-moment-at-requires
 moment-at-requires c κs = search needs
 
+byte-at-requires : tie.Need-byte-at-requires
+byte-at-requires c κs = search needs
+
+byte-at-requires-2 : tie.Need-byte-at-requires-2
+byte-at-requires-2 c κs = search needs
+
 word32-at-requires : tie.Need-word32-at-requires
 word32-at-requires c κs = search needs
 
-byte-at-requires : tie.Need-byte-at-requires
-byte-at-requires c κs = search needs
+byte-at-requires-3 : tie.Need-byte-at-requires-3
+byte-at-requires-3 c κs = search needs
 
 word32-at-requires-2 : tie.Need-word32-at-requires-2
 word32-at-requires-2 c κs = search needs
@@ -27,9 +33,11 @@ returns c =
       c .word32-at4 .ensures .0,
       c .before .word32-at3 .ensures .0,
       c .before .before .word32-at2 .ensures .0,
-      c .before .before .before .byte-at .ensures .0,
+      c .before .before .before .byte-at3 .ensures .0,
       c .before .before .before .before .word32-at .ensures .0,
-      c .before .before .before .before .before .moment-at .ensures,
+      c .before .before .before .before .before .byte-at2 .ensures .0,
+      c .before .before .before .before .before .before .byte-at .ensures .0,
+      c .before .before .before .before .before .before .before .moment-at .ensures,
     )
 
 pub tally-at-spec : {M : Type 1} → statement M
@@ -37,8 +45,10 @@ tally-at-spec =
     tie.close
     (tie.spec
     moment-at-requires
-    word32-at-requires
     byte-at-requires
+    byte-at-requires-2
+    word32-at-requires
+    byte-at-requires-3
     word32-at-requires-2
     word32-at-requires-3
     word32-at-requires-4

@@ -9,12 +9,17 @@ use Rattle.stepping.proofs.conclude.Tie as tie
 enum-known-rest : tie.Need-enum-known-rest
 enum-known-rest c = search needs
 
+cause-of-requires : tie.Need-cause-of-requires
+cause-of-requires c κs = c .before .before .before .before .before .pre .1 .1 _ _ (c .before .rest .given .1)
+
 cast-member : tie.Need-cast-member
-cast-member c = let l = c .before .before .before .before .before .pre .1 .1 _ (c .before .rest .given .1) in
+cast-member c =
+    let l = c .before .before .before .before .before .before .pre .1 .1 _ _ (c .before .before .rest .given .1) in
     omega arith
 
 member-requires : tie.Need-member-requires
-member-requires c κs = c .before .before .before .before .before .pre .1 .1 _ (c .before .rest .given .1)
+member-requires c κs =
+    c .before .before .before .before .before .before .pre .1 .1 _ _ (c .before .before .rest .given .1)
 
 break-round-requires : tie.Need-break-round-requires
 break-round-requires c κs = search needs
@@ -23,9 +28,10 @@ returns : tie.Need-returns
 unfolding conclude
 returns c = λ keys above resets terms code.
     rw (
-      c .before .before .before .before .rest .given .1,
+      c .before .before .before .before .before .rest .given .1,
       sym (c .before .before .member .ensures)
           ∙ c .before .if1 .taken,
+      ← c .before .before .before .cause-of .ensures,
     ) (c .break-round .ensures _ code)
 
 drop-round-requires : tie.Need-drop-round-requires
@@ -66,9 +72,10 @@ returns-3 : tie.Need-returns-3
 unfolding conclude
 returns-3 c = λ keys above resets terms code.
     rw (
-      c .before .before .before .before .rest .given .1,
+      c .before .before .before .before .before .rest .given .1,
       sym (c .before .before .member .ensures)
           ∙ c .before .if1 .left,
+      ← c .before .before .before .cause-of .ensures,
     ) (c .drop-round .ensures _ code refl)
 
 returns-4 : tie.Need-returns-4
@@ -89,6 +96,7 @@ conclude-spec =
     tie.close
     (tie.spec
     enum-known-rest
+    cause-of-requires
     cast-member
     member-requires
     break-round-requires

@@ -9,7 +9,7 @@ use Rattle.stepping.proofs.feed_fit.Tie as tie
 
 returns : tie.Need-returns
 unfolding feed
-returns c = (rw (ne-eqb _ _ (c .if1 .taken)), same-back _ _ refl)
+returns c = (rw (ne-eqb _ _ (c .before .if1 .taken)), same-back _ _ refl)
 
 returns-2 : tie.Need-returns-2
 unfolding feed
@@ -28,7 +28,7 @@ returns-3 c = (
 
 accept-requires : tie.Need-accept-requires
 accept-requires c κs =
-    let P = c .before .before .before .before .before .before .before .before .pre in
+    let P = c .before .before .before .before .before .before .before .before .before .pre in
     let F = P .1 .0 in (
       P .0,
       (

@@ -97,6 +97,18 @@ fn put(chart: &ChartValue, region: &RegionValue, bit: u32, on_line: &mut OnLine)
     }
 }
 
+/// Whether region and term are the chart's after a failed condition, and zeros otherwise.
+fn cause_fits(chart: &ChartValue, monitor: &MonitorValue) -> bool {
+    let Cause { region, term } = monitor.cause;
+    if monitor.reason != Reason::ConditionFails.number() {
+        return region | term == 0;
+    }
+    if region == 0 || region > chart.count {
+        return false;
+    }
+    term != 0 && term <= chart.regions[usize::from(region - 1)].term_count
+}
+
 impl Masks {
     /// The masks of a chart value; none for refusal 20 (M4).
     pub fn of(chart: &ChartValue) -> Option<Masks> {
@@ -158,9 +170,12 @@ impl Masks {
         None
     }
 
-    /// Refusal 21's test.
-    pub fn is_fit(&self, monitor: &MonitorValue) -> bool {
-        self.fired_fit(monitor.fired) && self.resets_fit(monitor) && self.break_fits(monitor)
+    /// Refusal 21's test, for the chart of these masks.
+    pub fn is_fit(&self, chart: &ChartValue, monitor: &MonitorValue) -> bool {
+        self.fired_fit(monitor.fired)
+            && self.resets_fit(monitor)
+            && self.break_fits(monitor)
+            && cause_fits(chart, monitor)
     }
 
     /// Whether the fired regions are the chart's, closed upwards and not all.

@@ -33,7 +33,7 @@ pub fn feed(
     let Some(masks) = Masks::of(chart) else {
         return (Answer::Refused(20), monitor);
     };
-    if !masks.is_fit(&monitor) {
+    if !masks.is_fit(chart, &monitor) {
         return (Answer::Refused(21), monitor);
     }
     if let Some(answer) = not_taken(&monitor, &record) {

@@ -4,7 +4,7 @@ use super::keys::{key_of, Keys};
 use super::log::check_log;
 use super::masks::Masks;
 use super::state::{Moments, State};
-use super::steps::{take, Regions};
+use super::steps::{first_failing, take, Regions};
 use super::term::PackedTerm;
 use lsc_reference::log::Verdict;
 use lsc_reference::value::*;
@@ -24,9 +24,12 @@ pub struct Plan {
 impl Regions for Plan {
     #[inline]
     fn holds(&self, place: usize, moments: &Moments) -> bool {
-        let from = usize::from(self.first_term[place]);
-        let to = usize::from(self.first_term[place + 1]);
-        self.terms[from..to].iter().all(|term| term.holds(moments))
+        let mut terms = self.terms_of(place).iter();
+        terms.all(|term| term.holds(moments))
+    }
+
+    fn failing_term(&self, place: usize, moments: &Moments) -> usize {
+        first_failing(self.terms_of(place).iter().copied(), moments)
     }
 
     #[inline]
@@ -93,6 +96,14 @@ impl Plan {
             plan.first_term[place + 1] = terms as u8;
         }
         Some(plan)
+    }
+
+    /// The terms of the region at `place`.
+    #[inline]
+    fn terms_of(&self, place: usize) -> &[PackedTerm] {
+        let from = usize::from(self.first_term[place]);
+        let to = usize::from(self.first_term[place + 1]);
+        &self.terms[from..to]
     }
 
     /// Takes a record that is neither refused nor after a break.

@@ -50,7 +50,7 @@ impl State {
     pub fn to_value(&self) -> MonitorValue {
         let mut resets = [0; MAX_CLOCKS];
         resets.copy_from_slice(&self.moments[..NOW]);
-        let (break_record, reason) = Break::numbers(self.broken);
+        let (break_record, reason, cause) = Break::numbers(self.broken);
         MonitorValue {
             fired: self.fired,
             resets,
@@ -60,6 +60,7 @@ impl State {
             dropped: self.dropped,
             break_record,
             reason,
+            cause,
         }
     }
 
@@ -88,15 +89,18 @@ impl State {
         self.moments[..usize::from(masks.clocks)].fill(now);
     }
 
-    pub(super) fn drop_round(&mut self, masks: &Masks) -> Answer {
+    pub(super) fn drop_round(&mut self, masks: &Masks, cause: Cause) -> Answer {
         self.dropped += 1;
         self.reopen(masks);
-        Answer::Dropped
+        Answer::Dropped(cause)
     }
 
-    pub(super) fn break_round(&mut self, reason: Reason) -> Answer {
-        let record = self.records;
-        let known = Break { record, reason };
+    pub(super) fn break_round(&mut self, reason: Reason, cause: Cause) -> Answer {
+        let known = Break {
+            record: self.records,
+            reason,
+            cause,
+        };
         self.broken = Some(known);
         Answer::Broken(known)
     }

@@ -9,6 +9,8 @@ use lsc_reference::value::*;
 pub trait Regions {
     /// Whether the region's condition holds at these moments.
     fn holds(&self, place: usize, moments: &Moments) -> bool;
+    /// The place of the first failing term in a condition that does not hold.
+    fn failing_term(&self, place: usize, moments: &Moments) -> usize;
     fn is_hot(&self, place: usize) -> bool;
     fn resets(&self, place: usize) -> u8;
     /// The plain regions that firing this one may make ready.
@@ -39,6 +41,11 @@ impl Regions for Raw<'_> {
             .all(|term| PackedTerm::of(term).holds(moments))
     }
 
+    fn failing_term(&self, place: usize, moments: &Moments) -> usize {
+        let terms = self.chart.regions[place].condition();
+        first_failing(terms.iter().map(PackedTerm::of), moments)
+    }
+
     fn is_hot(&self, place: usize) -> bool {
         self.chart.regions[place].hot
     }
@@ -52,25 +59,37 @@ impl Regions for Raw<'_> {
     }
 }
 
+/// How many terms hold before one fails.
+pub fn first_failing(terms: impl Iterator<Item = PackedTerm>, moments: &Moments) -> usize {
+    terms.take_while(|term| term.holds(moments)).count()
+}
+
+/// Which condition decides. It is asked only where one fails: tests that hold cost nothing more.
+#[cold]
+fn cause<R: Regions>(regions: &R, place: usize, moments: &Moments) -> Cause {
+    Cause::at(place, regions.failing_term(place, moments))
+}
+
 /// Steps 3 to 7 for a counted chart message carried by `carriers`.
 #[inline]
 pub fn take<R: Regions>(regions: &R, masks: &Masks, state: &mut State, carriers: u32) -> Answer {
     let before = state.fired;
     let Some(first) = masks.lowest_ready(before, carriers & !before) else {
         return if masks.prechart & !before != 0 {
-            state.drop_round(masks)
+            state.drop_round(masks, Cause::NONE)
         } else {
-            state.break_round(Reason::NoReadyRegion)
+            state.break_round(Reason::NoReadyRegion, Cause::NONE)
         };
     };
     let mut place = first;
     let mut waiting = 0;
     loop {
         if !regions.holds(place, &state.moments) {
+            let cause = cause(regions, place, &state.moments);
             return if regions.is_hot(place) {
-                state.break_round(Reason::ConditionFails)
+                state.break_round(Reason::ConditionFails, cause)
             } else {
-                state.drop_round(masks)
+                state.drop_round(masks, cause)
             };
         }
         state.fired |= 1 << place;

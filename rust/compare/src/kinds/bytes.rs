@@ -1,6 +1,6 @@
 //! Live bytes of any kind, damaged ones too: 20 and 21, and nothing changed by a refusal.
 
-use super::live::{check_standing, feed_live, standing_numbers};
+use super::live::{check_standing, check_why, feed_live, standing_numbers};
 use super::number;
 use crate::difference::{same, Both, Hex};
 use crate::image::{live_bytes, Image, LIVE_HEAD, MONITOR_IMAGE};
@@ -67,18 +67,22 @@ pub fn compare(before: &[u8], record: &[u8], seen: &mut Seen) -> Result<(), Both
     same("taking up bytes", refused, standing.err())?;
 
     let mut wanted = before.to_vec();
-    let answer = match held {
+    let answer = match &held {
         None => Answer::Refused(20),
         Some((_, chart, monitor)) => {
-            let (answer, after) = feed(&chart, monitor, record);
+            let (answer, after) = feed(chart, *monitor, record);
             wanted[..MONITOR_IMAGE].copy_from_slice(&after.to_image());
             answer
         }
     };
+    check_why(before, &record, &answer, &wanted)?;
     let mut live = before.to_vec();
     let said = feed_live(&mut live, &record);
     let wanted = (number(&answer), Hex(&wanted));
     same("feeding", (said, Hex(&live)), wanted)?;
-    seen.answer(&answer);
+    match &held {
+        None => seen.told(false, &answer),
+        Some((_, chart, monitor)) => seen.fed(chart, monitor, &answer),
+    }
     Ok(())
 }

@@ -1,7 +1,7 @@
 //! The live functions: a chart opened, records fed one by one, the standing asked after
 //! each; against the reference's monitor, field by field as an image.
 
-use super::{filled, filled_places, number, BEYOND};
+use super::{filled, filled_places, number, BEYOND, PLACES};
 use crate::difference::{same, Both, Hex};
 use crate::image::{live_bytes, Image, LIVE_HEAD, MONITOR_IMAGE};
 use crate::random::{self, Rng};
@@ -11,6 +11,9 @@ use lsc_reference::log::{verdict, write_log};
 use lsc_reference::monitor::feed;
 use lsc_reference::reader::read_chart;
 use lsc_reference::value::*;
+
+/// What the safe wrapper says to a record.
+type Told = Result<lsc::Answer, FeedRefusal>;
 
 pub fn make(rng: &mut Rng) -> (Vec<u8>, Vec<u8>) {
     if rng.chance(25) {
@@ -41,15 +44,75 @@ pub fn feed_live(live: &mut [u8], record: &RecordValue) -> u8 {
     }
 }
 
-/// Feeds a record through the safe wrapper; the answer's number.
-fn feed_safe(monitor: &mut LiveMonitor, record: &RecordValue) -> (u8, Option<(u32, u8)>) {
-    let answer = match *record {
+/// Feeds a message and asks why: the answer, the region and the term, which held something else
+/// before.
+pub fn feed_why(live: &mut [u8], m: Message, time: u32) -> (u8, u64, u64) {
+    let (mut region, mut term) = (77, 78);
+    let answer = call::feed_message_why(
+        live,
+        m.source,
+        m.destination,
+        m.label,
+        time,
+        &mut region,
+        &mut term,
+    );
+    (answer, region, term)
+}
+
+/// The answer's number, its region and its term.
+pub fn why(answer: &Answer) -> (u8, u64, u64) {
+    let Cause { region, term } = answer.cause();
+    (number(answer), region.into(), term.into())
+}
+
+/// `lsc_feed_message_why` on a copy of live bytes: the same answer and bytes, and the cause.
+pub fn check_why(
+    before: &[u8],
+    record: &RecordValue,
+    answer: &Answer,
+    after: &[u8],
+) -> Result<(), Both> {
+    let RecordValue::Message { message, time } = *record else {
+        return Ok(());
+    };
+    let mut live = before.to_vec();
+    let said = feed_why(&mut live, message, time);
+    let wanted = (why(answer), Hex(after));
+    same("feeding and asking why", (said, Hex(&live)), wanted)
+}
+
+/// The same through the safe wrapper, which `told` the answer alone.
+fn check_safe_why(
+    mut monitor: LiveMonitor,
+    record: &RecordValue,
+    answer: &Answer,
+    told: Told,
+    after: &LiveMonitor,
+) -> Result<(), Both> {
+    let RecordValue::Message { message: m, time } = *record else {
+        return Ok(());
+    };
+    let said = monitor.feed_message_why(m.source, m.destination, m.label, time);
+    let Cause { region, term } = answer.cause();
+    let cause = (region != 0).then_some(lsc::Cause { region, term });
+    let wanted = (told.map(|answer| (answer, cause)), after);
+    same("the safe cause", (said, &monitor), wanted)
+}
+
+/// Feeds a record through the safe wrapper.
+fn feed_safe(monitor: &mut LiveMonitor, record: &RecordValue) -> Told {
+    match *record {
         RecordValue::Time(time) => monitor.feed_time(time),
         RecordValue::Message { message: m, time } => {
             monitor.feed_message(m.source, m.destination, m.label, time)
         }
-    };
-    match answer {
+    }
+}
+
+/// The number of what the wrapper told, and the break.
+fn safe_number(told: Told) -> (u8, Option<(u32, u8)>) {
+    match told {
         Err(refusal) => (refusal.number(), None),
         Ok(lsc::Answer::Broken { record, reason }) => (1, Some((record, reason.number()))),
         Ok(lsc::Answer::Kept) => (2, None),
@@ -60,22 +123,22 @@ fn feed_safe(monitor: &mut LiveMonitor, record: &RecordValue) -> (u8, Option<(u3
     }
 }
 
-/// The six numbers of a fit monitor.
-pub fn standing_numbers(chart: &ChartValue, monitor: &MonitorValue) -> [u64; 6] {
+/// The eight numbers of a fit monitor.
+pub fn standing_numbers(chart: &ChartValue, monitor: &MonitorValue) -> [u64; PLACES] {
     verdict(chart, monitor).numbers().map(u64::from)
 }
 
-/// `lsc_standing` on live bytes: the six numbers or the refusal, and the places beyond.
+/// `lsc_standing` on live bytes: the eight numbers or the refusal, and the places beyond.
 pub fn check_standing(
     live: &[u8],
-    expected: Result<[u64; 6], u8>,
+    expected: Result<[u64; PLACES], u8>,
     seen: &mut Seen,
 ) -> Result<(), Both> {
-    let mut out = filled_places(8);
+    let mut out = filled_places(PLACES + BEYOND);
     let answer = call::standing(live, &mut out);
-    let mut wanted = filled_places(8);
+    let mut wanted = filled_places(PLACES + BEYOND);
     if let Ok(numbers) = expected {
-        wanted[..6].copy_from_slice(&numbers);
+        wanted[..PLACES].copy_from_slice(&numbers);
     }
     let number = expected.err().unwrap_or(0);
     same("standing", (answer, out), (number, wanted))?;
@@ -85,7 +148,7 @@ pub fn check_standing(
     }
     // The bytes are looked at first: 20 and 21 go before 12.
     let number = expected.err().unwrap_or(12);
-    for places in [0, 5] {
+    for places in [0, 6, PLACES - 1] {
         let mut out = filled_places(places);
         let answer = call::standing(live, &mut out);
         let wanted = filled_places(places);
@@ -141,21 +204,26 @@ pub fn compare(chart: &[u8], log: &[u8], seen: &mut Seen) -> Result<(), Both> {
         let (answer, after) = feed(&value, monitor, record);
         let mut wanted = live_bytes(chart, &after);
         wanted.extend(&live[wanted.len()..]);
+        let before = live.clone();
         let said = feed_live(&mut live, &record);
         let fields = MonitorValue::from_image(&live[..MONITOR_IMAGE]);
         same("feeding", (said, fields), (number(&answer), Some(after)))?;
         same("bytes after feeding", Hex(&live), Hex(&wanted))?;
-        seen.answer(&answer);
+        check_why(&before, &record, &answer, &wanted)?;
+        seen.fed(&value, &monitor, &answer);
         let numbers = standing_numbers(&value, &after);
         check_standing(&live, Ok(numbers), seen)?;
 
-        let (said, broken) = feed_safe(&mut safe, &record);
+        let twin = safe.clone();
+        let told = feed_safe(&mut safe, &record);
+        let (said, broken) = safe_number(told);
         let wanted = (number(&answer), Hex(&live[..LIVE_HEAD + chart.len()]));
         same("the safe feed", (said, Hex(safe.as_bytes())), wanted)?;
         if let Answer::Broken(known) = answer {
             let wanted = (known.record, known.reason.number());
             same("the safe break", broken, Some(wanted))?;
         }
+        check_safe_why(twin, &record, &answer, told, &safe)?;
         let words: Vec<String> = numbers.iter().map(u64::to_string).collect();
         let text = safe.standing().to_string();
         same("the safe standing", text, words.join(" "))?;

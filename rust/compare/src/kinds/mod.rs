@@ -103,7 +103,10 @@ impl Kind {
     }
 }
 
-/// Bytes after the part of a buffer that a function may write.
+/// The places of a verdict.
+const PLACES: usize = 8;
+
+/// Bytes, or places, after the part of a buffer that a function may write.
 const BEYOND: usize = 5;
 
 /// A buffer with contents that are easy to miss if changed.
@@ -124,7 +127,7 @@ pub fn number(answer: &Answer) -> u8 {
         Answer::Refused(number) => *number,
         Answer::Broken(_) => 1,
         Answer::Kept => 2,
-        Answer::Dropped => 3,
+        Answer::Dropped(_) => 3,
         Answer::Entered => 4,
         Answer::Moved => 5,
         Answer::Quiet => 6,

@@ -8,7 +8,7 @@ use lsc::call;
 use lsc_reference::print::respond;
 
 /// The bytes that `lsc_print` wants for any text.
-pub const ROOM: usize = 169;
+pub const ROOM: usize = 223;
 
 pub fn make(rng: &mut Rng) -> (Vec<u8>, Vec<u8>) {
     (Vec::new(), hostile_input(rng))
@@ -28,7 +28,7 @@ pub fn compare(_: &[u8], input: &[u8], seen: &mut Seen) -> Result<(), Both> {
         same("all bytes", Hex(&out), Hex(&after))?;
     }
     seen.printed(&text);
-    for room in [0, 43, ROOM - 1] {
+    for room in [0, 55, ROOM - 1] {
         let (mut out, mut written) = (filled(room), 77);
         let answer = call::print(input, &mut out, &mut written);
         let wanted = (12, 0, Hex(&filled(room)));

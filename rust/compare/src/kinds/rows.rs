@@ -1,7 +1,7 @@
 //! Small charts against the declared meaning: every row of regions is tried, no step of the
 //! monitor is used.
 
-use super::live::{feed_live, records};
+use super::live::{feed_why, records, why};
 use super::number;
 use crate::charts;
 use crate::difference::{same, Both, Hex};
@@ -39,18 +39,23 @@ pub fn compare(chart: &[u8], log: &[u8], seen: &mut Seen) -> Result<(), Both> {
     let meaning = Rows::of(&value).meaning(&feeds);
     let mut live = vec![0; LIVE_HEAD + chart.len()];
     call::open(chart, &mut live, &mut 0);
-    let said: Vec<u8> = feeds
-        .iter()
-        .map(|record| feed_live(&mut live, record))
-        .collect();
-    let wanted: Vec<u8> = meaning.answers.iter().map(number).collect();
-    same("answers", said, wanted)?;
+    let mut again = false;
+    for (record, answer) in feeds.iter().zip(&meaning.answers) {
+        match *record {
+            RecordValue::Message { message, time } => {
+                let said = feed_why(&mut live, message, time);
+                same("an answer and why", said, why(answer))?;
+            }
+            RecordValue::Time(time) => {
+                let said = call::feed_time(&mut live, time);
+                same("an answer", said, number(answer))?;
+            }
+        }
+        seen.told(again, answer);
+        again |= matches!(answer, Answer::Broken(_));
+    }
     let monitor = MonitorValue::from_image(&live[..MONITOR_IMAGE]);
     same("the monitor after", monitor, Some(meaning.monitor()))?;
     let wanted = live_bytes(chart, &meaning.monitor());
-    same("live bytes", Hex(&live), Hex(&wanted))?;
-    for answer in &meaning.answers {
-        seen.answer(answer);
-    }
-    Ok(())
+    same("live bytes", Hex(&live), Hex(&wanted))
 }

@@ -91,9 +91,10 @@ fn check_feed(
     let Some(value) = MonitorValue::from_image(before) else {
         return Ok(());
     };
-    let (answer, after) = match ChartValue::from_image(image) {
+    let chart = ChartValue::from_image(image);
+    let (answer, after) = match &chart {
         None => (Answer::Refused(20), value),
-        Some(chart) => feed(&chart, value, record),
+        Some(chart) => feed(chart, value, record),
     };
     let mut wanted = after.to_image().to_vec();
     wanted.extend(filled(BEYOND));
@@ -103,6 +104,9 @@ fn check_feed(
     let fields = MonitorValue::from_image(&monitor[..MONITOR_IMAGE]);
     same("feeding", (said, fields), (number(&answer), Some(after)))?;
     same("bytes after feeding", Hex(&monitor), Hex(&wanted))?;
-    seen.answer(&answer);
+    match &chart {
+        None => seen.told(false, &answer),
+        Some(chart) => seen.fed(chart, &value, &answer),
+    }
     Ok(())
 }

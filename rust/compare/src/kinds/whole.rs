@@ -1,6 +1,6 @@
 //! Whole logs: `lsc_judge` and the safe `judge` against the reference's.
 
-use super::filled_places;
+use super::{filled_places, BEYOND, PLACES};
 use crate::difference::{same, Both};
 use crate::random::{self, Rng, Size};
 use crate::seen::Seen;
@@ -30,23 +30,27 @@ fn some_log(rng: &mut Rng, chart: &ChartValue, size: Size) -> Vec<u8> {
     log::write_log(&random::records(rng, chart, count))
 }
 
-/// The number and the six places that the reference gives.
-pub fn expected(chart: &[u8], bytes: &[u8]) -> (u8, [u64; 6]) {
+/// The number and the eight places that the reference gives.
+pub fn expected(chart: &[u8], bytes: &[u8]) -> (u8, [u64; PLACES]) {
     let (part, result) = match read_chart(chart) {
         Err(fault) => (1, Err(fault)),
         Ok(chart) => (2, log::judge(&chart, bytes)),
     };
     match result {
-        Err((number, offset)) => (number, [part, number.into(), offset as u64, 0, 0, 0]),
+        Err((number, offset)) => {
+            let mut places = [0; PLACES];
+            places[..3].copy_from_slice(&[part, number.into(), offset as u64]);
+            (number, places)
+        }
         Ok(verdict) => (0, verdict.numbers().map(u64::from)),
     }
 }
 
 pub fn compare(chart: &[u8], log: &[u8], seen: &mut Seen) -> Result<(), Both> {
     let (number, numbers) = expected(chart, log);
-    let mut after = filled_places(8);
-    after[..6].copy_from_slice(&numbers);
-    let mut out = filled_places(8);
+    let mut after = filled_places(PLACES + BEYOND);
+    after[..PLACES].copy_from_slice(&numbers);
+    let mut out = filled_places(PLACES + BEYOND);
     let answer = call::judge(chart, log, &mut out);
     same("verdict and places", (answer, out), (number, after))?;
     let records = log::read_log(log).map_or(MAX_RECORDS + 1, |records| records.len() as u32);
@@ -56,7 +60,7 @@ pub fn compare(chart: &[u8], log: &[u8], seen: &mut Seen) -> Result<(), Both> {
     } else {
         seen.refusal(number);
     }
-    for places in [0, 5] {
+    for places in [0, 6, PLACES - 1] {
         let mut out = filled_places(places);
         let answer = call::judge(chart, log, &mut out);
         same("a short out", (answer, out), (12, filled_places(places)))?;
@@ -67,7 +71,7 @@ pub fn compare(chart: &[u8], log: &[u8], seen: &mut Seen) -> Result<(), Both> {
         Err(refusal) => {
             let part = if refusal.part == Part::Chart { 1 } else { 2 };
             let number = refusal.number;
-            format!("{number} {part} {number} {} 0 0 0", refusal.offset)
+            format!("{number} {part} {number} {} 0 0 0 0 0", refusal.offset)
         }
     };
     let words: Vec<String> = numbers.iter().map(u64::to_string).collect();

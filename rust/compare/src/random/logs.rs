@@ -83,7 +83,7 @@ fn awaited_message(
         record = message_of(&chart.regions[place], time);
         let mut tried = *state;
         let answer = plan.take_record(&mut tried, record.as_ref()?);
-        if !matches!(answer, Answer::Dropped | Answer::Broken(_)) || rng.chance(5) {
+        if !matches!(answer, Answer::Dropped(_) | Answer::Broken(_)) || rng.chance(5) {
             break;
         }
     }

@@ -142,9 +142,33 @@ fn reached_monitor(rng: &mut Rng, chart: &ChartValue) -> MonitorValue {
     state.to_value()
 }
 
-/// Changes one field of a monitor.
-fn change_monitor(rng: &mut Rng, monitor: &mut MonitorValue) {
-    match rng.below(14) {
+/// A region and a term, mostly near the chart's.
+fn some_cause(rng: &mut Rng, chart: &ChartValue) -> Cause {
+    let count = chart.count;
+    let near = rng.range(0, i64::from(count) + 1) as u8;
+    let region = rng.pick(&[near, near, near, 0, 1, count, 32, 33, 255]);
+    let place = usize::from(region).saturating_sub(1);
+    let terms = chart.regions.get(place).map_or(0, |of| of.term_count);
+    let term = rng.pick(&[0, 1, 1, 2, terms, terms, terms.wrapping_add(1), 4, 5, 255]);
+    Cause { region, term }
+}
+
+/// Changes the reason, and mostly region and term to go with it.
+fn change_reason(rng: &mut Rng, chart: &ChartValue, monitor: &mut MonitorValue) {
+    monitor.reason = rng.pick(&[0, 1, 2, 2, 3, 255]);
+    if rng.chance(50) {
+        monitor.break_record = rng.pick(&[0, 1, monitor.records]);
+    }
+    monitor.cause = match monitor.reason {
+        2 => some_cause(rng, chart),
+        _ if rng.chance(70) => Cause::NONE,
+        _ => monitor.cause,
+    };
+}
+
+/// Changes one field of a monitor, or what goes together.
+fn change_monitor(rng: &mut Rng, chart: &ChartValue, monitor: &mut MonitorValue) {
+    match rng.below(19) {
         0 => monitor.fired ^= 1 << rng.below(32),
         1 => monitor.fired ^= 1 << rng.below(6),
         2 => monitor.fired = rng.draw() as u32 & rng.draw() as u32,
@@ -160,12 +184,11 @@ fn change_monitor(rng: &mut Rng, monitor: &mut MonitorValue) {
         12 => {
             monitor.break_record = rng.pick(&[0, 1, 2, monitor.records, u32::MAX]);
         }
-        _ => {
-            monitor.reason = rng.pick(&[0, 1, 2, 3, 255]);
-            if rng.chance(50) {
-                monitor.break_record = rng.pick(&[0, 1, monitor.records]);
-            }
-        }
+        13 => monitor.reason = rng.pick(&[0, 1, 2, 3, 255]),
+        14 | 15 => change_reason(rng, chart, monitor),
+        16 => monitor.cause = some_cause(rng, chart),
+        17 => monitor.cause.region = some_cause(rng, chart).region,
+        _ => monitor.cause.term = some_cause(rng, chart).term,
     }
 }
 
@@ -174,7 +197,7 @@ pub fn monitor_value(rng: &mut Rng, chart: &ChartValue) -> MonitorValue {
     let mut monitor = reached_monitor(rng, chart);
     let changes = rng.pick(&[0, 0, 0, 1, 1, 1, 2, 3]);
     for _ in 0..changes {
-        change_monitor(rng, &mut monitor);
+        change_monitor(rng, chart, &mut monitor);
     }
     monitor
 }

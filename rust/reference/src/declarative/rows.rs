@@ -173,7 +173,7 @@ impl<'a> Rows<'a> {
         laid.whole
             && self.follows(row)
             && self.prompt(row)
-            && (0..row.len()).all(|place| spared(place) || laid.condition_holds(place))
+            && (0..row.len()).all(|place| spared(place) || laid.failing_term(place).is_none())
     }
 
     /// The stretch's lawful row. That there is no other (W9, W18) is asserted.
@@ -205,13 +205,14 @@ impl Laid<'_> {
             .map_or(self.stretch.opening, |earlier| self.time(earlier))
     }
 
-    /// Whether the condition at a place of the row holds (W8).
-    pub(super) fn condition_holds(&self, place: usize) -> bool {
+    /// The lowest place (from 0) of a term that does not hold in the condition at a place of the
+    /// row (W8); none if all hold.
+    pub(super) fn failing_term(&self, place: usize) -> Option<usize> {
         let now = i64::from(self.time(place));
         let value = |clock: u8| now - i64::from(self.last_reset(place, clock));
-        self.region(place)
-            .condition()
-            .iter()
-            .all(|term| term.holds(value))
+        let terms = self.region(place).condition();
+        (0..terms.len())
+            .filter(|&term| !terms[term].holds(value))
+            .min()
     }
 }

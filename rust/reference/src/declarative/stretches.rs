@@ -27,7 +27,7 @@ impl Meaning {
     pub fn monitor(&self) -> MonitorValue {
         let mut resets = [0; MAX_CLOCKS];
         resets[..self.resets.len()].copy_from_slice(&self.resets);
-        let (break_record, reason) = Break::numbers(self.broken);
+        let (break_record, reason, cause) = Break::numbers(self.broken);
         MonitorValue {
             fired: self.cut.iter().map(|region| 1 << region).sum(),
             resets,
@@ -37,6 +37,7 @@ impl Meaning {
             dropped: self.dropped,
             break_record,
             reason,
+            cause,
         }
     }
 }
@@ -142,20 +143,21 @@ impl<'a> Cutting<'a> {
         let Some(row) = rows.lawful_row(self.stretch(), true) else {
             // W19: the row without the last record decides.
             return if rows.has_prechart(&self.row) {
-                self.break_off(self.row.clone(), Reason::NoReadyRegion)
+                self.break_off(self.row.clone(), Reason::NoReadyRegion, Cause::NONE)
             } else {
-                self.drop()
+                self.drop(Cause::NONE)
             };
         };
         // W20.
         let laid = rows.lay(row, self.stretch()).expect("a lawful row");
-        let failing = (0..row.len())
-            .find(|&place| !laid.condition_holds(place))
+        let (failing, term) = (0..row.len())
+            .find_map(|place| Some((place, laid.failing_term(place)?)))
             .expect("the row is not lawful without sparing");
+        let cause = Cause::at(row[failing], term);
         if laid.region(failing).hot {
-            self.break_off(row[..failing].to_vec(), Reason::ConditionFails)
+            self.break_off(row[..failing].to_vec(), Reason::ConditionFails, cause)
         } else {
-            self.drop()
+            self.drop(cause)
         }
     }
 
@@ -165,10 +167,10 @@ impl<'a> Cutting<'a> {
         Answer::Kept
     }
 
-    fn drop(&mut self) -> Answer {
+    fn drop(&mut self, cause: Cause) -> Answer {
         self.dropped += 1;
         self.open();
-        Answer::Dropped
+        Answer::Dropped(cause)
     }
 
     /// Opens another stretch (W15).
@@ -179,9 +181,12 @@ impl<'a> Cutting<'a> {
     }
 
     /// W27. The row is what stays fired: T24 for reason 1, T25 for reason 2.
-    fn break_off(&mut self, row: Vec<usize>, reason: Reason) -> Answer {
-        let record = self.accepted;
-        let known = Break { record, reason };
+    fn break_off(&mut self, row: Vec<usize>, reason: Reason, cause: Cause) -> Answer {
+        let known = Break {
+            record: self.accepted,
+            reason,
+            cause,
+        };
         self.broken = Some(known);
         self.row = row;
         Answer::Broken(known)

@@ -1,6 +1,6 @@
 //! A chart with its logs, and what is timed on them.
 
-use lsc::call;
+use lsc::call::{self, VERDICT_PLACES};
 use lsc_compare::charts;
 use lsc_compare::fast;
 use lsc_compare::testing;
@@ -44,7 +44,7 @@ impl Subject {
 
     /// The rounds that the log keeps and drops.
     pub fn rounds(&self) -> (u64, u64) {
-        let mut out = [0; 6];
+        let mut out = [0; VERDICT_PLACES];
         call::judge(&self.chart, &self.log, &mut out);
         (out[1], out[2])
     }
@@ -64,7 +64,7 @@ impl Subject {
 
 /// The proved judge.
 pub fn proved(chart: &[u8], log: &[u8]) {
-    let mut out = [0; 6];
+    let mut out = [0; VERDICT_PLACES];
     black_box(call::judge(black_box(chart), black_box(log), &mut out));
     black_box(out);
 }

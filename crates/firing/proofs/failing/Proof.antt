@@ -7,10 +7,10 @@ use lib.ListN.{getD}
 use borrow.Author.Tests.{not-true, not-false}
 use borrow.Author.Needs.{needs}
 use Rattle.model.specs.Chart.{mostTerms}
-use Rattle.base.proofs.Loops.{SoFar, at-start, one-more, all-pass, rest-pass, one-fails}
+use Rattle.base.proofs.Loops.{SoFar, at-start, one-more, none-fails, first-fails}
 use Rattle.firing.proofs.Terms.{heldAt, terms-end, term-held, condition-tested}
-use Rattle.firing.proofs.holds.Statement.{statement}
-use Rattle.firing.proofs.holds.Tie as tie
+use Rattle.firing.proofs.failing.Statement.{statement}
+use Rattle.firing.proofs.failing.Tie as tie
 
 abbrev Inv-loop : tie.InvT-loop
 Inv-loop terms i t resets j₀ j =
@@ -38,7 +38,7 @@ returns : tie.Need-returns Inv-loop μ-loop
 returns c = λ clocks T.
     let a = c .before .before .before .before .args in
     let L = c .before .before .before .loop in
-    sym (rest-pass mostTerms (L .inv .1) (terms-end T (a .t .0) (a .t2) (a .i) (L .j) (c .if1 .taken)))
+    sym (none-fails mostTerms (L .inv .1) (terms-end T (a .t .0) (a .t2) (a .i) (L .j) (c .if1 .taken)))
     ∙ condition-tested T (a .t .0) (a .t2) (a .i)
 
 mul-since : tie.Need-mul-since Inv-loop μ-loop
@@ -62,16 +62,21 @@ second-value-requires c κs = c .before .before .before .before .before .before 
 word-holds-requires : tie.Need-word-holds-requires Inv-loop μ-loop
 word-holds-requires c κs = search needs
 
+cast-result : tie.Need-cast-result Inv-loop μ-loop
+cast-result c = omega arith
+
+add-result : tie.Need-add-result Inv-loop μ-loop
+add-result c = omega arith
+
 returns-2 : tie.Need-returns-2 Inv-loop μ-loop
 returns-2 c = λ clocks T.
     let a = c .before .before .before .before .before .before .before .before .before .before .args in
-    let j = c .before .before .before .before .before .before .before .before .before .loop .j in
-    let e = term-held (getD (a .terms .now) (a .i * mostTerms + j) 0) (a .t .0) (a .t2) _ _ _
+    let L = c .before .before .before .before .before .before .before .before .before .loop in
+    let e = term-held (getD (a .terms .now) (a .i * mostTerms + L .j) 0) (a .t .0) (a .t2) _ _ _
     (c .before .before .before .before .since .ensures) (c .before .before .second-value .ensures)
     (c .before .word-holds .ensures) (c .before .before .before .before .before .before .if1 .left)
     ∙ not-true _ (c .if2 .taken) in
-    sym (one-fails (λ k. heldAt (getD (a .terms .now) (a .i * mostTerms + k) 0) (a .t .0) (a .t2)) j mostTerms
-    (omega arith) e) ∙ condition-tested T (a .t .0) (a .t2) (a .i)
+    sym (first-fails mostTerms (L .inv .1) e (omega arith)) ∙ condition-tested T (a .t .0) (a .t2) (a .i)
 
 add-j : tie.Need-add-j Inv-loop μ-loop
 add-j c = omega arith
@@ -92,10 +97,11 @@ loop-again c =
     )
 
 returns-3 : tie.Need-returns-3 Inv-loop μ-loop
-returns-3 c = λ clocks T. sym (all-pass mostTerms (c .before .loop .inv .1) (omega arith)) ∙ condition-tested T _ _ _
+returns-3 c = λ clocks T.
+    sym (none-fails mostTerms (c .before .loop .inv .1) (λ j l m. absurd (omega arith))) ∙ condition-tested T _ _ _
 
-pub holds-spec : {M : Type 1} → statement M
-holds-spec =
+pub failing-spec : {M : Type 1} → statement M
+failing-spec =
     tie.close
     (tie.spec
     Inv-loop
@@ -113,6 +119,8 @@ holds-spec =
     array-copy-out-second-value
     second-value-requires
     word-holds-requires
+    cast-result
+    add-result
     returns-2
     add-j
     loop-less
