@@ -10,12 +10,12 @@ use Rattle.base.specs.Lists.{Snoc, ε, _▸_, size}
 use Rattle.model.specs.Monitor.{causeOf}
 use Rattle.rounds.specs.Chart.{Chart, Accepted}
 use Rattle.rounds.specs.Rows.{LogRecord, Row, stands, momentAt, chartMessage, chartMessages, messageRegions, momentOf}
-use Rattle.rounds.specs.Rows.{opened, resetMoment, holds, Lawful}
+use Rattle.rounds.specs.Rows.{opened, resetMoment, Lawful}
 use Rattle.rounds.specs.Rows.{LawfulBy, NoRowBy}
 use Rattle.rounds.specs.Machine.{Place, Move, rests, offer, opening}
 use Rattle.base.proofs.Bools.{split}
 use Rattle.rounds.proofs.Machine.{plain-none, opening-settled}
-use Rattle.rounds.proofs.Moments.{chartMessages-take, chartMessages-skip, retest}
+use Rattle.rounds.proofs.Moments.{holds, chartMessages-take, chartMessages-skip, retest}
 use Rattle.rounds.proofs.Settling.{LastMessage, last-message}
 use Rattle.rounds.proofs.Rows.{codes, as-many, lawful-before, lawful-after, Early, strict-early, lawful-empty, one-row}
 use Rattle.rounds.proofs.Rounds.{placeOf, Means, unplaced, failed, grown, move-means}

@@ -17,7 +17,7 @@ use Rattle.rounds.specs.Rows.{LogRecord, Row, stands, chartMessage, chartMessag
 use Rattle.rounds.specs.Rows.{NoRowBy}
 use Rattle.rounds.specs.Feeds.{lastMoment, refusal, kept, dropped, broken, Outcome, Stretch, Last, unended, afterBreak}
 use Rattle.rounds.specs.Feeds.{lastAfter, Answer, refused, brokenAt, keptNow, droppedNow, entered, moved, quiet, Onward}
-use Rattle.rounds.specs.Feeds.{completes-prechart, fires, stays, FedOne, refuses, runs-on, ends, again, Fed, none-yet}
+use Rattle.rounds.specs.Feeds.{completes-prechart, fires, stays, refuses, runs-on, ends, again, Fed, none-yet}
 use Rattle.rounds.specs.Feeds.{one-more, SaysDroppedOrBroken, Exactly}
 use Rattle.rounds.specs.Machine.{Place, Move, stuck, fails, rests, offer, prechartDone, full, Monitor, Step, goOn}
 use Rattle.rounds.specs.Machine.{keepRound, dropRound, breakRound, conclude, accept, feed, after}
@@ -28,7 +28,7 @@ use Rattle.rounds.proofs.Machine.{done-true}
 use Rattle.rounds.proofs.Moments.{chartMessages-take, chartMessages-skip}
 use Rattle.rounds.proofs.Rows.{lawful-before, one-row}
 use Rattle.rounds.proofs.Rounds.{placeOf}
-use Rattle.rounds.proofs.Endings.{ended, Comes, on, keeps, drops, breaks}
+use Rattle.rounds.proofs.Endings.{FedOne, ended, Comes, on, keeps, drops, breaks}
 use Rattle.rounds.proofs.Feeds.{feed-unbroken, comes-unbroken, besides, agrees}
 use Rattle.rounds.proofs.Exactly.{exactly}
 use Rattle.rounds.proofs.Fitness.{after-fit}

@@ -7,11 +7,11 @@ use Rattle.base.specs.Lists.{Snoc, ε, _▸_}
 use Rattle.rounds.specs.Chart.{Chart, Accepted}
 use Rattle.rounds.specs.Rows.{LogRecord, Row, Lawful}
 use Rattle.rounds.specs.Feeds.{refusal, kept, dropped, broken, Stretch, Last, unended, afterBreak, lastAfter}
-use Rattle.rounds.specs.Feeds.{Answer, FedOne, refuses, runs-on, ends, again, Fed, none-yet, one-more}
+use Rattle.rounds.specs.Feeds.{Answer, refuses, runs-on, ends, again, Fed, none-yet, one-more}
 use Rattle.rounds.specs.Machine.{Monitor, Step, after}
 use Rattle.rounds.specs.Demand3.{Unbroken, AtLast, Agrees, Meaning, SameBy}
 use Rattle.base.proofs.Facts.{found, none-some}
-use Rattle.rounds.proofs.Endings.{one-outcome, ended, Comes, on, keeps, drops, breaks}
+use Rattle.rounds.proofs.Endings.{FedOne, one-outcome, ended, Comes, on, keeps, drops, breaks}
 use Rattle.rounds.proofs.Feeds.{comes-unbroken, besides, agrees}
 
 module _ (C : Chart) (A : Accepted C) where

@@ -13,10 +13,10 @@ use Rattle.model.specs.Monitor.{noCause, causeOf}
 use Rattle.rounds.specs.Chart.{Chart, Accepted}
 use Rattle.rounds.specs.Rows.{LogRecord, Row, stands, chartMessage, chartMessages, resetMoment, Lawful, NoRow}
 use Rattle.rounds.specs.Rows.{Full, LawfulButLast, firstFailing}
-use Rattle.rounds.specs.Rows.{LawfulBy, NoRowBy}
+use Rattle.rounds.specs.Rows.{clockTest, LawfulBy, NoRowBy}
 use Rattle.rounds.specs.Feeds.{noReadyRegion, conditionFails, Outcome, kept, dropped, broken, Ends, complete}
 use Rattle.rounds.specs.Feeds.{unplaced-main, unplaced-prechart, fails-hot, fails-cold, Answer, entered, moved}
-use Rattle.rounds.specs.Feeds.{quiet, Onward, completes-prechart, fires, stays, isKept}
+use Rattle.rounds.specs.Feeds.{Stretch, Last, FedOneBy, quiet, Onward, completes-prechart, fires, stays, isKept}
 use Rattle.rounds.specs.Machine.{Place, Move, offer, Monitor, Step, prechartDone, full, goOn, keepRound}
 use Rattle.rounds.specs.Machine.{dropRound, breakRound, conclude, accept}
 use Rattle.base.proofs.Bools.{split}
@@ -25,6 +25,11 @@ use Rattle.rounds.proofs.Machine.{full-true, full-false, done-true, don
 use Rattle.rounds.proofs.Moments.{chartMessages-skip}
 use Rattle.rounds.proofs.Rows.{lawful-after, lawful-waived, one-row, one-row-waived}
 use Rattle.rounds.proofs.Rounds.{placeOf, all-hold, Means, unplaced, failed, grown, move-means}
+
+-- one feed, with conditions tested by the chart's clocks
+abbrev pub FedOne
+    : Chart → Snoc LogRecord → Snoc Stretch → LogRecord → Last → Answer → Snoc LogRecord → Snoc Stretch → Last → Type 0
+FedOne C = FedOneBy C (clockTest C)
 
 -- from one row to another there is one answer
 pub onward-same : {C : Chart} {q r : Row} {a b : Answer} → Onward C q r a → Onward C q r b → a ≡ b

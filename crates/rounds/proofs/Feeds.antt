@@ -15,7 +15,7 @@ use Rattle.rounds.specs.Rows.{LawfulBy}
 use Rattle.rounds.specs.Tally.{Break, noBreak}
 use Rattle.rounds.specs.Feeds.{lastMoment, refusal, Outcome, kept, dropped, broken, Stretch, Last, unended}
 use Rattle.rounds.specs.Feeds.{afterBreak, lastAfter, Ends, Answer}
-use Rattle.rounds.specs.Feeds.{refused, brokenAt, ending, Onward, FedOne, refuses, runs-on, ends, again, Fed}
+use Rattle.rounds.specs.Feeds.{refused, brokenAt, ending, Onward, refuses, runs-on, ends, again, Fed}
 use Rattle.rounds.specs.Feeds.{none-yet, one-more}
 use Rattle.rounds.specs.Machine.{Monitor, Step, opening, goOn, keepRound, dropRound, breakRound, accept, feed}
 use Rattle.rounds.specs.Machine.{after, answers}
@@ -24,7 +24,8 @@ use Rattle.base.proofs.Bools.{split}
 use Rattle.rounds.proofs.Machine.{opening-lacks, opening-settled}
 use Rattle.rounds.proofs.Rows.{one-row}
 use Rattle.rounds.proofs.Rounds.{placeOf}
-use Rattle.rounds.proofs.Endings.{onward-same, one-outcome, ended, Comes, on, keeps, drops, breaks, comes}
+use Rattle.rounds.proofs.Endings.{FedOne, onward-same, one-outcome, ended, Comes, on, keeps, drops, breaks}
+use Rattle.rounds.proofs.Endings.{comes}
 
 module _ (C : Chart) (m : Monitor) (e : LogRecord) where
   -- feeding a monitor without a break refuses what the accepted records say is refused

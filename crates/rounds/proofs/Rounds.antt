@@ -14,7 +14,7 @@ use Rattle.model.specs.declared.Cause.{Cause}
 use Rattle.model.specs.Monitor.{causeOf}
 use Rattle.rounds.specs.Chart.{Chart, conditionOf, Accepted}
 use Rattle.rounds.specs.Rows.{LogRecord, Row, stands, chartMessage, chartMessages, messageRegions, Ready, values}
-use Rattle.rounds.specs.Rows.{momentOf, resetMoment, holds, Placed, Lawful, waived, LawfulButLast, firstFailing}
+use Rattle.rounds.specs.Rows.{momentOf, resetMoment, Placed, Lawful, LawfulButLast, firstFailing}
 use Rattle.rounds.specs.Rows.{LawfulButLastBy, LawfulBy, clockTest, firstFailingBy, holdsBy, waivedBy}
 use Rattle.rounds.specs.Machine.{Place, Move, stuck, fails, rests, readyPlain, readyFor, unfired, fire, settle}
 use Rattle.rounds.specs.Machine.{tryRegion, offer}
@@ -22,7 +22,8 @@ use Rattle.base.proofs.Bools.{split, clash, or-left}
 use Rattle.base.proofs.Facts.{found, none-some}
 use Rattle.rounds.proofs.Machine.{plain-some, plain-none, for-some, has-message, offer-stuck, offer-fails}
 use Rattle.rounds.proofs.Machine.{offer-fires}
-use Rattle.rounds.proofs.Moments.{chartMessages-take, messageRegions-take, messageRegions-skip, momentOf-last}
+use Rattle.rounds.proofs.Moments.{holds, waived, chartMessages-take, messageRegions-take, messageRegions-skip}
+use Rattle.rounds.proofs.Moments.{momentOf-last}
 use Rattle.rounds.proofs.Moments.{resetMoment-earlier, holds-earlier, retest}
 use Rattle.rounds.proofs.Settling.{RowMove, failsAt, restsAt, settleRow, Plains, stop, more, Result, resting}
 use Rattle.rounds.proofs.Settling.{failing, free, placed-plain, settling, plains-placed, plains-messages}

@@ -7,11 +7,11 @@ use Rattle.rounds.specs.Chart.{Chart, Accepted}
 use Rattle.rounds.specs.Rows.{LogRecord, Row, stands, Lawful, Full}
 use Rattle.rounds.specs.Feeds.{Outcome, kept, dropped, broken, Stretch, Last, unended, afterBreak, lastAfter}
 use Rattle.rounds.specs.Feeds.{Ends}
-use Rattle.rounds.specs.Feeds.{Answer, FedOne, refuses, runs-on, ends, again, Fed, none-yet, one-more}
+use Rattle.rounds.specs.Feeds.{Answer, refuses, runs-on, ends, again, Fed, none-yet, one-more}
 use Rattle.rounds.specs.Demand3.{RunsOn, Ended, Meaning}
 use Rattle.base.proofs.Facts.{snoc-same-init, snoc-same-last}
 use Rattle.rounds.proofs.Machine.{opening-lacks}
-use Rattle.rounds.proofs.Endings.{one-outcome, ended}
+use Rattle.rounds.proofs.Endings.{FedOne, one-outcome, ended}
 use Rattle.rounds.proofs.Feeds.{opens}
 
 module _ (C : Chart) (A : Accepted C) where

@@ -11,12 +11,13 @@ use borrow.Author.Tests.{ltb-true, leb-true}
 use Rattle.base.specs.Lists.{Snoc, ε, _▸_, each, EachIn, onFound}
 use Rattle.rounds.specs.Chart.{Chart, Accepted}
 use Rattle.rounds.specs.Rows.{LogRecord, Row, stands, chartMessage, chartMessages, plain, messageRegions, Ready}
-use Rattle.rounds.specs.Rows.{holds, Placed, LawfulIf, Lawful, waived, LawfulButLast}
+use Rattle.rounds.specs.Rows.{Placed, LawfulIf, Lawful, LawfulButLast}
 use Rattle.rounds.specs.Rows.{LawfulButLastBy, LawfulBy}
 use Rattle.rounds.specs.Machine.{Move, stuck, ready, readyPlain, offer}
 use Rattle.base.proofs.Bools.{and-left, and-right}
 use Rattle.base.proofs.Facts.{found}
 use Rattle.rounds.proofs.Machine.{ready-true, plain-some, plain-none}
+use Rattle.rounds.proofs.Moments.{holds, waived}
 use Rattle.rounds.proofs.Rows.{codes}
 use Rattle.rounds.proofs.Rounds.{placeOf, Means, unplaced, move-means}
 

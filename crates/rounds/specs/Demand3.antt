@@ -1,4 +1,4 @@
--- The third demand, of one chart: the rules on lists of feeds, rows and stretches (W9 to W29).
+-- The third demand, of one chart: the rules on lists of feeds, rows and stretches (W9 to W30).
 use mathlib.Core.Path.{_≡_}
 use mathlib.Core.Option.{none}
 use Prim.Native.Nat.{ℕ}

@@ -1,4 +1,4 @@
--- Stretches, how they end, and how feeds are answered (W11 to W25).
+-- Stretches, how they end, and how feeds are answered (W11 to W26, W30).
 use mathlib.Core.Path.{_≡_}
 use mathlib.Core.Logic.{_↔_, _⊎_}
 use mathlib.Core.Bool.{Bool, true, false, cond, So}
@@ -124,10 +124,6 @@ module _ (C : Chart) (T : Test) where
 module _ (C : Chart) where
   abbrev pub Ends : ℕ → Snoc LogRecord → LogRecord → Outcome → Type 0
   Ends = EndsBy C (clockTest C)
-
-  abbrev pub FedOne
-      : Snoc LogRecord → Snoc Stretch → LogRecord → Last → Answer → Snoc LogRecord → Snoc Stretch → Last → Type 0
-  FedOne = FedOneBy C (clockTest C)
 
   abbrev pub Fed : Snoc LogRecord → Snoc Answer → Snoc LogRecord → Snoc Stretch → Last → Type 0
   Fed = FedBy C (clockTest C)
