@@ -3,18 +3,12 @@ use mathlib.Core.Path.{_≡_, refl, sym, ap, _∙_}
 use mathlib.Core.Bool.{cond}
 use Prim.Native.Nat.{ℕ}
 use lib.Dec.{eqb}
-use Rattle.model.specs.declared.FeedRefusal.{FeedRefusal}
-use Rattle.model.specs.declared.FeedRefusal.the-variants.{NotAChart, Unfit, TimeFalls, TooManyRecords}
-use Rattle.model.specs.declared.Answer.{Answer}
-use Rattle.model.specs.declared.Answer.the-variants.{Refused, Broken, Kept, Dropped, Entered, Moved, Quiet}
-use Rattle.model.specs.Answers.{feedRefusalNumber}
-use Rattle.rounds.specs.Feeds.{Answer as AbstractAnswer, refused, brokenAt, keptNow, droppedNow, entered, moved, quiet}
 use Rattle.chart_step.proofs.Numbers.{refusal-nonzero, refusal-injective}
 use Rattle.chart_reader.specs.declared.ChartAnswer.{ChartAnswer}
 use Rattle.chart_reader.specs.declared.ChartAnswer.the-variants as chart
 use Rattle.chart_reader.specs.declared.ChartRead.{ChartRead}
 use Rattle.chart_reader.specs.Said as read
-use Rattle.stepping.specs.Answers.{answerOf}
+use Rattle.stepping.proofs.Answers.{answer-told}
 use Rattle.log_reader.specs.declared.RecordRefusal.{RecordRefusal}
 use Rattle.log_reader.specs.declared.RecordRefusal.the-variants.{CutShort, UnknownByte}
 use Rattle.log_reader.proofs.Said.{said-tells}
@@ -41,16 +35,6 @@ charts-tell x y e =
 recordRefusal : ℕ → RecordRefusal
 recordRefusal n = cond (eqb n 30) CutShort UnknownByte
 
-feedRefusal : ℕ → FeedRefusal
-feedRefusal n = cond (eqb n 20) NotAChart (cond (eqb n 21) Unfit (cond (eqb n 22) TimeFalls TooManyRecords))
-
-feed-refusal : (f : FeedRefusal) → feedRefusal (feedRefusalNumber f) ≡ f
-unfolding feedRefusal
-feed-refusal NotAChart = refl
-feed-refusal Unfit = refl
-feed-refusal TimeFalls = refl
-feed-refusal TooManyRecords = refl
-
 -- the judge's answer with a number and an offset
 judgeAnswer : ℕ → ℕ → JudgeAnswer
 judgeAnswer n o =
@@ -73,29 +57,10 @@ judgements-tell x y e =
     ∙ judge-answer (y .answer) in
     λ i. record { answer = a i; verdict = e i .verdict }
 
-ans : AbstractAnswer → Answer
-ans (refused k) = Refused (feedRefusal k)
-ans (brokenAt n k x) = Broken n k x
-ans keptNow = Kept
-ans (droppedNow x) = Dropped x
-ans entered = Entered
-ans moved = Moved
-ans quiet = Quiet
-
-answered-answer : (x : Answer) → ans (answerOf x) ≡ x
-unfolding ans
-answered-answer (Refused k) = ap Refused (feed-refusal k)
-answered-answer (Broken n k x) = refl
-answered-answer Kept = refl
-answered-answer (Dropped x) = refl
-answered-answer Entered = refl
-answered-answer Moved = refl
-answered-answer Quiet = refl
-
 pub answers-tell : AnswersTell
 answers-tell = record {
   charts = charts-tell;
   judgements = judgements-tell;
   records = said-tells;
-  feeds = λ x y e. sym (answered-answer x) ∙ ap ans e ∙ answered-answer y;
+  feeds = answer-told;
 }

@@ -8,7 +8,9 @@ use Rattle.model.specs.declared.Answer.{Answer}
 use Rattle.chart_reader.specs.Read.{readChart}
 use Rattle.base.specs.Lists.{Snoc, ε, _▸_}
 use Rattle.rounds.specs.Feeds.{Answer as AbstractAnswer}
+use Rattle.rounds.specs.Machine.{Step as AbstractStep}
 use Rattle.stepping.specs.Answers.{answerOf}
+use Rattle.stepping.proofs.Answers.{answer-told}
 use Rattle.monitor.specs.Feed.{feedOf}
 use Rattle.monitor.specs.History.{History, none-yet, one-more}
 use Rattle.monitor_image.specs.MonitorImage.{monitorIn}
@@ -31,6 +33,14 @@ goes {chart} (then-fed {es} {ans} {l} {n} {e} {a} q F) =
     (λ (m : Monitor). History (readChart chart .chart) (es ▸ e) (ans ▸ answerOf (s .answer)) m)
     (sym (F .by-chart .next))
     (one-more e s (goes q) (F .by-chart .fed ∙ ap (λ (c : Chart). feedOf c (monitorIn l) e) (chart-kept q))))
+
+-- the bytes and the record fix the answer
+pub one-answer : {l n n′ : List ℕ} {e : Record} {a b : Answer} → LiveFed l e a n → LiveFed l e b n′ → a ≡ b
+one-answer {a = a} {b} F G =
+    let p = F .by-chart .fed ∙ sym (G .by-chart .fed) in
+    F .by-chart .ans
+    ∙ answer-told (F .by-chart .taken .answer) (G .by-chart .taken .answer) (ap (λ (s : AbstractStep). s .answer) p)
+    ∙ sym (G .by-chart .ans)
 
 -- one more feed
 pub runs-on : {l n : List ℕ} {e : Record} {a : Answer} → LiveFed l e a n → Extends l e a n

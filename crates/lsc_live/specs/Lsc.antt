@@ -26,6 +26,12 @@ pub record FedWhy (l : List ℕ) (e : Record) (number region term : ℕ) (n : Li
   pub is-region : region ≡ answerCause answer .region
   pub is-term : term ≡ answerCause answer .term
 
+-- the bytes and the record fix what is returned and given out
+pub record FeedsTell : Type 0 where
+  pub number : {l n n′ : List ℕ} {e : Record} {r s : ℕ} → FedNumber l e r n → FedNumber l e s n′ → r ≡ s
+  pub why : {l n n′ : List ℕ} {e : Record} {r s i j t u : ℕ} → FedWhy l e r i t n → FedWhy l e s j u n′
+      → (r ≡ s) × (i ≡ j) × (t ≡ u)
+
 -- 20 and 21 before 12; only on 0 is out written
 abbrev pub standingNumber : LiveVerdict → List ℕ → ℕ
 standingNumber s out = cond (eqb (s .number) 0) (cond (ltb (length out) places) tooShort 0) (s .number)

@@ -9,7 +9,8 @@ ghost use mathlib.Core.Path.{_≡_};
 ghost use lib.ListN.{length};
 ghost use Rattle.model.specs.declared.Record.the-variants.{Message as MessageAt, Time as TimeAt};
 ghost use Rattle.live.specs.Live.{liveSize, openedOf, bytesOpened, Holds, LiveFed, standingIn};
-ghost use Rattle.lsc_live.specs.Lsc.{FedNumber, FedWhy, standingNumber, standingOut};
+ghost use Rattle.lsc_live.specs.Lsc.{FedNumber, FedWhy, FeedsTell, standingNumber};
+ghost use Rattle.lsc_live.specs.Lsc.{standingOut};
 
 // The size of a live monitor, by the length of its chart.
 #[no_mangle]
@@ -74,9 +75,10 @@ pub extern "C" fn lsc_feed_message_why(
     region: &mut u64,
     term: &mut u64,
 ) -> u8
-    ensures { λ r. ⌜ FedWhy (now (live .entry))
+    ensures fed { λ r. ⌜ FedWhy (now (live .entry))
         (MessageAt (record { source = source; destination = destination; label = label }) (record { 0 = time }))
         r (now (region .exit)) (now (term .exit)) (now (live .exit)) ⌝ }
+    ensures only { λ r. ⌜ FeedsTell ⌝ }
 {
     let answer = feed_message(live, source, destination, label, time);
     let cause = model::answer_cause(answer);

@@ -1,3 +1,4 @@
 pub mod Scan
 pub mod Back
 pub mod Zeros
+pub mod Answers

@@ -1,7 +1,8 @@
--- `lsc_live::lsc_feed_message_why` meets its contract: the answer of the feed, its number and its cause. Assumes nothing.
+-- `lsc_live::lsc_feed_message_why` meets its contract: the number and the cause of the answer. Assumes nothing.
 use mathlib.Core.Path.{ap}
 use borrow.Author.Needs.{needs}
 use Rattle.model.specs.declared.Cause.{Cause}
+use Rattle.lsc_live.proofs.Told.{feeds-tell}
 use Rattle.lsc_live.proofs.lsc_feed_message_why.Statement.{statement}
 use Rattle.lsc_live.proofs.lsc_feed_message_why.Tie as tie
 
@@ -26,14 +27,16 @@ same-length c = search needs
 returns : tie.Need-returns
 returns c =
     let a = c .before .before .before .answer-cause .ensures in
-    let f = c .before .before .before .before .before .before .feed-message in
-    record {
-      answer = f .result;
-      fed = f .ensures;
-      is-number = c .answer-number .ensures;
-      is-region = ap (λ (x : Cause). x .region) a;
-      is-term = ap (λ (x : Cause). x .term) a;
-    }
+    let f = c .before .before .before .before .before .before .feed-message in (
+      record {
+        answer = f .result;
+        fed = f .ensures;
+        is-number = c .answer-number .ensures;
+        is-region = ap (λ (x : Cause). x .region) a;
+        is-term = ap (λ (x : Cause). x .term) a;
+      },
+      feeds-tell,
+    )
 
 pub lsc-feed-message-why-spec : {M : Type 1} → statement M
 lsc-feed-message-why-spec =
