@@ -6,11 +6,9 @@ use mathlib.Core.List.{List, _++_}
 use Prim.Native.Nat.{ℕ, _≤_}
 use native.Mathlib.Omega.{arith}
 use borrow.Author.Tests.{not-true, eqb-false}
-use lib.Dec.{eqb, ltb, leb}
 use lib.ListN.{length, drop, length-append, length-drop}
 use lib.Seq.{drop-at}
 use Rattle.base.proofs.Bools.{either, split}
-use Rattle.model.specs.declared.Cause.{Cause}
 use Rattle.model.specs.declared.Chart.{Chart}
 use Rattle.model.specs.declared.Monitor.{Monitor}
 use Rattle.model.specs.declared.Record.{Record}
@@ -19,12 +17,11 @@ use Rattle.model.specs.declared.Answer.{Answer}
 use Rattle.model.specs.declared.Answer.the-variants.{Refused, Broken, Kept, Dropped, Entered, Moved, Quiet}
 use Rattle.model.specs.declared.FeedRefusal.{FeedRefusal}
 use Rattle.model.specs.declared.FeedRefusal.the-variants.{NotAChart}
-use Rattle.model.specs.Answers.{mostRecords, feedRefusalNumber, answerNumber}
-use Rattle.rounds.specs.Chart.{Chart as Abstract}
-use Rattle.rounds.specs.Rows.{LogRecord}
-use Rattle.rounds.specs.Feeds.{refused, brokenAt}
-use Rattle.rounds.specs.Machine.{Monitor as AbstractMonitor, Step as AbstractStep, feed}
-use Rattle.stepping.proofs.Back.{NotRefused, accept-taken}
+use Rattle.model.specs.Answers.{feedRefusalNumber, answerNumber}
+use Rattle.rounds.specs.Feeds.{refused}
+use Rattle.rounds.specs.Machine.{Step as AbstractStep}
+use Rattle.stepping.proofs.Back.{refuses-with}
+use Rattle.stepping.proofs.Answers.{answer-told}
 use Rattle.chart_value.specs.View.{chartOf}
 use Rattle.monitor.specs.Fit.{fits}
 use Rattle.stepping.specs.declared.Step.{Step}
@@ -43,13 +40,7 @@ use Rattle.live.proofs.Charts.{same-chart, live-exact, zero-refused}
 -- an answer whose number is 20
 answered-20 : (a : Answer) → answerOf a ≡ refused (feedRefusalNumber NotAChart)
     → answerNumber a ≡ feedRefusalNumber NotAChart
-answered-20 (Refused k) e = cc
-answered-20 (Broken n k x) e = let z : _≡_ {A = ℕ} 0 1 = cc in absurd (omega arith)
-answered-20 Kept e = let z : _≡_ {A = ℕ} 0 1 = cc in absurd (omega arith)
-answered-20 (Dropped x) e = let z : _≡_ {A = ℕ} 0 1 = cc in absurd (omega arith)
-answered-20 Entered e = let z : _≡_ {A = ℕ} 0 1 = cc in absurd (omega arith)
-answered-20 Moved e = let z : _≡_ {A = ℕ} 0 1 = cc in absurd (omega arith)
-answered-20 Quiet e = let z : _≡_ {A = ℕ} 0 1 = cc in absurd (omega arith)
+answered-20 a e = ap answerNumber (answer-told a (Refused NotAChart) e)
 
 -- with a chart of zeros the answer is 20
 zeros-fed : (m : Monitor) (e : Record) → feedOf zeroChart m e ≡ refuse NotAChart m
@@ -70,28 +61,14 @@ answered-as Quiet e = absurd (omega arith)
 same-number : {a b : ℕ} → refused a ≡ refused b → a ≡ b
 same-number e = cc
 
-broken-clashes : {a b n : ℕ} {x : Cause} → brokenAt a b x ≡ refused n → ⊥
-broken-clashes e = let z : _≡_ {A = ℕ} 0 1 = cc in omega arith
-
-machine-never : (C : Abstract) (m : AbstractMonitor) (e : LogRecord)
-    → feed C m e .answer ≡ refused (feedRefusalNumber NotAChart) → ⊥
-unfolding feed NotRefused
-machine-never C m e h = elim (split (eqb (m .tally .broken .at) 0)) [
-  | inl p ↦ elim (split (ltb (e .time) (m .tally .now))) [
-    | inl q ↦ let z = same-number (rw (p, q) at h) in omega arith
-    | inr q ↦ elim (split (leb mostRecords (m .tally .records))) [
-      | inl r ↦ let z = same-number (rw (p, q, r) at h) in omega arith
-      | inr r ↦ subst NotRefused (rw (p, q, r) at h) (accept-taken C m e)
-    ]
-  ]
-  | inr p ↦ broken-clashes (rw p at h)
-]
-
 whole-never : (c : Chart) (m : Monitor) (e : Record) → wellFormed c ≡ true
     → feedOf c m e .answer ≡ refused (feedRefusalNumber NotAChart) → ⊥
 unfolding feedOf
 whole-never c m e w h = elim (split (fits (chartOf c) m)) [
-  | inl f ↦ machine-never (chartOf c) (monitorAt m) (logRecord e) (rw (w, f) at h)
+  | inl f ↦ elim (refuses-with (chartOf c) (monitorAt m) (logRecord e) (rw (w, f) at h)) [
+    | inl p ↦ omega (arith, p)
+    | inr p ↦ omega (arith, p)
+  ]
   | inr f ↦ let z = same-number (rw (w, f) at h) in omega arith
 ]
 

@@ -20,11 +20,9 @@ pub record FedNumber (l : List ℕ) (e : Record) (number : ℕ) (n : List ℕ) :
 
 -- and it can give out the answer's cause
 pub record FedWhy (l : List ℕ) (e : Record) (number region term : ℕ) (n : List ℕ) : Type 0 where
-  pub answer : Answer
-  pub fed : LiveFed l e answer n
-  pub is-number : number ≡ answerNumber answer
-  pub is-region : region ≡ answerCause answer .region
-  pub is-term : term ≡ answerCause answer .term
+  pub returned : FedNumber l e number n
+  pub is-region : region ≡ answerCause (returned .answer) .region
+  pub is-term : term ≡ answerCause (returned .answer) .term
 
 -- the bytes and the record fix what is returned and given out
 pub record FeedsTell : Type 0 where

@@ -2,15 +2,12 @@
 use mathlib.Core.Path.{_≡_, refl, sym, ap, subst, _∙_}
 use mathlib.Core.Logic.{_≢_, inl, inr}
 use mathlib.Core.Bool.{true}
-use Prim.Native.Nat.{ℕ}
 use native.Mathlib.Omega.{arith}
-use lib.Dec.{eqb, ltb, leb}
 use lib.ListN.{length}
 use lib.Seq.{ext-getD}
 use Rattle.bitset.proofs.Laws.{same-members}
 use Rattle.model.specs.declared.Chart.{Chart}
 use Rattle.model.specs.declared.Moment.{Moment}
-use Rattle.model.specs.declared.Cause.{Cause}
 use Rattle.model.specs.declared.Monitor.{Monitor}
 use Rattle.model.specs.declared.Record.{Record}
 use Rattle.model.specs.Chart.{mostRegions}
@@ -18,23 +15,21 @@ use Rattle.model.specs.Monitor.{zeroMonitor}
 use Rattle.model.specs.declared.Answer.the-variants.{Refused}
 use Rattle.model.specs.declared.FeedRefusal.{FeedRefusal}
 use Rattle.model.specs.declared.FeedRefusal.the-variants.{NotAChart, Unfit}
-use Rattle.model.specs.Answers.{timeFalls, tooManyRecords, mostRecords, feedRefusalNumber}
+use Rattle.model.specs.Answers.{timeFalls, tooManyRecords, feedRefusalNumber}
 use Rattle.chart_value.specs.WellFormed.{wellFormed}
 use Rattle.chart_value.specs.View.{chartOf}
 use Rattle.chart_value.proofs.Facts.{wf-of}
 use Rattle.base.specs.Lists.{Snoc, ε, _▸_}
 use Rattle.rounds.specs.Chart.{Accepted}
-use Rattle.rounds.specs.Rows.{LogRecord}
-use Rattle.rounds.specs.Feeds.{Answer as AbstractAnswer, refused, brokenAt}
+use Rattle.rounds.specs.Feeds.{Answer as AbstractAnswer}
 use Rattle.rounds.specs.Machine.{Monitor as AbstractMonitor, Step as AbstractStep, Fit, feed, after, answers}
 use Rattle.rounds.specs.Demand3.{Demand3}
-use Rattle.base.proofs.Bools.{split}
 use Rattle.rounds.proofs.Demand3.{demand-3}
 use Rattle.stepping.specs.declared.Step.{Step}
 use Rattle.stepping.specs.Answers.{answerOf}
 use Rattle.stepping.specs.Monitors.{monitorAt, stepOf}
 use Rattle.stepping.proofs.Zeros.{zero-fresh}
-use Rattle.stepping.proofs.Back.{NotRefused, accept-taken}
+use Rattle.stepping.proofs.Back.{refuses-with}
 use Rattle.monitor.specs.Feed.{feedOf}
 use Rattle.chart_value.specs.Records.{logRecord, logged}
 use Rattle.monitor.specs.History.{History, none-yet, one-more, HistoryOver, Feeding, ViewTells}
@@ -101,37 +96,12 @@ module _ (c : Chart) (wf : wellFormed c ≡ true) (A : Accepted (chartOf c)) whe
       }
 
   -- the machine never says 20 or 21
-  other : (k : FeedRefusal) → Type 0
-  other k = (feedRefusalNumber k ≢ timeFalls) × (feedRefusalNumber k ≢ tooManyRecords)
-
-  same-number : {a b : ℕ} → refused a ≡ refused b → a ≡ b
-  same-number e = cc
-
-  never-said : (k : FeedRefusal) → feedRefusalNumber k ≢ timeFalls → feedRefusalNumber k ≢ tooManyRecords
-      → (m : AbstractMonitor) (e : LogRecord)
-      → feed (chartOf c) m e .answer ≡ refused (feedRefusalNumber k) → ⊥
-  unfolding feed NotRefused
-  never-said k n l m e h = elim (split (eqb (m .tally .broken .at) 0)) [
-    | inl p ↦ elim (split (ltb (e .time) (m .tally .now))) [
-      | inl q ↦ n (sym (same-number (rw (p, q) at h)))
-      | inr q ↦ elim (split (leb mostRecords (m .tally .records))) [
-        | inl r ↦ l (sym (same-number (rw (p, q, r) at h)))
-        | inr r ↦ subst NotRefused (rw (p, q, r) at h) (accept-taken (chartOf c) m e)
-      ]
-    ]
-    | inr p ↦ clashes (rw p at h)
-  ]
-    where
-      clashes : {a b : ℕ} {x : Cause} → brokenAt a b x ≡ refused (feedRefusalNumber k) → ⊥
-      clashes e = let z : _≡_ {A = ℕ} 0 1 = cc in omega arith
-
   never : {es : Snoc Record} {ans : Snoc AbstractAnswer} {m : Monitor} → Goes es ans m → (e : Record) (r : Step)
       → stepOf r ≡ feedOf c m e
       → (k : FeedRefusal) → feedRefusalNumber k ≢ timeFalls → feedRefusalNumber k ≢ tooManyRecords
       → r .answer ≢ Refused k
-  never {es} g e r h k n l q =
-      never-said k n l (after (chartOf c) (logged es)) (logRecord e)
-      (sym (ap (λ (x : AbstractStep). x .answer) (step-after g e r h)) ∙ ap answerOf q)
+  never {es} g e r h k n l q = elim (refuses-with (chartOf c) (after (chartOf c) (logged es)) (logRecord e)
+      (sym (ap (λ (x : AbstractStep). x .answer) (step-after g e r h)) ∙ ap answerOf q)) [ inl p ↦ n p | inr p ↦ l p ]
 
   pub feeding : Feeding c
   feeding = record {

@@ -42,7 +42,7 @@ momentsFit clocks resets t =
 abbrev pub isZero : Cause → Bool
 isZero x = eqb (x .region) 0 && eqb (x .term) 0
 
--- the region, counted from 1, is one of the chart's, and so is the term one of the region's
+-- the region, counted from 1, is one of the chart's, and the term one of the region's
 unfoldable pub causeFits : Abstract → Cause → Bool
 causeFits C x =
     leb 1 (x .region) && (leb (x .region) (C .regions)

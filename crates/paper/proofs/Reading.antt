@@ -1,11 +1,11 @@
 -- Every list of feeds: what is read by the source's steps is what the machine says, and so what the stretches and rows
 -- say. One feed leaves the monitor as it is, or takes the record. Assumes nothing.
 use mathlib.Core.Path.{_≡_, refl, sym, ap, ap₂, _∙_, fun-ext}
-use mathlib.Core.Logic.{_≢_, inl, inr}
+use mathlib.Core.Logic.{inl, inr}
 use mathlib.Core.Bool.{false}
 use Prim.Native.Nat.{ℕ, _≤_, _<_}
 use lib.Dec.{eqb, ltb, leb}
-use borrow.Author.Tests.{eqb-true, eqb-false, eq-eqb, ne-eqb, ltb-false, leb-false, ltb-true, leb-true, lt-ltb, le-ltb}
+use borrow.Author.Tests.{eqb-true, eqb-false, eq-eqb, ltb-false, leb-false, ltb-true, leb-true, lt-ltb, le-ltb}
 use borrow.Author.Tests.{le-leb}
 use Rattle.base.specs.Lists.{Snoc, ε, _▸_}
 use Rattle.model.specs.Answers.{timeFalls, tooManyRecords, mostRecords}
@@ -15,7 +15,7 @@ use Rattle.rounds.specs.Feeds.{Answer, refused, brokenAt}
 use Rattle.rounds.specs.Machine.{Monitor, Step, fresh, feed, after, answers, Fit}
 use Rattle.rounds.specs.Demand3.{Agrees, Meaning}
 use Rattle.base.proofs.Bools.{split}
-use Rattle.rounds.proofs.Feeds.{monitor-agrees}
+use Rattle.rounds.proofs.Feeds.{feed-broken, monitor-agrees}
 use Rattle.rounds.proofs.Fitness.{after-fit}
 use Rattle.paper.specs.Runs.{Config, initial, configAt}
 use Rattle.paper.specs.Taken.{Status, statusOf, Acceptable, Read, nothing, takes, falls, overflows, stays-broken}
@@ -28,14 +28,6 @@ module _ (C : Chart) where
       (fun-ext (λ x. elim (split (ltb x (C .clocks))) [ inl r ↦ rw r | inr r ↦ rw r ]))
 
   -- feeding's first tests
-  feed-broken : (m : Monitor) (e : LogRecord) → m .tally .broken .at ≢ 0
-      → feed C m e ≡ record {
-        answer = brokenAt (m .tally .broken .at) (m .tally .broken .reason) (m .tally .broken .cause);
-        next = m;
-      }
-  unfolding feed
-  feed-broken m e h = rw (ne-eqb (m .tally .broken .at) 0 h)
-
   feed-falls : (m : Monitor) (e : LogRecord) → m .tally .broken .at ≡ 0 → e .time < m .tally .now
       → feed C m e ≡ record { answer = refused timeFalls; next = m }
   unfolding feed

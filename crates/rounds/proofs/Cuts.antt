@@ -9,7 +9,7 @@ use Rattle.rounds.specs.Rows.{LogRecord, Row, Lawful}
 use Rattle.rounds.specs.Feeds.{refusal, kept, dropped, broken, Stretch, Last, unended, afterBreak, lastAfter}
 use Rattle.rounds.specs.Feeds.{Answer, refuses, runs-on, ends, again, Fed, none-yet, one-more}
 use Rattle.rounds.specs.Machine.{Monitor, Step, after}
-use Rattle.rounds.specs.Demand3.{Unbroken, AtLast, Agrees, Meaning, SameBy}
+use Rattle.rounds.specs.Demand3.{Unbroken, AtLast, Agrees, Meaning, Same}
 use Rattle.base.proofs.Facts.{found, none-some}
 use Rattle.rounds.proofs.Endings.{FedOne, one-outcome, ended, Comes, on, keeps, drops, breaks}
 use Rattle.rounds.proofs.Feeds.{comes-unbroken, besides, agrees}
@@ -76,7 +76,7 @@ module _ (C : Chart) (A : Accepted C) where
       let S = fed-same F F′ in
       one-same (after C fs) (agrees C A F .1) N (rw (← (S .0), ← (S .1), ← (S .2)) at N′)
 
-  pub cut-unique : {fs : Snoc LogRecord} (M M′ : Meaning C fs) → SameBy M M′
+  pub cut-unique : {fs : Snoc LogRecord} (M M′ : Meaning C fs) → Same M M′
   cut-unique M M′ =
       let S = fed-same (M .fed) (M′ .fed) in
       record {

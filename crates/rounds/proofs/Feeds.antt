@@ -46,7 +46,7 @@ module _ (C : Chart) (m : Monitor) (e : LogRecord) where
         ]
       ]
 
-  feed-broken : m .tally .broken .at ≢ 0
+  pub feed-broken : m .tally .broken .at ≢ 0
       → feed C m e ≡ record {
         answer = brokenAt (m .tally .broken .at) (m .tally .broken .reason) (m .tally .broken .cause);
         next = m;

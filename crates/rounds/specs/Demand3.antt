@@ -66,18 +66,16 @@ pub record MeaningBy (C : Chart) (T : Test) (fs : Snoc LogRecord) : Type 0 where
 abbrev pub Meaning : Chart → Snoc LogRecord → Type 0
 Meaning C = MeaningBy C (clockTest C)
 
--- the same meaning, perhaps of another chart and by another test
-pub record SameBy {C D : Chart} {T U : Test} {fs : Snoc LogRecord} (M : MeaningBy C T fs) (N : MeaningBy D U fs)
-    : Type 0 where
-  pub same-answers : M .ans ≡ N .ans
-  pub same-accepted : M .accepted ≡ N .accepted
-  pub same-stretches : M .stretches ≡ N .stretches
-  pub same-last : M .last ≡ N .last
+pub record Same {C : Chart} {T : Test} {fs : Snoc LogRecord} (M M′ : MeaningBy C T fs) : Type 0 where
+  pub same-answers : M .ans ≡ M′ .ans
+  pub same-accepted : M .accepted ≡ M′ .accepted
+  pub same-stretches : M .stretches ≡ M′ .stretches
+  pub same-last : M .last ≡ M′ .last
 
 pub record Demand3 (C : Chart) : Type 0 where
   -- W11 to W23: each list of feeds has a meaning, and only one
   pub cut-exists : (fs : Snoc LogRecord) → Meaning C fs
-  pub cut-unique : {fs : Snoc LogRecord} (M M′ : Meaning C fs) → SameBy M M′
+  pub cut-unique : {fs : Snoc LogRecord} (M M′ : Meaning C fs) → Same M M′
   -- W24: the answer to one more accepted record, after the list fs
   pub exactly : {fs : Snoc LogRecord} (M : Meaning C fs) (o : ℕ) (s : Snoc LogRecord) (e : LogRecord)
       → M .last ≡ unended o s

@@ -104,8 +104,7 @@ module _ (C : Chart) (T : Test) where
     -- W14: accepted, and the stretch has a row that lacks a region; or it ends
     runs-on : {o : ℕ} {s : Snoc LogRecord} → refusal rs e ≡ none
         → (q r : Row) (a : Answer) → LawfulBy C T o s q → LawfulBy C T o (s ▸ e) r → ¬ Full C (stands r)
-        → Onward C q r a
-        → FedOneBy rs es e (unended o s) a (rs ▸ e) es (unended o (s ▸ e))
+        → Onward C q r a → FedOneBy rs es e (unended o s) a (rs ▸ e) es (unended o (s ▸ e))
     ends : {o : ℕ} {s : Snoc LogRecord} → refusal rs e ≡ none
         → (x : Outcome) → EndsBy C T o s e x
         → FedOneBy rs es e (unended o s) (ending x (suc (size rs))) (rs ▸ e)

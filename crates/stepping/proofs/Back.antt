@@ -1,13 +1,21 @@
--- A record that is taken is not refused. Assumes nothing.
+-- A record that is taken is not refused, and feeding refuses with two numbers alone. Assumes nothing.
 use mathlib.Core.Path.{_≡_, sym, subst}
+use mathlib.Core.Logic.{_⊎_, inl, inr}
 use mathlib.Core.Bool.{Bool, true, false, cond, not, _&&_}
+use Prim.Native.Nat.{ℕ}
+use native.Mathlib.Omega.{arith}
+use lib.Dec.{eqb, ltb, leb}
+use Rattle.model.specs.declared.Cause.{Cause}
 use Rattle.model.specs.declared.Monitor.{Monitor}
 use Rattle.model.specs.declared.Answer.{Answer}
+use Rattle.model.specs.Answers.{timeFalls, tooManyRecords, mostRecords}
+use Rattle.base.proofs.Bools.{split}
 use Rattle.rounds.specs.Chart.{Chart}
 use Rattle.rounds.specs.Rows.{LogRecord, chartMessage}
 use Rattle.rounds.specs.Feeds.{Answer as AbstractAnswer, refused, brokenAt, keptNow, droppedNow, entered, moved, quiet}
 use Rattle.rounds.specs.Machine.{Monitor as AbstractMonitor, Step as AbstractStep, Move, stuck, fails, rests, offer}
 use Rattle.rounds.specs.Machine.{full, prechartDone, goOn, keepRound, dropRound, breakRound, conclude, accept}
+use Rattle.rounds.specs.Machine.{feed}
 use Rattle.stepping.specs.declared.Step.{Step}
 use Rattle.stepping.specs.Answers.{answerOf, HandsBack}
 
@@ -44,6 +52,27 @@ module _ (C : Chart) (m : AbstractMonitor) (e : LogRecord) where
   accept-taken =
       either-taken (chartMessage C e) (conclude C m e (offer C (m .place) e)) (goOn C m e quiet (m .place))
       (conclude-taken (offer C (m .place) e)) tt
+
+-- the machine refuses with 22 and 23 alone
+pub refuses-with : (C : Chart) (m : AbstractMonitor) (e : LogRecord) {k : ℕ} → feed C m e .answer ≡ refused k
+    → (k ≡ timeFalls) ⊎ (k ≡ tooManyRecords)
+unfolding feed NotRefused
+refuses-with C m e {k} h = elim (split (eqb (m .tally .broken .at) 0)) [
+  | inl p ↦ elim (split (ltb (e .time) (m .tally .now))) [
+    | inl q ↦ inl (sym (same-number (rw (p, q) at h)))
+    | inr q ↦ elim (split (leb mostRecords (m .tally .records))) [
+      | inl r ↦ inr (sym (same-number (rw (p, q, r) at h)))
+      | inr r ↦ absurd (subst NotRefused (rw (p, q, r) at h) (accept-taken C m e))
+    ]
+  ]
+  | inr p ↦ absurd (clashes (rw p at h))
+]
+  where
+    same-number : {a b : ℕ} → refused a ≡ refused b → a ≡ b
+    same-number e = cc
+
+    clashes : {a b : ℕ} {x : Cause} → brokenAt a b x ≡ refused k → ⊥
+    clashes e = let z : _≡_ {A = ℕ} 0 1 = cc in omega arith
 
 pub taken-back : (C : Chart) (v : AbstractMonitor) (e : LogRecord) (m : Monitor) (r : Step)
     → answerOf (r .answer) ≡ accept C v e .answer

@@ -29,9 +29,7 @@ returns c =
     let a = c .before .before .before .answer-cause .ensures in
     let f = c .before .before .before .before .before .before .feed-message in (
       record {
-        answer = f .result;
-        fed = f .ensures;
-        is-number = c .answer-number .ensures;
+        returned = record { answer = f .result; fed = f .ensures; is-number = c .answer-number .ensures };
         is-region = ap (λ (x : Cause). x .region) a;
         is-term = ap (λ (x : Cause). x .term) a;
       },
