@@ -91,7 +91,10 @@ uint8_t lsc_open(const uint8_t *chart, size_t chart_length,
                  uint8_t *live, size_t live_length, uint64_t *at);
 
 /*
- * Feeds one message to a live monitor.
+ * Feeds one message to a live monitor. A message out of order in an unfinished prechart drops the
+ * round. If a round can start with it, it is offered once more, to the round that opens then with
+ * all clocks at zero, and the answer is what it did there. It counts as one record, and may count
+ * as two dropped rounds.
  *
  * Returns 1 to 6 (LSC_BROKEN to LSC_QUIET), and the image in live is the monitor after the
  * record; all other bytes stay as they were. After a break the answer is 1 each time, and no

@@ -1,6 +1,7 @@
 -- What a loop over the numbers below a bound keeps. Assumes nothing.
 use mathlib.Core.Path.{_≡_, refl}
-use mathlib.Core.Bool.{Bool, true, false, or-true, _&&_}
+use mathlib.Core.Logic.{inl, inr}
+use mathlib.Core.Bool.{Bool, true, false, or-true, _&&_, false≢true}
 use mathlib.Core.Option.{none, some}
 use Prim.Native.Nat.{ℕ, zero, suc, _+_, _≤_, _<_}
 use native.Mathlib.Decide.{decLt, ℕ-discrete}
@@ -8,7 +9,7 @@ use native.Mathlib.Nat.{not-suc-le-zero}
 use native.Mathlib.Numerals.{add-one}
 use native.Mathlib.Omega.{arith}
 use Rattle.base.specs.Lists.{allBelow, someBelow, first, failsAt}
-use Rattle.base.proofs.Bools.{clash}
+use Rattle.base.proofs.Bools.{clash, either}
 use Rattle.base.proofs.Facts.{first-is, first-is-none, fails-none, fails-is}
 
 -- the test gave b for every number below k
@@ -44,6 +45,10 @@ one-passes t k (suc n) l h = elim (ℕ-discrete k n) [
   | yes q ↦ rw (← q, h) (or-true (someBelow k t))
   | no q ↦ rw (one-passes t k n (omega arith) h)
 ]
+
+pub some-at : (n : ℕ) (t : ℕ → Bool) → someBelow n t ≡ true → (i : ℕ) × (t i ≡ true)
+some-at zero t h = absurd (false≢true h)
+some-at (suc n) t h = elim (either (someBelow n t) (t n) h) [ inl p ↦ some-at n t p | inr p ↦ (n, p) ]
 
 pub none-some : {t : ℕ → Bool} (n : ℕ) → SoFar t false n → someBelow n t ≡ false
 none-some zero S = refl

@@ -63,6 +63,10 @@ abbrev pub onFound : {A B : Type 0} → Option A → B → (A → B) → B
 onFound none b f = b
 onFound (some a) b f = f a
 
+-- whether something was found
+abbrev pub isFound : {A : Type 0} → Option A → Bool
+isFound o = onFound o false (λ a. true)
+
 -- the lowest number below the bound that fails, counted from 1; 0 if every one passes
 abbrev pub failsAt : ℕ → (ℕ → Bool) → ℕ
 failsAt n t = onFound (first n (λ j. not (t j))) 0 (λ j. j + 1)

@@ -57,7 +57,7 @@ pub enum Sought {
 }
 
 // The ready region that has the message, sought in the set `among`, which has every region with this message.
-fn ready_for(
+pub fn ready_for(
     keys: &[u64; MOST_REGIONS],
     above: &[u32; MOST_REGIONS],
     among: u32,

@@ -21,8 +21,8 @@ use Rattle.rounds.specs.Chart.{Chart as Abstract}
 use Rattle.rounds.specs.Rows.{LogRecord, chartMessage}
 use Rattle.rounds.specs.Feeds.{noReadyRegion, conditionFails, entered, moved, quiet}
 use Rattle.rounds.specs.Machine.{Monitor as AbstractMonitor, Step as AbstractStep, Move, stuck, fails, rests, offer}
-use Rattle.rounds.specs.Machine.{full, prechartDone, goOn, keepRound, dropRound, breakRound, conclude, accept, feed}
-use Rattle.rounds.specs.Machine.{after}
+use Rattle.rounds.specs.Machine.{takeMessage, full, prechartDone, goOn, keepRound, dropRound, breakRound, conclude}
+use Rattle.rounds.specs.Machine.{missed, fitsOpening, reopened, accept, feed, after}
 use Rattle.base.proofs.Bools.{clash}
 use Rattle.log_reader.specs.declared.Next.the-variants.{Handed}
 use Rattle.log_reader.specs.Next.{nextAt}
@@ -72,17 +72,18 @@ passed s at last n l f e past q = by (ltb (timeOf e .0) (last .0)) (leb mostReco
     by false false x y =
         record { later = x; few = y; rest = left-going s at last n l past (timeOf e) (n + 1) (step ∙ rw (x, y)) }
 
+-- the record is the first after n, and now is its time
+record Counted (e : LogRecord) (n : ℕ) (x : AbstractStep) : Type 0 where
+  now : x .next .tally .now ≡ e .time
+  records : x .next .tally .records ≡ suc n
+
+either-counted : {e : LogRecord} {n : ℕ} (b : Bool) (x y : AbstractStep) → Counted e n x → Counted e n y
+    → Counted e n (cond b x y)
+either-counted true x y p q = p
+either-counted false x y p q = q
+
 module _ (C : Abstract) (m : AbstractMonitor) (e : LogRecord) where
-  -- the record is counted, and now is its time
-  record Counted (x : AbstractStep) : Type 0 where
-    now : x .next .tally .now ≡ e .time
-    records : x .next .tally .records ≡ suc (m .tally .records)
-
-  either-counted : (b : Bool) (x y : AbstractStep) → Counted x → Counted y → Counted (cond b x y)
-  either-counted true x y p q = p
-  either-counted false x y p q = q
-
-  conclude-counted : (v : Move) → Counted (conclude C m e v)
+  conclude-counted : (v : Move) → Counted e (m .tally .records) (conclude C m e v)
   unfolding conclude goOn keepRound dropRound breakRound
   conclude-counted stuck =
       either-counted (prechartDone C (m .place .fired)) (breakRound C m e noReadyRegion noCause (m .place))
@@ -96,11 +97,18 @@ module _ (C : Abstract) (m : AbstractMonitor) (e : LogRecord) where
       (goOn C m e (cond (not (prechartDone C (m .place .fired)) && prechartDone C (p .fired)) entered moved) p)
       (record { now = refl; records = refl }) (record { now = refl; records = refl })
 
-  accept-counted : Counted (accept C m e)
-  unfolding accept goOn
+  offer-counted : Counted e (m .tally .records) (offer C m e)
+  unfolding offer goOn
+  offer-counted =
+      either-counted (chartMessage C e) (conclude C m e (takeMessage C (m .place) e)) (goOn C m e quiet (m .place))
+      (conclude-counted (takeMessage C (m .place) e)) (record { now = refl; records = refl })
+
+module _ (C : Abstract) (m : AbstractMonitor) (e : LogRecord) where
+  accept-counted : Counted e (m .tally .records) (accept C m e)
+  unfolding accept reopened
   accept-counted =
-      either-counted (chartMessage C e) (conclude C m e (offer C (m .place) e)) (goOn C m e quiet (m .place))
-      (conclude-counted (offer C (m .place) e)) (record { now = refl; records = refl })
+      either-counted (missed C m e && fitsOpening C e) (offer C (reopened C m e) e) (offer C m e)
+      (offer-counted C (reopened C m e) e) (offer-counted C m e)
 
   accept-fed : m .tally .broken .at ≡ 0 → ltb (e .time) (m .tally .now) ≡ false
       → leb mostRecords (m .tally .records) ≡ false → accept C m e ≡ feed C m e

@@ -4,7 +4,7 @@ use mathlib.Core.Logic.{inl, inr, _↔_}
 use mathlib.Core.Bool.{Bool, true, false, not, So, _&&_, _||_}
 use mathlib.Core.Option.{Option, none, some}
 use mathlib.Core.List.{List}
-use Prim.Native.Nat.{ℕ, zero, suc, _+_, _-_, _≤_, _<_, _^_}
+use Prim.Native.Nat.{ℕ, zero, suc, _+_, _*_, _-_, _≤_, _<_, _^_}
 use native.Mathlib.Omega.{arith}
 use native.Mathlib.Decide.{decLt}
 use native.Mathlib.Nat.{lt-of-le-of-lt}
@@ -165,7 +165,7 @@ module _ (C : Abstract) (A : Accepted C) (m : Monitor) where
       (and-left (placeFits C (m .place) (m .tally .now .0) (m .tally .broken .at)) _ e) in
       let t = and-right (placeFits C (m .place) (m .tally .now .0) (m .tally .broken .at)) _ e in
       let counts = and-left
-      (leb (m .tally .records) mostRecords && leb (m .tally .kept + m .tally .dropped) (m .tally .records)) _ t in
+      (leb (m .tally .records) mostRecords && leb (m .tally .kept + m .tally .dropped) (2 * m .tally .records)) _ t in
       record {
         closed = P .closed;
         within = P .within;
@@ -178,7 +178,7 @@ module _ (C : Abstract) (A : Accepted C) (m : Monitor) where
         break-fits =
             break-of C (m .tally .records) (m .tally .broken) (and-right
             (leb (m .tally .records) mostRecords && leb (m .tally .kept + m .tally .dropped)
-            (m .tally .records)) _ t);
+            (2 * m .tally .records)) _ t);
       }
 
   pub of-fit : Fit C (monitorAt m) → So (fits C m)

@@ -2,7 +2,7 @@
 use mathlib.Core.Bool.{Bool, true, false, not, _&&_, _||_}
 use mathlib.Core.Option.{Option, none, some}
 use mathlib.Core.List.{List}
-use Prim.Native.Nat.{ℕ, _+_, _-_}
+use Prim.Native.Nat.{ℕ, _+_, _*_, _-_}
 use lib.Dec.{eqb, leb, ltb}
 use Rattle.bitset.specs.Set.{contains, within}
 use Rattle.model.specs.declared.Moment.{Moment}
@@ -55,9 +55,9 @@ breakFits C records b =
     || leb 1 (b .at) && (leb (b .at) records
     && (eqb (b .reason) noReadyRegion && isZero (b .cause) || eqb (b .reason) conditionFails && causeFits C (b .cause)))
 
--- records is not above 1,000,000, and the sum of kept and dropped is not above records
+-- records is not above 1,000,000, and the sum of kept and dropped is not above twice records
 unfoldable pub countsFit : Tally → Bool
-countsFit x = leb (x .records) mostRecords && leb (x .kept + x .dropped) (x .records)
+countsFit x = leb (x .records) mostRecords && leb (x .kept + x .dropped) (2 * x .records)
 
 -- the place fits at moment t; `break` is the record of the break, or 0
 unfoldable pub placeFits : Abstract → Place → ℕ → ℕ → Bool

@@ -78,12 +78,12 @@ fn moments_fit(clocks: usize, resets: [Moment; CLOCK_PLACES], now: Moment) -> bo
     ok
 }
 
-// Records is not above 1,000,000, and the sum of kept and dropped is not above records.
+// Records is not above 1,000,000, and the sum of kept and dropped is not above twice records; both in 64 bits.
 fn counts_fit(x: Tally) -> bool
     ensures { λ r. ⌜ r ≡ countsFit x ⌝ }
 {
     (x.records <= MOST_RECORDS)
-        & (wire::wide64(x.kept) + wire::wide64(x.dropped) <= wire::wide64(x.records))
+        & (wire::wide64(x.kept) + wire::wide64(x.dropped) <= 2 * wire::wide64(x.records))
 }
 
 // Whether the cause is a region of the chart with one of its terms: the term then has a word, which is not 0.

@@ -12,7 +12,7 @@ use Rattle.rounds.specs.Chart.{Chart, Accepted}
 use Rattle.rounds.specs.Rows.{LogRecord, Row, stands, momentAt, chartMessage, chartMessages, messageRegions, momentOf}
 use Rattle.rounds.specs.Rows.{opened, resetMoment, Lawful}
 use Rattle.rounds.specs.Rows.{LawfulBy, NoRowBy}
-use Rattle.rounds.specs.Machine.{Place, Move, rests, offer, opening}
+use Rattle.rounds.specs.Machine.{Place, Move, rests, takeMessage, opening}
 use Rattle.base.proofs.Bools.{split}
 use Rattle.rounds.proofs.Machine.{plain-none, opening-settled}
 use Rattle.rounds.proofs.Moments.{holds, chartMessages-take, chartMessages-skip, retest}
@@ -20,7 +20,7 @@ use Rattle.rounds.proofs.Settling.{LastMessage, last-message}
 use Rattle.rounds.proofs.Rows.{codes, as-many, lawful-before, lawful-after, Early, strict-early, lawful-empty, one-row}
 use Rattle.rounds.proofs.Rounds.{placeOf, Means, unplaced, failed, grown, move-means}
 use Rattle.rounds.proofs.Endings.{none-placed, none-holds}
-use Rattle.rounds.proofs.Feeds.{opens as opens-lawful}
+use Rattle.rounds.proofs.Offers.{opens as opens-lawful}
 use Rattle.paper.specs.Runs.{Config, initial, AtRest, Over, configAt, configOf, lastOf, Rising, spelled}
 use Rattle.paper.proofs.Parts.{OneMessage, Chain, opens, next}
 use Rattle.paper.proofs.Prompts.{chain-prompt, prompt-chain}
@@ -122,7 +122,7 @@ module _ (C : Chart) (A : Accepted C) (o : ℕ) where
   row-step s e q r h R M L =
       let l : Snoc LogRecord = chartMessages C s in
       let l′ : Snoc LogRecord = chartMessages C (s ▸ e) in
-      let v : offer C (placeOf C o l q) e ≡ rests (placeOf C o l′ r) = rests-row C o A
+      let v : takeMessage C (placeOf C o l q) e ≡ rests (placeOf C o l′ r) = rests-row C o A
       (move-means C A o s e h q M) r L in
       rw (← (config-of-place C o (lastOf o l) l q), ← (config-of-place C o (e .time) l′ r))
       (steps-of C A (placeOf C o l q) e (lastOf o l) (past C o l q (R .0)) (R .1) h (placeOf C o l′ r)
@@ -178,7 +178,7 @@ module _ (C : Chart) (A : Accepted C) (o : ℕ) where
         (I .0, lawful-after C o s e (I .0) h (I .1), rw (chartMessages-skip C s e h) (I .2))
   ]
 
-  opening-rests : AtRest C (initial .cut)
+  pub opening-rests : AtRest C (initial .cut)
   unfolding AtRest
   opening-rests = λ j p R. absurd (opening-settled C A j p R)
 

@@ -282,3 +282,19 @@ module _ (C : Chart) where
     -- a prompt run is a chain
     pub prompt-chain : (l : Snoc LogRecord) {z : Config} → Over C x (spelled o l) z → Chain C x o l z
     prompt-chain l P = mid-rest (prompt-mid l (P .spells) (P .run)) (P .rests)
+
+    -- one that ends with a delay has only waited since
+    pub prompt-waits : (l : Snoc LogRecord) (d : ℕ) {w : Snoc Letter} {z : Config} → strip w ≡ spelled o l ▸ delay d
+        → Prompt C x w z
+        → (y : Config) × Over C x (spelled o l) y × (z ≡ wait C y d)
+    prompt-waits l d q P = let W = both P .waiting l d q in (W .from, chain-prompt rest (W .chain), W .at)
+
+    -- one over a last record came by a region that has its message
+    mid-meets : {l : Snoc LogRecord} {e : LogRecord} {z : Config} → Mid (l ▸ e) z
+        → (y : Config) × Over C x (spelled o l) y × (s : ℕ) × Ready C (y .cut) s × (C .key s ≡ e .code)
+    mid-meets (moving {y} K B s r p k h S) = (y, chain-prompt rest K, s, r, k)
+
+    pub prompt-meets : (l : Snoc LogRecord) (e : LogRecord) {w : Snoc Letter} {z : Config}
+        → strip w ≡ spelled o (l ▸ e) → Prompt C x w z
+        → (y : Config) × Over C x (spelled o l) y × (s : ℕ) × Ready C (y .cut) s × (C .key s ≡ e .code)
+    prompt-meets l e q P = mid-meets (prompt-mid (l ▸ e) q P)

@@ -10,13 +10,13 @@ use native.Mathlib.Omega.{arith}
 use lib.Dec.{eqb, ltb}
 use Rattle.rounds.specs.Chart.{Chart, conditionOf, Accepted}
 use Rattle.rounds.specs.Rows.{LogRecord, chartMessage, Ready, values, opened}
-use Rattle.rounds.specs.Machine.{Place, Move, stuck, fails, rests, readyPlain, readyFor, unfired, fire, settle, offer}
-use Rattle.rounds.specs.Machine.{tryRegion, opening}
+use Rattle.rounds.specs.Machine.{Place, Move, stuck, fails, rests, readyPlain, readyFor, unfired, fire, settle}
+use Rattle.rounds.specs.Machine.{takeMessage, tryRegion, opening}
 use Rattle.base.proofs.Bools.{split}
 use Rattle.base.proofs.Facts.{found}
-use Rattle.rounds.proofs.Machine.{unfired-falls, chart-nonzero, has-message, offer-stuck, offer-fails, offer-fires}
-use Rattle.rounds.proofs.Machine.{LowestPlain, plain-some, plain-is, plain-none, plain-is-none, for-some, for-none}
-use Rattle.rounds.proofs.Machine.{for-is}
+use Rattle.rounds.proofs.Machine.{unfired-falls, chart-nonzero, has-message, message-stuck, message-fails}
+use Rattle.rounds.proofs.Machine.{message-fires, LowestPlain, plain-some, plain-is, plain-none, plain-is-none, for-some}
+use Rattle.rounds.proofs.Machine.{for-none, for-is}
 use Rattle.paper.specs.Runs.{Config, initial, add, reset, shift, Next, AtRest, configAt}
 use Rattle.paper.proofs.Parts.{Silents, no-more, one, OneMessage, Failure, at-once, later}
 
@@ -133,16 +133,17 @@ module _ (C : Chart) (A : Accepted C) where
     silents-reach p h (one {y} S s N c) = reach-one p y s (silents-reach p h S) N c
 
   -- no region that follows the cut has the message
-  pub stuck-of : (p : Place) (e : LogRecord) → offer C p e ≡ stuck → (s : ℕ) → Ready C (p .fired) s → C .key s ≢ e .code
+  pub stuck-of : (p : Place) (e : LogRecord) → takeMessage C p e ≡ stuck → (s : ℕ) → Ready C (p .fired) s
+      → C .key s ≢ e .code
   unfolding Came
   stuck-of p e h s R k = elim (found (readyFor C (p .fired) e)) [
     | inl n ↦ for-none C A (p .fired) e s n R k
     | inr f ↦ elim (split (conditionOf C (f .0) (values C (e .time) (p .clocks)))) [
-      | inl c ↦ subst (Came (e .time) _) (sym (offer-fires C p e (f .0) (f .1) c) ∙ h) (settle-came (e .time)
+      | inl c ↦ subst (Came (e .time) _) (sym (message-fires C p e (f .0) (f .1) c) ∙ h) (settle-came (e .time)
           (configAt C (e .time) (fire C (e .time) p (f .0))) (unfired C (fire C (e .time) p (f .0) .fired))
           (fire C (e .time) p (f .0))
           no-more (omega arith))
-      | inr c ↦ not-stuck (sym (offer-fails C p e (f .0) (f .1) c) ∙ h)
+      | inr c ↦ not-stuck (sym (message-fails C p e (f .0) (f .1) c) ∙ h)
     ]
   ]
     where
@@ -151,9 +152,9 @@ module _ (C : Chart) (A : Accepted C) where
 
   -- where no region that follows the cut has the message, the machine finds none
   pub of-unmatched : (p : Place) (e : LogRecord) → ((s : ℕ) → Ready C (p .fired) s → C .key s ≢ e .code)
-      → offer C p e ≡ stuck
+      → takeMessage C p e ≡ stuck
   of-unmatched p e h = elim (found (readyFor C (p .fired) e)) [
-    | inl n ↦ offer-stuck C p e n
+    | inl n ↦ message-stuck C p e n
     | inr f ↦ let R = for-some C A (p .fired) e (f .0) (f .1) in absurd (h (f .0) (R .0) (R .1))
   ]
 
@@ -177,17 +178,17 @@ module _ (C : Chart) (A : Accepted C) where
         (rw (fire-config C (e .time) p m) no-more) (omega arith)
 
     -- where the machine comes to rest, the source's steps lead there
-    pub steps-of : (q : Place) → AtRest C (p .fired) → offer C p e ≡ rests q
+    pub steps-of : (q : Place) → AtRest C (p .fired) → takeMessage C p e ≡ rests q
         → OneMessage C (configAt C t p) (e .time - t) (e .code) (configAt C (e .time) q)
     unfolding configAt Came
     steps-of q w h = elim (found (readyFor C (p .fired) e)) [
-      | inl n ↦ absurd (stuck-rests (sym (offer-stuck C p e n) ∙ h))
+      | inl n ↦ absurd (stuck-rests (sym (message-stuck C p e n) ∙ h))
       | inr f ↦
           let R = for-some C A (p .fired) e (f .0) (f .1) in
           elim (split (conditionOf C (f .0) (values C (e .time) (p .clocks)))) [
             | inl c ↦
                 let S : Came (e .time) (lastAfter (f .0)) (rests q)
-                = subst (Came (e .time) _) (sym (offer-fires C p e (f .0) (f .1) c) ∙ h) (fired-came (f .0)) in
+                = subst (Came (e .time) _) (sym (message-fires C p e (f .0) (f .1) c) ∙ h) (fired-came (f .0)) in
                 record {
                   waits = w;
                   region = f .0;
@@ -198,7 +199,7 @@ module _ (C : Chart) (A : Accepted C) where
                   silents = rw shifted (S .0);
                   rests = S .1;
                 }
-            | inr c ↦ absurd (fails-rests (sym (offer-fails C p e (f .0) (f .1) c) ∙ h))
+            | inr c ↦ absurd (fails-rests (sym (message-fails C p e (f .0) (f .1) c) ∙ h))
           ]
     ]
       where
@@ -212,17 +213,17 @@ module _ (C : Chart) (A : Accepted C) where
     Fails j y = Failure C (record { cut = p .fired; valuation = values C t (p .clocks) }) (e .time - t) (e .code) j y
 
     -- the machine's failing term is the condition's
-    pub term-of : (i term : ℕ) (q : Place) → offer C p e ≡ fails i term q
+    pub term-of : (i term : ℕ) (q : Place) → takeMessage C p e ≡ fails i term q
         → term ≡ C .failing i (values C (e .time) (q .clocks))
     unfolding Came
     term-of i term q h = elim (found (readyFor C (p .fired) e)) [
-      | inl n ↦ absurd (stuck-fails (sym (offer-stuck C p e n) ∙ h))
+      | inl n ↦ absurd (stuck-fails (sym (message-stuck C p e n) ∙ h))
       | inr f ↦ elim (split (conditionOf C (f .0) (values C (e .time) (p .clocks)))) [
         | inl c ↦
             let S : Came (e .time) (lastAfter (f .0)) (fails i term q)
-            = subst (Came (e .time) _) (sym (offer-fires C p e (f .0) (f .1) c) ∙ h) (fired-came (f .0)) in
+            = subst (Came (e .time) _) (sym (message-fires C p e (f .0) (f .1) c) ∙ h) (fired-came (f .0)) in
             S .3
-        | inr c ↦ same-term (sym (offer-fails C p e (f .0) (f .1) c) ∙ h)
+        | inr c ↦ same-term (sym (message-fails C p e (f .0) (f .1) c) ∙ h)
       ]
     ]
       where
@@ -234,22 +235,22 @@ module _ (C : Chart) (A : Accepted C) where
         same-term u = cc
 
     -- where the machine finds a failing condition, so does the source
-    pub failure-of : (i term : ℕ) (q : Place) → offer C p e ≡ fails i term q
+    pub failure-of : (i term : ℕ) (q : Place) → takeMessage C p e ≡ fails i term q
         → Failure C (configAt C t p) (e .time - t) (e .code) i (configAt C (e .time) q)
     unfolding configAt Came
     failure-of i term q h = elim (found (readyFor C (p .fired) e)) [
-      | inl n ↦ absurd (stuck-fails (sym (offer-stuck C p e n) ∙ h))
+      | inl n ↦ absurd (stuck-fails (sym (message-stuck C p e n) ∙ h))
       | inr f ↦
           let R = for-some C A (p .fired) e (f .0) (f .1) in
           elim (split (conditionOf C (f .0) (values C (e .time) (p .clocks)))) [
             | inl c ↦
                 let S : Came (e .time) (lastAfter (f .0)) (fails i term q)
-                = subst (Came (e .time) _) (sym (offer-fires C p e (f .0) (f .1) c) ∙ h) (fired-came (f .0)) in
+                = subst (Came (e .time) _) (sym (message-fires C p e (f .0) (f .1) c) ∙ h) (fired-came (f .0)) in
                 later (f .0) (R .0) (has-message C e (f .0) chart (R .1)) (R .1) (rw shifted c)
                 (record { cut = q .fired; valuation = values C (e .time) (q .clocks) }) (rw shifted (S .0)) (S .1)
                 (S .2)
             | inr c ↦
-                let u = sym (offer-fails C p e (f .0) (f .1) c) ∙ h in
+                let u = sym (message-fails C p e (f .0) (f .1) c) ∙ h in
                 subst (λ (y : Place). Fails i (record { cut = y .fired; valuation = values C (e .time) (y .clocks) }))
                 (same-place u)
                 (subst (λ (v : ℕ → ℕ). Fails i (record { cut = p .fired; valuation = v })) shifted
@@ -276,12 +277,12 @@ module _ (C : Chart) (A : Accepted C) where
         (rw shifted at S)
 
     settles : (m : ℕ) → Ready C (p .fired) m → C .key m ≡ e .code → So (conditionOf C m later-values)
-        → offer C p e ≡ settle C (e .time) (unfired C (fire C (e .time) p m .fired)) (fire C (e .time) p m)
-    settles m R k h = offer-fires C p e m (for-is C A (p .fired) e m R k (chart-nonzero C e chart)) (rw shifted at h)
+        → takeMessage C p e ≡ settle C (e .time) (unfired C (fire C (e .time) p m .fired)) (fire C (e .time) p m)
+    settles m R k h = message-fires C p e m (for-is C A (p .fired) e m R k (chart-nonzero C e chart)) (rw shifted at h)
 
     -- where the source's steps lead, the machine comes to rest
     pub of-steps : (z : Config) → OneMessage C (configAt C t p) (e .time - t) (e .code) z
-        → (q : Place) × (offer C p e ≡ rests q) × (z ≡ configAt C (e .time) q)
+        → (q : Place) × (takeMessage C p e ≡ rests q) × (z ≡ configAt C (e .time) q)
     unfolding configAt Reached
     of-steps z M =
         let m : ℕ = M .region in
@@ -296,12 +297,12 @@ module _ (C : Chart) (A : Accepted C) where
 
     -- where the source finds a failing condition, so does the machine
     pub of-failure : (i : ℕ) {y : Config} → Failure C (configAt C t p) (e .time - t) (e .code) i y
-        → (q : Place) × (offer C p e ≡ fails i (C .failing i (values C (e .time) (q .clocks))) q)
+        → (q : Place) × (takeMessage C p e ≡ fails i (C .failing i (values C (e .time) (q .clocks))) q)
         × (y ≡ configAt C (e .time) q)
     unfolding configAt Reached
     of-failure i (at-once R k f) = (
       p,
-      offer-fails C p e i (for-is C A (p .fired) e i R k (chart-nonzero C e chart)) (rw shifted at f),
+      message-fails C p e i (for-is C A (p .fired) e i R k (chart-nonzero C e chart)) (rw shifted at f),
       ap {B = Config} (λ (v : ℕ → ℕ). record { cut = p .fired; valuation = v }) shifted,
     )
     of-failure i (later m R n k h y S N f) =

@@ -1,14 +1,18 @@
 -- A word has at most one prompt run that comes to rest, with the same letters and the same end: the run is taken apart
--- at its last letter that is not silent. Assumes nothing.
+-- at its last letter that is not silent. And what a prompt run over a beginning of the word has in its cut, that one
+-- has too. Assumes nothing.
 use mathlib.Core.Path.{_≡_, refl, sym, ap, ap₂, subst, _∙_}
 use mathlib.Core.Logic.{_≢_, _⊎_, inl, inr}
-use mathlib.Core.Bool.{Bool}
+use mathlib.Core.Bool.{Bool, So}
 use Prim.Native.Nat.{ℕ}
 use native.Mathlib.Omega.{arith}
+use lib.Dec.{eqb}
 use Rattle.base.specs.Lists.{Snoc, ε, _▸_}
 use Rattle.rounds.specs.Chart.{Chart, Accepted}
 use Rattle.rounds.specs.Rows.{Ready}
-use Rattle.paper.specs.Runs.{Config, Letter, message, silent, delay, strip, successor, Advance, Next, AtRest}
+use Rattle.base.proofs.Bools.{or-right}
+use Rattle.paper.specs.Runs.{Config, Letter, message, silent, delay, _·_, strip, add, successor, Advance}
+use Rattle.paper.specs.Runs.{synchronization, silent-advancement, premature-termination, time-delay, Next, AtRest}
 use Rattle.paper.specs.Runs.{Prompt, begins, settles, goes, Over}
 use Rattle.paper.proofs.Prompts.{synced, delayed}
 use Rattle.paper.proofs.Words.{one-ready}
@@ -61,9 +65,10 @@ module _ (C : Chart) where
     | inr U ↦ U
   ]
 
-  same-tails : {w v v′ : Snoc Letter} {z y y′ : Config} → Tail w z v y → Tail w z v′ y′ → AtRest C (y .cut)
-      → AtRest C (y′ .cut) → Equal v y v′ y′
-  same-tails T T′ r r′ = tail-rests r (tail-through T T′ r′)
+  tail-grows : {w v : Snoc Letter} {z y : Config} (i : ℕ) → Tail w z v y → So (z .cut i) → So (y .cut i)
+  unfolding add
+  tail-grows i same h = h
+  tail-grows i (more T s N) h = or-right (eqb i s) (tail-grows i T h)
 
   -- a run over no letter but silent ones, and one over a last letter
   loud-empty : (w : Snoc Letter) (u : Letter) → u ≢ silent → strip (w ▸ u) ≢ ε
@@ -138,23 +143,40 @@ module _ (C : Chart) where
     stripped (w ▸ silent) q = stripped w q
     stripped (w ▸ delay d) q = λ s. (let z : _≡_ {A = ℕ} 0 1 = cc in omega arith)
 
-    only-one : (v : Snoc Letter) {x z z′ : Config} (P : Over C x v z) (P′ : Over C x v z′)
-        → Equal (P .letters) z (P′ .letters) z′
-    only-one ε P P′ =
-        same-tails (only-silent (P .run) (P .spells)) (only-silent (P′ .run) (P′ .spells)) (P .rests) (P′ .rests)
-    only-one (v ▸ u) {x} {z} {z′} P P′ =
-        let K = cut-last (P .run) (P .spells) in
-        let L = cut-last (P′ .run) (P′ .spells) in
+    -- silent letters lead from any prompt run to the one over the same word that comes to rest
+    leads-on : (v : Snoc Letter) {x z y : Config} {w : Snoc Letter} → Prompt C x w z → strip w ≡ v → (P : Over C x v y)
+        → Tail w z (P .letters) y
+    leads-on ε R q P = tail-through (only-silent R q) (only-silent (P .run) (P .spells)) (P .rests)
+    leads-on (v ▸ u) {x} {z} {y} {w} R q P =
+        let K = cut-last R q in
+        let L = cut-last (P .run) (P .spells) in
         let I : Equal (K .letters) (K .from) (L .letters) (L .from)
-        = only-one v (record { letters = K .letters; spells = K .spells; run = K .before; rests = K .rests })
-        (record { letters = L .letters; spells = L .spells; run = L .before; rests = L .rests }) in
-        let s : K .to ≡ L .to = one-step u (stripped (P .letters) (P .spells)) (K .advance)
+        = tail-rests (K .rests) (leads-on v (K .before) (K .spells)
+        (record { letters = L .letters; spells = L .spells; run = L .before; rests = L .rests })) in
+        let s : K .to ≡ L .to = one-step u (stripped w q) (K .advance)
         (subst (λ (k : Config). Advance C k u (L .to)) (sym (I .1)) (L .advance)) in
-        let T : Tail (K .letters ▸ u) (K .to) (P′ .letters) z′
-        = subst (λ (k : Config). Tail (K .letters ▸ u) k (P′ .letters) z′) (sym s)
-        (subst (λ (k : Snoc Letter). Tail (k ▸ u) (L .to) (P′ .letters) z′) (sym (I .0)) (L .tail)) in
-        same-tails (K .tail) T (P .rests) (P′ .rests)
+        let T : Tail (K .letters ▸ u) (K .to) (P .letters) y
+        = subst (λ (k : Config). Tail (K .letters ▸ u) k (P .letters) y) (sym s)
+        (subst (λ (k : Snoc Letter). Tail (k ▸ u) (L .to) (P .letters) y) (sym (I .0)) (L .tail)) in
+        tail-through (K .tail) T (P .rests)
 
     pub one-prompt : {x z z′ : Config} {w : Snoc Letter} (P : Over C x w z) (P′ : Over C x w z′)
         → (P .letters ≡ P′ .letters) × (z ≡ z′)
-    one-prompt {w} P P′ = only-one w P P′
+    one-prompt {w} P P′ = tail-rests (P .rests) (leads-on w (P .run) (P .spells) P′)
+
+    -- a letter that is not silent takes no region away
+    step-grows : {x z : Config} {u : Letter} (i : ℕ) → u ≢ silent → Advance C x u z → So (x .cut i) → So (z .cut i)
+    unfolding add
+    step-grows i n (synchronization s R p h) b = or-right (eqb i s) b
+    step-grows i n (silent-advancement s R p h) b = absurd (n refl)
+    step-grows i n (premature-termination s R p h) b = absurd (n refl)
+    step-grows i n (time-delay d s R h) b = b
+
+    pub cuts-grow : (v : Snoc Letter) {x z y : Config} {u w : Snoc Letter} (i : ℕ) → Prompt C x u z → Over C x w y
+        → w ≡ strip u · v → So (z .cut i) → So (y .cut i)
+    cuts-grow ε {w} i R P q h = tail-grows i (leads-on w R (sym q) P) h
+    cuts-grow (v ▸ l) i R P q h =
+        let K = cut-last (P .run) (P .spells ∙ q) in
+        let b = cuts-grow v i R
+        (record { letters = K .letters; spells = K .spells; run = K .before; rests = K .rests }) refl h in
+        tail-grows i (K .tail) (step-grows i (stripped (P .letters) (P .spells ∙ q)) (K .advance) b)

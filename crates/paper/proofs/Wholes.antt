@@ -1,8 +1,8 @@
 -- Whole rounds after a list of feeds (S17 to S19): times never fall, so that the rows are prompt runs. So the running
 -- round is one, to the monitor's configuration; those over the round's word decide the next answer; and where that is
 -- entered, kept or broken, the word satisfies the prechart or the chart, or violates it. Assumes nothing.
-use mathlib.Core.Path.{_≡_, refl, sym, ap, ap₂, _∙_}
-use mathlib.Core.Logic.{_≢_, _↔_, inl, inr}
+use mathlib.Core.Path.{_≡_, refl, sym, ap, ap₂, subst, _∙_}
+use mathlib.Core.Logic.{_↔_, inl, inr}
 use mathlib.Core.Bool.{Bool, true, false, not, cond, So, _&&_}
 use mathlib.Core.Option.{none, some}
 use Prim.Native.Nat.{ℕ, _-_, _≤_, _<_}
@@ -13,34 +13,37 @@ use Rattle.base.specs.Lists.{Snoc, ε, _▸_}
 use Rattle.model.specs.Answers.{timeFalls}
 use Rattle.model.specs.declared.Cause.{Cause}
 use Rattle.rounds.specs.Chart.{Chart, Accepted}
-use Rattle.rounds.specs.Rows.{LogRecord, Row, stands, chartMessage, chartMessages, Lawful, Full, PrechartDone}
-use Rattle.rounds.specs.Rows.{NoRowBy}
+use Rattle.rounds.specs.Rows.{LogRecord, chartMessage, chartMessages, PrechartDone}
 use Rattle.rounds.specs.Feeds.{lastMoment, refusal, kept, dropped, broken, Outcome, Stretch, Last, unended, afterBreak}
-use Rattle.rounds.specs.Feeds.{lastAfter, Answer, refused, brokenAt, keptNow, droppedNow, entered, moved, quiet, Onward}
-use Rattle.rounds.specs.Feeds.{completes-prechart, fires, stays, refuses, runs-on, ends, again, Fed, none-yet}
-use Rattle.rounds.specs.Feeds.{one-more, SaysDroppedOrBroken, Exactly}
-use Rattle.rounds.specs.Machine.{Place, Move, stuck, fails, rests, offer, prechartDone, full, Monitor, Step, goOn}
-use Rattle.rounds.specs.Machine.{keepRound, dropRound, breakRound, conclude, accept, feed, after}
-use Rattle.rounds.specs.Demand3.{Unbroken, AtLast}
+use Rattle.rounds.specs.Feeds.{lastAfter, Answer, refused, brokenAt, keptNow, droppedNow, entered, moved, quiet}
+use Rattle.rounds.specs.Feeds.{runs-on, ends, Missed, Fits, refuses, once, twice, again, Fed, none-yet, one-more}
+use Rattle.rounds.specs.Feeds.{SaysDroppedOrBroken}
+use Rattle.rounds.specs.Machine.{Move, stuck, fails, rests, takeMessage, prechartDone, full, Monitor, goOn, keepRound}
+use Rattle.rounds.specs.Machine.{dropRound, conclude, offer, missed, fitsOpening, reopened, feed, after}
+use Rattle.rounds.specs.Demand3.{Unbroken, AtLast, Meaning}
 use Rattle.base.proofs.Bools.{split, clash}
 use Rattle.base.proofs.Facts.{found, none-some}
 use Rattle.rounds.proofs.Machine.{done-true}
 use Rattle.rounds.proofs.Moments.{chartMessages-take, chartMessages-skip}
-use Rattle.rounds.proofs.Rows.{lawful-before, one-row}
 use Rattle.rounds.proofs.Rounds.{placeOf}
-use Rattle.rounds.proofs.Endings.{FedOne, ended, Comes, on, keeps, drops, breaks}
-use Rattle.rounds.proofs.Feeds.{feed-unbroken, comes-unbroken, besides, agrees}
-use Rattle.rounds.proofs.Exactly.{exactly}
+use Rattle.rounds.proofs.Endings.{FedOne, Goes, Comes}
+use Rattle.rounds.proofs.Offers.{comes-unbroken, reopened-unbroken, both-say, both-are, accept-once, accept-twice}
+use Rattle.rounds.proofs.Feeds.{feed-unbroken, besides-opened, besides, agrees}
+use Rattle.rounds.proofs.Exactly.{exactly, second-offer}
 use Rattle.rounds.proofs.Fitness.{after-fit}
-use Rattle.paper.specs.Runs.{Config, Letter, delay, message, initial, _·_, strip, IsCut, Maximal, Prompt, Over}
-use Rattle.paper.specs.Runs.{configAt, configOf, lastOf, Rising, spelled}
-use Rattle.paper.specs.Demand2.{CompletedBy, word, Reaches, Decided, Violated}
+use Rattle.paper.specs.Runs.{Config, Letter, delay, message, initial, _·_, strip, IsCut, Prompt, configAt}
+use Rattle.paper.specs.Runs.{configOf, lastOf, Rising, spelled}
+use Rattle.paper.specs.Taken.{MissedIn, Starts}
+use Rattle.paper.specs.Demand2.{CompletedBy, word, Reaches, Decided, DecidedOffered, Violated}
 use Rattle.paper.proofs.Parts.{Failure, at-once, later}
 use Rattle.paper.proofs.Prompts.{prompt-run, goes-on, silents-prompt}
 use Rattle.paper.proofs.Steps.{failure-of}
-use Rattle.paper.proofs.Words.{run-is-cut, full-completes, message-completes, done-satisfies, main-follows}
-use Rattle.paper.proofs.Satisfying.{satisfied-exactly}
-use Rattle.paper.proofs.Chains.{shown, past, row-step, row-is-prompt, prompt-is-row}
+use Rattle.paper.proofs.Words.{full-completes, main-follows}
+use Rattle.paper.proofs.Unique.{one-prompt}
+use Rattle.paper.proofs.Beginnings.{Begun, violates, begun-of, never-begun}
+use Rattle.paper.proofs.Missing.{starts-chart, twice-of, of-twice}
+use Rattle.paper.proofs.Chains.{past, row-is-prompt}
+use Rattle.paper.proofs.Deciding.{full-of, comes-enter, no-run, decided-by}
 
 -- no other answer is a broken one
 dropped-broken : {X : Type 0} {n k : ℕ} {x y : Cause} → droppedNow y ≡ brokenAt n k x → X
@@ -56,81 +59,15 @@ onward-broken false p = absurd (let z : _≡_ {A = ℕ} 0 1 = cc in omega arith)
 quiet-broken : {X : Type 0} {n k : ℕ} {x : Cause} → quiet ≡ brokenAt n k x → X
 quiet-broken p = absurd (let z : _≡_ {A = ℕ} 0 1 = cc in omega arith)
 
--- the stretch s with its lawful row q, and one more record e
-module _ (C : Chart) (A : Accepted C) (o : ℕ) (s : Snoc LogRecord) (e : LogRecord) (q : Row) (lawful : Lawful C o s q)
-    (rising : Rising o (chartMessages C (s ▸ e))) where
-  -- a prompt run over the round's word leads to place p, and its last message completes the prechart
-  abbrev Enters : Place → Type 0
-  Enters p = (P : Reaches C o (s ▸ e) (configAt C (e .time) p)) × CompletedBy C (C .prechart) (P .letters)
-
-  rows-enter : (r : Row) → Lawful C o (s ▸ e) r → ¬ PrechartDone C (stands q) → PrechartDone C (stands r)
-      → Enters (placeOf C o (chartMessages C (s ▸ e)) r)
-  unfolding configOf configAt placeOf
-  rows-enter r L undone done = elim (split (chartMessage C e)) [
-    | inl h ↦
-        let R : Rising o (chartMessages C s ▸ e) = rw (chartMessages-take C s e h) at rising in
-        let K = row-is-prompt C A o s q (R .0) lawful in
-        let d : ℕ = e .time - lastOf o (chartMessages C s) in
-        let M = row-step C A o s e q r h R lawful L in
-        let W = message-completes C A d (e .code) (K .run) undone M done in (
-          record {
-            letters = W .0;
-            spells = W .1 ∙ ap {B = Snoc Letter} (λ (v : Snoc Letter). v ▸ delay d ▸ message (e .code)) (K .spells)
-                ∙ sym (ap (spelled o) (chartMessages-take C s e h));
-            run = W .2;
-            rests = M .rests;
-          },
-          W .3,
-        )
-    | inr h ↦ absurd (undone (rw (← (one-row C A o s q r lawful (lawful-before C o s e r h L))) at done))
-  ]
-
-  onward-enters : (r : Row) (a : Answer) → Lawful C o (s ▸ e) r → Onward C q r a → a ≡ entered
-      → Enters (placeOf C o (chartMessages C (s ▸ e)) r)
-  onward-enters r a L (completes-prechart undone done) p = rows-enter r L undone done
-  onward-enters r a L (fires lt f) p = absurd (let z : _≡_ {A = ℕ} 0 1 = cc in omega arith)
-  onward-enters r a L (stays h) p = absurd (let z : _≡_ {A = ℕ} 0 1 = cc in omega arith)
-
-  comes-enter : (m : Monitor) {v : Step} → Comes C A o s e q lawful m v → v .answer ≡ entered → Enters (v .next .place)
-  unfolding goOn keepRound dropRound breakRound
-  comes-enter m (on r a L nf O) p = onward-enters r a L O p
-  comes-enter m (keeps E) p = absurd (let z : _≡_ {A = ℕ} 0 1 = cc in omega arith)
-  comes-enter m (drops x E) p = absurd (let z : _≡_ {A = ℕ} 0 1 = cc in omega arith)
-  comes-enter m (breaks k x d E) p = absurd (let z : _≡_ {A = ℕ} 0 1 = cc in omega arith)
-
-  -- entered, by the rows
-  abbrev EntersRow : Type 0
-  EntersRow =
-      (r : Row) × Lawful C o (s ▸ e) r × (¬ Full C (stands r)) × PrechartDone C (stands r)
-      × (¬ PrechartDone C (stands q))
-
-  onward-entered : (r : Row) (a : Answer) → Lawful C o (s ▸ e) r → ¬ Full C (stands r) → Onward C q r a
-      → (a ≡ entered) ↔ EntersRow
-  onward-entered r a L nf (completes-prechart undone done) = (λ p. (r, L, nf, done, undone), λ t. refl)
-  onward-entered r a L nf (fires lt f) = (
-    λ p. absurd (let z : _≡_ {A = ℕ} 0 1 = cc in omega arith),
-    λ t. absurd (t .4 (f (rw (one-row C A o (s ▸ e) (t .0) r (t .1) L) at (t .3)))),
-  )
-  onward-entered r a L nf (stays h) = (
-    λ p. absurd (let z : _≡_ {A = ℕ} 0 1 = cc in omega arith),
-    λ t. absurd (t .4 (rw (one-row C A o (s ▸ e) (t .0) r (t .1) L ∙ sym h) at (t .3))),
-  )
-
-  comes-entered : (m : Monitor) {v : Step} → Comes C A o s e q lawful m v → (v .answer ≡ entered) ↔ EntersRow
-  unfolding goOn keepRound dropRound breakRound
-  comes-entered m (on r a L nf O) = onward-entered r a L nf O
-  comes-entered m (keeps E) = (
-    λ p. absurd (let z : _≡_ {A = ℕ} 0 1 = cc in omega arith),
-    λ t. ended C A o s e q lawful E (t .0) (t .1) (t .2),
-  )
-  comes-entered m (drops x E) = (
-    λ p. absurd (let z : _≡_ {A = ℕ} 0 1 = cc in omega arith),
-    λ t. ended C A o s e q lawful E (t .0) (t .1) (t .2),
-  )
-  comes-entered m (breaks k x d E) = (
-    λ p. absurd (let z : _≡_ {A = ℕ} 0 1 = cc in omega arith),
-    λ t. ended C A o s e q lawful E (t .0) (t .1) (t .2),
-  )
+-- the answers that neither a refused record has nor one that is offered twice
+abbrev firstOnly : Answer → Bool
+firstOnly (refused k) = false
+firstOnly (brokenAt n k x) = true
+firstOnly (droppedNow x) = false
+firstOnly keptNow = true
+firstOnly entered = true
+firstOnly moved = false
+firstOnly quiet = true
 
 -- the chart messages' times never fall either
 module _ (C : Chart) (o : ℕ) where
@@ -170,12 +107,19 @@ steady-after (broken k x) rs e = tt
 
 module _ (C : Chart) where
   -- feed by feed
+  steady-goes : {o n : ℕ} {s : Snoc LogRecord} {e : LogRecord} {a : Answer} {es es′ : Snoc Stretch} {last : Last}
+      (rs : Snoc LogRecord)
+      → Rising o s → lastOf o s ≤ e .time → Goes C o s e n es a es′ last → Steady last (rs ▸ e)
+  unfolding Steady
+  steady-goes rs R h (runs-on q r a M L nf O) = ((R, h), refl)
+  steady-goes {e} rs R h (ends x E) = steady-after x rs e
+
   steady-one : {rs rs′ : Snoc LogRecord} {es es′ : Snoc Stretch} {last last′ : Last} {e : LogRecord} {a : Answer}
       → Steady last rs → FedOne C rs es e last a rs′ es′ last′ → Steady last′ rs′
   unfolding Steady
   steady-one S (refuses k h) = S
-  steady-one {rs} {e} S (runs-on h q r a M L nf O) = ((S .0, omega (arith, not-below rs e h, S .1)), refl)
-  steady-one {rs} {e} S (ends h x E) = steady-after x rs e
+  steady-one {rs} {e} S (once h n W) = steady-goes rs (S .0) (omega (arith, not-below rs e h, S .1)) W
+  steady-one {rs} {e} S (twice h M F W) = steady-goes rs tt (omega arith) W
   steady-one S again = S
 
   steady : {fs : Snoc LogRecord} {ans : Snoc Answer} {rs : Snoc LogRecord} {es : Snoc Stretch} {last : Last}
@@ -187,17 +131,11 @@ module _ (C : Chart) where
     pub monitor-is-cut : (fs : Snoc LogRecord) → IsCut C (after C fs .place .fired)
     monitor-is-cut fs = record { within = after-fit C A fs .within; closed = after-fit C A fs .closed }
 
-    -- a prompt run's cut is maximal if it has every region
-    maximal-of : {w : Snoc Letter} {z : Config} → Over C initial w z → Full C (z .cut) → Maximal C (C .regions) (z .cut)
-    unfolding Full Maximal
-    maximal-of P F = λ i. (run-is-cut C (prompt-run C (P .run)) .within i, F i)
-
-    full-of : (z : Config) → Maximal C (C .regions) (z .cut) → Full C (z .cut)
-    unfolding Full Maximal
-    full-of z M = λ i. M i .1
-
     module _ {fs : Snoc LogRecord} {ans : Snoc Answer} {rs : Snoc LogRecord} {es : Snoc Stretch} {o : ℕ} {s : Snoc LogRecord}
         (F : Fed C fs ans rs es (unended o s)) where
+      abbrev here : Monitor
+      here = after C fs
+
       rising : Rising o s
       unfolding Steady
       rising = steady F .0
@@ -207,251 +145,200 @@ module _ (C : Chart) where
       unfolding Steady
       rising-on e h = messages-rising C o (s ▸ e) (rising, omega (arith, not-below rs e h, steady F .1))
 
-      stands-at : Unbroken C o s (after C fs)
+      stands-at : Unbroken C o s here
       unfolding AtLast
       stands-at = agrees C A F .1 .at-last
 
-      pub round-is-prompt : Reaches C o s (configAt C (lastOf o (chartMessages C s)) (after C fs .place))
+      -- the monitor's configuration at the round's last chart message
+      abbrev at-message : Config
+      at-message = configAt C (lastOf o (chartMessages C s)) (here .place)
+
+      pub round-is-prompt : Reaches C o s at-message
       unfolding configAt configOf
       round-is-prompt =
-          let T : Unbroken C o s (after C fs) = stands-at in
+          let T : Unbroken C o s here = stands-at in
           rw (T .has-fired, T .has-clocks) (row-is-prompt C A o s (T .row) (messages-rising C o s rising) (T .lawful))
 
-      -- a record answered otherwise is not refused
-      not-refused : (e : LogRecord) (a : Answer) → ((k : ℕ) → refused k ≢ a) → feed C (after C fs) e .answer ≡ a
-          → refusal rs e ≡ none
-      not-refused e a n p = elim (found (refusal rs e)) [
+      not-refused : (e : LogRecord) → So (firstOnly (feed C here e .answer)) → refusal rs e ≡ none
+      not-refused e q = elim (found (refusal rs e)) [
         | inl h ↦ h
-        | inr f ↦ absurd (n (f .0) (rw (feed-unbroken C (after C fs) e (agrees C A F .1), f .1) at p))
+        | inr f ↦ clash q (rw (feed-unbroken C here e (agrees C A F .1), f .1))
       ]
 
-      exactly-here : (e : LogRecord) → refusal rs e ≡ none → Exactly C o s e (feed C (after C fs) e .answer)
-      exactly-here e h =
-          exactly C A (record { ans = ans; accepted = rs; stretches = es; last = unended o s; fed = F }) o s e refl h
-
-      pub kept-satisfies : (e : LogRecord) → feed C (after C fs) e .answer ≡ keptNow
-          → (z : Config) × (P : Reaches C o (s ▸ e) z) × CompletedBy C (C .regions) (P .letters)
-      unfolding configOf
-      kept-satisfies e p =
-          let h : refusal rs e ≡ none = not-refused e keptNow
-          (λ k u. absurd (let z : _≡_ {A = ℕ} 0 1 = cc in omega arith)) p in
-          let E = exactly-here e h .kept-exactly .0 p in
-          let P = row-is-prompt C A o (s ▸ e) (E .0) (rising-on e h) (E .1) in
-          (shown C o (s ▸ e) (E .0), P, full-completes C (prompt-run C (P .run)) (E .2))
-
-      -- what an accepted record comes to
-      comes-here : (e : LogRecord) → refusal rs e ≡ none
-          → Comes C A o s e (stands-at .row) (stands-at .lawful) (after C fs) (feed C (after C fs) e)
-      comes-here e h =
-          rw (feed-unbroken C (after C fs) e (agrees C A F .1), h) (comes-unbroken C A e (after C fs) stands-at
-          (besides C A F (stands-at .row) (stands-at .lawful)))
-
-      pub entered-satisfies : (e : LogRecord) → feed C (after C fs) e .answer ≡ entered
-          → (P : Reaches C o (s ▸ e) (configAt C (e .time) (feed C (after C fs) e .next .place)))
-          × CompletedBy C (C .prechart) (P .letters)
-      entered-satisfies e p =
-          let h : refusal rs e ≡ none = not-refused e entered
-          (λ k u. absurd (let z : _≡_ {A = ℕ} 0 1 = cc in omega arith)) p in
-          comes-enter C A o s e (stands-at .row) (stands-at .lawful) (rising-on e h)
-          (after C fs) {v = feed C (after C fs) e} (comes-here e h) p
-
-      -- rows and prompt runs of this stretch
+      -- one more record that is not refused
       module _ (e : LogRecord) (h : refusal rs e ≡ none) where
-        abbrev up : Snoc LogRecord → Row → Config
-        up t r = shown C o t r
+        abbrev said : Answer
+        said = feed C here e .answer
 
-        to-run : (r : Row) → Lawful C o (s ▸ e) r → Reaches C o (s ▸ e) (up (s ▸ e) r)
-        to-run r L = row-is-prompt C A o (s ▸ e) r (rising-on e h) L
+        abbrev meaning : Meaning C fs
+        meaning = record { ans = ans; accepted = rs; stretches = es; last = unended o s; fed = F }
 
-        to-row : (z : Config) → Reaches C o (s ▸ e) z → (r : Row) × Lawful C o (s ▸ e) r × (z .cut ≡ stands r)
-        unfolding configOf
-        to-row z P =
-            let W = prompt-is-row C A o (s ▸ e) z (rising-on e h) P in
-            (W .0, W .1, ap {B = ℕ → Bool} (λ (x : Config). x .cut) (W .2))
+        not-twice : So (firstOnly said) → ¬ (Missed C o s e × Fits C e)
+        not-twice q D = elim (second-offer C A meaning o s e refl h (D .0) (D .1)) [
+          | inl p ↦ clash q (ap firstOnly p)
+          | inr p ↦ clash q (ap firstOnly (p .1))
+        ]
 
-        before-run : Reaches C o s (up s (stands-at .row))
-        before-run = row-is-prompt C A o s (stands-at .row) (messages-rising C o s rising) (stands-at .lawful)
+        -- what it comes to, offered once or twice
+        feeds-once : ¬ (Missed C o s e × Fits C e) → feed C here e ≡ offer C here e
+        feeds-once n = rw (feed-unbroken C here e (agrees C A F .1), h) (accept-once C A e here stands-at n)
 
-        before-row : (y : Config) → Reaches C o s y → y .cut ≡ stands (stands-at .row)
-        unfolding configOf
-        before-row y P =
-            let W = prompt-is-row C A o s y (messages-rising C o s rising) P in
-            ap {B = ℕ → Bool} (λ (x : Config). x .cut) (W .2)
-            ∙ ap stands (one-row C A o s (W .0) (stands-at .row) (W .1) (stands-at .lawful))
+        comes-once : ¬ (Missed C o s e × Fits C e)
+            → Comes C A o s e (stands-at .row) (stands-at .lawful) here (feed C here e)
+        comes-once n =
+            rw (feeds-once n) (comes-unbroken C A e here stands-at
+            (besides C A F (stands-at .row) (stands-at .lawful)))
 
-        pub decided : Decided C o s e (feed C (after C fs) e .answer)
-        unfolding NoRowBy configOf
-        decided =
-            let X : Exactly C o s e (feed C (after C fs) e .answer) = exactly-here e h in
-            let Y = comes-entered C A o s e (stands-at .row) (stands-at .lawful) (rising-on e h)
-            (after C fs) {v = feed C (after C fs) e} (comes-here e h) in
-            record {
-              kept-exactly = (
-                λ p. let E = X .kept-exactly .0 p in
-                    (up (s ▸ e) (E .0), to-run (E .0) (E .1), maximal-of (to-run (E .0) (E .1)) (E .2)),
-                λ t. let W = to-row (t .0) (t .1) in
-                    X .kept-exactly .1 (W .0, W .1, rw (W .2) at (full-of (t .0) (t .2))),
-              );
-              runs-on-exactly = (
-                λ p.
-                    let E = X .runs-on-exactly .0 p in
-                    (up (s ▸ e) (E .0), to-run (E .0) (E .1), λ M. E .2 (full-of (up (s ▸ e) (E .0)) M)),
-                λ t.
-                    let W = to-row (t .0) (t .1) in
-                    X .runs-on-exactly .1 (W .0, W .1, λ f. t .2 (maximal-of (t .1) (rw (← (W .2)) at f))),
-              );
-              entered-exactly = (
-                λ p.
-                    let E = Y .0 p in (
-                      up (s ▸ e) (E .0),
-                      to-run (E .0) (E .1),
-                      λ M. E .2 (full-of (up (s ▸ e) (E .0)) M),
-                      E .3,
-                      up s (stands-at .row),
-                      before-run,
-                      E .4,
-                    ),
-                λ t.
-                    let W = to-row (t .0) (t .1) in
-                    let b = before-row (t .4) (t .5) in
-                    Y .1 (
-                      W .0,
-                      W .1,
-                      λ f. t .2 (maximal-of (t .1) (rw (← (W .2)) at f)),
-                      rw (W .2) at (t .3),
-                      rw b at (t .6),
-                    ),
-              );
-              dropped-or-broken-exactly = (
-                λ p z P. let W = to-row z P in X .dropped-or-broken-exactly .0 p (W .0) (W .1),
-                λ n. X .dropped-or-broken-exactly .1 (λ r L. n (up (s ▸ e) r) (to-run r L)),
-              );
-            }
+        opened-at : Unbroken C (e .time) ε (reopened C here e)
+        opened-at = reopened-unbroken C A e here stands-at
 
-      -- a broken round
-      module _ (e : LogRecord) (h : refusal rs e ≡ none) where
-        abbrev at-message : Config
-        at-message = configAt C (lastOf o (chartMessages C s)) (after C fs .place)
+        comes-twice : Missed C o s e → Fits C e
+            → Comes C A (e .time) ε e (opened-at .row) (opened-at .lawful) (reopened C here e) (feed C here e)
+        comes-twice M S =
+            rw (feed-unbroken C here e (agrees C A F .1), h, accept-twice C A e here stands-at M S)
+            (comes-unbroken C A e (reopened C here e) opened-at
+            (besides-opened C A (e .time) rs (opened-at .row) (opened-at .lawful)))
 
+        -- the prompt runs decide it: those of the round, or those of the round that opens
+        decided-once : ¬ (Missed C o s e × Fits C e) → Decided C o s e said
+        decided-once n =
+            decided-by C A o s e (stands-at .row) (stands-at .lawful) (rising-on e h) here {v = feed C here e}
+            (comes-once n) (exactly C A meaning o s e refl h .once-exactly n)
+
+        decided-twice : Missed C o s e → Fits C e
+            → ((z : Config) → ¬ Reaches C o (s ▸ e) z) × Decided C (e .time) ε e said
+        decided-twice M S =
+            let X = exactly C A meaning o s e refl h .twice-exactly M S in (
+              no-run C A o s e (stands-at .row) (stands-at .lawful) (rising-on e h) (X .0),
+              decided-by C A (e .time) ε e (opened-at .row) (opened-at .lawful)
+                  (messages-rising C (e .time) (ε ▸ e) (tt, omega arith)) (reopened C here e) {v = feed C here e}
+                  (comes-twice M S) (X .1),
+            )
+
+        -- rows and configurations say alike whether it is offered twice
+        in-config : Missed C o s e × Fits C e → MissedIn C at-message e × Starts C e
+        in-config D =
+            twice-of C A e here (lastOf o (chartMessages C s)) (both-are C A e here stands-at (D .0) (D .1))
+
+        in-rows : (y : Config) → Reaches C o s y → MissedIn C y e → Starts C e → Missed C o s e × Fits C e
+        in-rows y P M S =
+            both-say C A e here stands-at (of-twice C A e here (lastOf o (chartMessages C s)) (after-fit C A fs .within)
+            (subst (λ (c : Config). MissedIn C c e) (one-prompt C A P round-is-prompt .1) M) S)
+
+        pub decided : DecidedOffered C o s e said
+        decided = record {
+          once-decided = λ n. decided-once (λ D. n at-message round-is-prompt (in-config D));
+          twice-decided = λ y P M S. let D = in-rows y P M S in decided-twice (D .0) (D .1);
+        }
+
+        -- a broken round
         abbrev since : ℕ
         since = e .time - lastOf o (chartMessages C s)
 
-        -- a prompt run over a beginning of the round's word has every prechart region
-        record Begun : Type 0 where
-          letters : Snoc Letter
-          rest : Snoc Letter
-          parts : word C o (s ▸ e) ≡ strip letters · rest
-          to : Config
-          run : Prompt C initial letters to
-          done : PrechartDone C (to .cut)
-
-        begun-before : So (chartMessage C e) → PrechartDone C (at-message .cut) → Begun
+        begun-before : So (chartMessage C e) → PrechartDone C (at-message .cut) → Begun C A o (s ▸ e)
         begun-before c D =
-            let P = round-is-prompt in
-            record {
-              letters = P .letters;
-              rest = ε ▸ delay since ▸ message (e .code);
-              parts = ap (spelled o) (chartMessages-take C s e c)
-                  ∙ ap {B = Snoc Letter} (λ (w : Snoc Letter). w ▸ delay since ▸ message (e .code)) (sym (P .spells));
-              to = at-message;
-              run = P .run;
-              done = D;
-            }
+            let P = round-is-prompt in (
+              P .letters,
+              ε ▸ delay since ▸ message (e .code),
+              at-message,
+              ap (spelled o) (chartMessages-take C s e c)
+                  ∙ ap {B = Snoc Letter} (λ (w : Snoc Letter). w ▸ delay since ▸ message (e .code)) (sym (P .spells)),
+              P .run,
+              D,
+            )
 
         main-region : (i : ℕ) → So (C .hot i) → ¬ (i < C .prechart)
         main-region i t l = clash t (A .cold-prechart i l)
 
         begun-failing : So (chartMessage C e) → {i : ℕ} {y : Config} → Failure C at-message since (e .code) i y
-            → So (C .hot i) → Begun
+            → So (C .hot i) → Begun C A o (s ▸ e)
         begun-failing c {i} (at-once R k f) t =
             begun-before c (main-follows C A (at-message .cut) i R (main-region i t))
         begun-failing c {i} (later j R p k g y S N f) t =
             let P = round-is-prompt in
-            let T = silents-prompt C (goes-on C since j (P .run) (P .rests) R p g) S in
-            record {
-              letters = T .0;
-              rest = ε;
-              parts = ap (spelled o) (chartMessages-take C s e c)
+            let T = silents-prompt C (goes-on C since j (P .run) (P .rests) R p g) S in (
+              T .0,
+              ε,
+              y,
+              ap (spelled o) (chartMessages-take C s e c)
                   ∙ sym (T .1 ∙ ap₂ {C = Snoc Letter} (λ (w : Snoc Letter) (n : ℕ). w ▸ delay since ▸ message n)
-                  (P .spells) k);
-              to = y;
-              run = T .2;
-              done = main-follows C A (y .cut) i (N .follows) (main-region i t);
-            }
+                  (P .spells) k),
+              T .2,
+              main-follows C A (y .cut) i (N .follows) (main-region i t),
+            )
 
-        held : (c : ℕ) → Rising o (chartMessages C s) → after C fs .place .clocks c ≤ lastOf o (chartMessages C s)
+        held : (c : ℕ) → Rising o (chartMessages C s) → here .place .clocks c ≤ lastOf o (chartMessages C s)
         unfolding placeOf
         held c R = rw (stands-at .has-clocks) (past C o (chartMessages C s) (stands-at .row) R c)
 
-        begun-move : So (chartMessage C e) → {n k : ℕ} {x : Cause} (v : Move) → offer C (after C fs .place) e ≡ v
-            → conclude C (after C fs) e v .answer ≡ brokenAt n k x → Begun
+        begun-move : So (chartMessage C e) → {n k : ℕ} {x : Cause} (v : Move) → takeMessage C (here .place) e ≡ v
+            → conclude C here e v .answer ≡ brokenAt n k x → Begun C A o (s ▸ e)
         unfolding conclude configAt dropRound keepRound goOn
-        begun-move c stuck p a = elim (split (prechartDone C (after C fs .place .fired))) [
-          | inl d ↦ begun-before c (done-true C (after C fs .place .fired) d)
+        begun-move c stuck p a = elim (split (prechartDone C (here .place .fired))) [
+          | inl d ↦ begun-before c (done-true C (here .place .fired) d)
           | inr d ↦ dropped-broken (rw d at a)
         ]
         begun-move c (fails i term q) p a = elim (split (C .hot i)) [
           | inl t ↦
               let R : Rising o (chartMessages C s ▸ e) = rw (chartMessages-take C s e c) at (rising-on e h) in
               begun-failing c
-              (failure-of C A (after C fs .place) e (lastOf o (chartMessages C s)) (λ x. held x (R .0))
+              (failure-of C A (here .place) e (lastOf o (chartMessages C s)) (λ x. held x (R .0))
               (R .1) c i term q p) t
           | inr t ↦ dropped-broken (rw t at a)
         ]
         begun-move c (rests q) p a = elim (split (full C (q .fired))) [
           | inl t ↦ kept-broken (rw t at a)
-          | inr t ↦
-              onward-broken (not (prechartDone C (after C fs .place .fired)) && prechartDone C (q .fired)) (rw t at a)
+          | inr t ↦ onward-broken (not (prechartDone C (here .place .fired)) && prechartDone C (q .fired)) (rw t at a)
         ]
 
-        begun : {n k : ℕ} {x : Cause} → accept C (after C fs) e .answer ≡ brokenAt n k x → Begun
-        unfolding accept goOn
+        begun : {n k : ℕ} {x : Cause} → offer C here e .answer ≡ brokenAt n k x → Begun C A o (s ▸ e)
+        unfolding offer goOn
         begun a = elim (split (chartMessage C e)) [
-          | inl c ↦ begun-move c (offer C (after C fs .place) e) refl (rw c at a)
+          | inl c ↦ begun-move c (takeMessage C (here .place) e) refl (rw c at a)
           | inr c ↦ quiet-broken (rw c at a)
         ]
 
-        violated : {n k : ℕ} {x : Cause} → feed C (after C fs) e .answer ≡ brokenAt n k x → Violated C o (s ▸ e)
+        violated : {n k : ℕ} {x : Cause} → feed C here e .answer ≡ brokenAt n k x → Violated C o (s ▸ e)
         violated a =
-            let B : Begun = begun (rw (feed-unbroken C (after C fs) e (agrees C A F .1), h) at a) in
-            record {
-              beginning = B .letters;
-              rest = B .rest;
-              parts = B .parts;
-              end = B .to;
-              run = B .run;
-              prechart = done-satisfies C A (prompt-run C (B .run)) (B .done);
-              none-whole = decided e h .dropped-or-broken-exactly .0 (inr (_, _, _, a));
-            }
+            let n = not-twice (ap firstOnly a) in
+            violates C A o (begun (rw (feeds-once n) at a))
+            (decided-once n .dropped-or-broken-exactly .0 (inr (_, _, _, a)))
 
-      pub broken-violates : (e : LogRecord) (n k : ℕ) (x : Cause) → feed C (after C fs) e .answer ≡ brokenAt n k x
-          → Violated C o (s ▸ e)
-      broken-violates e n k x a =
-          violated e (not-refused e (brokenAt n k x) (λ j u. absurd (let z : _≡_ {A = ℕ} 0 1 = cc in omega arith)) a) a
+        -- where the round missed the record, neither side holds
+        pub violated-exactly : Violated C o (s ▸ e)
+            ↔ (SaysDroppedOrBroken said
+            × (u v : Snoc Letter) × (z : Config) × (word C o (s ▸ e) ≡ strip u · v) × Prompt C initial u z
+            × PrechartDone C (z .cut))
+        violated-exactly = elim (split (missed C here e && fitsOpening C e)) [
+          | inl t ↦
+              let M = twice-of C A e here (lastOf o (chartMessages C s)) t in
+              let never = never-begun C A o s e round-is-prompt (M .0) (starts-chart C A e (M .1)) in (
+                λ x. absurd (never (begun-of C A o x)),
+                λ y. absurd (never (y .1, y .2, y .3, y .4, y .5, y .6)),
+              )
+          | inr t ↦
+              let D = decided-once (λ D. clash (both-are C A e here stands-at (D .0) (D .1)) t)
+              .dropped-or-broken-exactly in (
+                λ x. let B = begun-of C A o x in (D .1 (x .none-whole), B .0, B .1, B .2, B .3, B .4, B .5),
+                λ y. violates C A o (y .1, y .2, y .3, y .4, y .5, y .6) (D .0 (y .0)),
+              )
+        ]
 
-      pub violated-exactly : (e : LogRecord) → refusal rs e ≡ none
+      pub kept-satisfies : (e : LogRecord) → feed C here e .answer ≡ keptNow
+          → (z : Config) × (P : Reaches C o (s ▸ e) z) × CompletedBy C (C .regions) (P .letters)
+      kept-satisfies e p =
+          let h : refusal rs e ≡ none = not-refused e (ap firstOnly p) in
+          let K = decided-once e h (not-twice e h (ap firstOnly p)) .kept-exactly .0 p in
+          (K .0, K .1, full-completes C (prompt-run C (K .1 .run)) (full-of C (K .0) (K .2)))
+
+      pub entered-satisfies : (e : LogRecord) → feed C here e .answer ≡ entered
+          → (P : Reaches C o (s ▸ e) (configAt C (e .time) (feed C here e .next .place)))
+          × CompletedBy C (C .prechart) (P .letters)
+      entered-satisfies e p =
+          let h : refusal rs e ≡ none = not-refused e (ap firstOnly p) in
+          comes-enter C A o s e (stands-at .row) (stands-at .lawful) (rising-on e h) here {v = feed C here e}
+          (comes-once e h (not-twice e h (ap firstOnly p))) p
+
+      pub broken-violates : (e : LogRecord) (n k : ℕ) (x : Cause) → feed C here e .answer ≡ brokenAt n k x
           → Violated C o (s ▸ e)
-          ↔ (SaysDroppedOrBroken (feed C (after C fs) e .answer)
-          × (u v : Snoc Letter) × (z : Config) × (word C o (s ▸ e) ≡ strip u · v) × Prompt C initial u z
-          × PrechartDone C (z .cut))
-      violated-exactly e h =
-          let D = decided e h .dropped-or-broken-exactly in (
-            λ x. (
-              D .1 (x .none-whole),
-              x .beginning,
-              x .rest,
-              x .end,
-              x .parts,
-              x .run,
-              satisfied-exactly C A (x .run) .prechart .0 (x .prechart),
-            ),
-            λ t. record {
-              beginning = t .1;
-              rest = t .2;
-              parts = t .4;
-              end = t .3;
-              run = t .5;
-              prechart = satisfied-exactly C A (t .5) .prechart .1 (t .6);
-              none-whole = D .0 (t .0);
-            },
-          )
+      broken-violates e n k x a = violated e (not-refused e (ap firstOnly a)) a

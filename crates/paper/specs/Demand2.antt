@@ -15,7 +15,8 @@ use Rattle.rounds.specs.Demand3.{Agrees, Meaning}
 use Rattle.paper.specs.Runs.{Config, Letter, message, silent, delay, initial, _·_, strip, IsCut, shift, successor}
 use Rattle.paper.specs.Runs.{wait, Advance, by, Run, Maximal, Satisfies, Prompt, Over, configAt, configOf, lastOf}
 use Rattle.paper.specs.Runs.{Rising, spelled}
-use Rattle.paper.specs.Taken.{Status, Unmatched, Terminates, Taken, caseOf, statusOf, Acceptable, Read}
+use Rattle.paper.specs.Taken.{Status, Unmatched, Terminates, MissedIn, Starts, Taken, caseOf, statusOf, Acceptable}
+use Rattle.paper.specs.Taken.{Read}
 
 module _ (C : Chart) where
   -- S19: the word w satisfies the prechart (n = `prechart`) or the whole chart (n = `regions`), and only silent letters
@@ -51,6 +52,13 @@ module _ (C : Chart) where
         × (y : Config) × Reaches o s y × (¬ PrechartDone C (y .cut)))
     -- dropped or broken exactly if no prompt run takes the word
     pub dropped-or-broken-exactly : SaysDroppedOrBroken a ↔ ((z : Config) → ¬ Reaches o (s ▸ e) z)
+
+  -- S17, S18 of a record that may be offered twice, by the configuration to which a prompt run takes the round before it
+  pub record DecidedOffered (o : ℕ) (s : Snoc LogRecord) (e : LogRecord) (a : Answer) : Type 0 where
+    pub once-decided : ((y : Config) → Reaches o s y → ¬ (MissedIn C y e × Starts C e)) → Decided o s e a
+    -- no prompt run takes the word of the round that missed it; the round that starts with it decides
+    pub twice-decided : (y : Config) → Reaches o s y → MissedIn C y e → Starts C e
+        → ((z : Config) → ¬ Reaches o (s ▸ e) z) × Decided (e .time) ε e a
 
   -- S19, after S13: a prompt run over a beginning of the round's word satisfies the prechart, and none takes the whole
   -- word.
@@ -129,7 +137,7 @@ pub record Demand2 (C : Chart) : Type 0 where
   -- S17, S18: after every list of feeds, one more accepted record is answered as its round's prompt runs decide
   pub decided : {fs : Snoc LogRecord} (M : Meaning C fs) (o : ℕ) (s : Snoc LogRecord) (e : LogRecord)
       → M .last ≡ unended o s
-      → refusal (M .accepted) e ≡ none → Decided C o s e (feed C (after C fs) e .answer)
+      → refusal (M .accepted) e ≡ none → DecidedOffered C o s e (feed C (after C fs) e .answer)
   -- where a message is unmatched or a condition fails, there is no step
   pub stuck : Stuck C
   -- S3: the fired regions are always a cut

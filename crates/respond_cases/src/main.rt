@@ -146,5 +146,6 @@ fn main() {
     run_file(b"charts");
     run_file(b"logs");
     run_file(b"relations");
+    run_file(b"second_offers");
     run_long();
 }

@@ -1,5 +1,5 @@
 -- A stretch ends in one way only (W14), or runs on: two ways to end would be two rows, or a row and none, where at most
--- one is lawful. And the machine's step on an accepted record does what the rows say, by its move's meaning.
+-- one is lawful. And an offer of an accepted record does what the rows say, by the meaning of its move.
 -- Assumes nothing.
 use mathlib.Core.Path.{_≡_, refl, sym, ap, _∙_, subst}
 use mathlib.Core.Logic.{inl, inr}
@@ -16,9 +16,9 @@ use Rattle.rounds.specs.Rows.{Full, LawfulButLast, firstFailing}
 use Rattle.rounds.specs.Rows.{clockTest, LawfulBy, NoRowBy}
 use Rattle.rounds.specs.Feeds.{noReadyRegion, conditionFails, Outcome, kept, dropped, broken, Ends, complete}
 use Rattle.rounds.specs.Feeds.{unplaced-main, unplaced-prechart, fails-hot, fails-cold, Answer, entered, moved}
-use Rattle.rounds.specs.Feeds.{Stretch, Last, FedOneBy, quiet, Onward, completes-prechart, fires, stays, isKept}
-use Rattle.rounds.specs.Machine.{Place, Move, offer, Monitor, Step, prechartDone, full, goOn, keepRound}
-use Rattle.rounds.specs.Machine.{dropRound, breakRound, conclude, accept}
+use Rattle.rounds.specs.Feeds.{Stretch, Last, GoesBy, FedOneBy, quiet, Onward, completes-prechart, fires, stays, isKept}
+use Rattle.rounds.specs.Machine.{Place, Move, takeMessage, Monitor, Step, prechartDone, full, goOn, keepRound}
+use Rattle.rounds.specs.Machine.{dropRound, breakRound, conclude, offer}
 use Rattle.base.proofs.Bools.{split}
 use Rattle.base.proofs.Facts.{none-some, some-same}
 use Rattle.rounds.proofs.Machine.{full-true, full-false, done-true, done-false, done-is, done-is-not}
@@ -30,6 +30,11 @@ use Rattle.rounds.proofs.Rounds.{placeOf, all-hold, Means, unplaced, fa
 abbrev pub FedOne
     : Chart → Snoc LogRecord → Snoc Stretch → LogRecord → Last → Answer → Snoc LogRecord → Snoc Stretch → Last → Type 0
 FedOne C = FedOneBy C (clockTest C)
+
+-- how a stretch goes on, with the same tests
+abbrev pub Goes
+    : Chart → ℕ → Snoc LogRecord → LogRecord → ℕ → Snoc Stretch → Answer → Snoc Stretch → Last → Type 0
+Goes C = GoesBy C (clockTest C)
 
 -- from one row to another there is one answer
 pub onward-same : {C : Chart} {q r : Row} {a b : Answer} → Onward C q r a → Onward C q r b → a ≡ b
@@ -119,7 +124,7 @@ module _ (C : Chart) (A : Accepted C) (o : ℕ) (s : Snoc LogRecord) (e : LogRec
   pub ended : {X : Type 0} {x : Outcome} → Ends C o s e x → (r : Row) → Lawful C o (s ▸ e) r → ¬ Full C (stands r) → X
   ended E r L h = way-ended (way E) r L h
 
-  -- what the machine's step on an accepted record comes to
+  -- what an offer of an accepted record comes to
   pub data Comes (m : Monitor) : Step → Type 0 where
     on : (r : Row) (a : Answer) → Lawful C o (s ▸ e) r → ¬ Full C (stands r) → Onward C q r a
         → Comes m (goOn C m e a (placeOf C o (chartMessages C (s ▸ e)) r))
@@ -167,11 +172,11 @@ module _ (C : Chart) (A : Accepted C) (o : ℕ) (s : Snoc LogRecord) (e : LogRec
 
   pub comes : (m : Monitor) → m .place .fired ≡ stands q → m .place .clocks ≡ resetMoment C o (chartMessages C s) q
       → ¬ Full C (stands q)
-      → Comes m (accept C m e)
-  unfolding accept
+      → Comes m (offer C m e)
+  unfolding offer
   comes m f c h = elim (split (chartMessage C e)) [
-    | inl t ↦ rw (t, ap (λ (p : Place). offer C p e) (place-same m f c))
-        (comes-move m (offer C (placeOf C o (chartMessages C s) q) e) f (move-means C A o s e t q lawful))
+    | inl t ↦ rw (t, ap (λ (p : Place). takeMessage C p e) (place-same m f c))
+        (comes-move m (takeMessage C (placeOf C o (chartMessages C s) q) e) f (move-means C A o s e t q lawful))
     | inr t ↦ rw t (subst (λ (p : Place). Comes m (goOn C m e quiet p))
         (ap (λ (l : Snoc LogRecord). placeOf C o l q) (chartMessages-skip C s e t) ∙ sym (place-same m f c))
         (on q quiet (lawful-after C o s e q t lawful) h (stays refl)))

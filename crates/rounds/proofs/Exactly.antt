@@ -1,22 +1,25 @@
 -- W24: kept, running on, and dropped or broken, each exactly if the rows say so, after each record of each stretch.
 -- Assumes nothing.
 use mathlib.Core.Path.{_≡_, refl, sym, _∙_, ap}
-use mathlib.Core.Logic.{inl, inr}
+use mathlib.Core.Logic.{_⊎_, inl, inr}
 use mathlib.Core.Option.{none}
 use Prim.Native.Nat.{ℕ}
 use native.Mathlib.Omega.{arith}
-use Rattle.base.specs.Lists.{Snoc, _▸_}
+use Rattle.base.specs.Lists.{Snoc, ε, _▸_}
+use Rattle.model.specs.declared.Cause.{Cause}
 use Rattle.rounds.specs.Chart.{Chart, Accepted}
 use Rattle.rounds.specs.Rows.{LogRecord, Row, stands, Lawful, NoRow, Full}
 use Rattle.rounds.specs.Rows.{NoRowBy}
 use Rattle.rounds.specs.Feeds.{refusal, kept, unended, Ends, complete, Answer, refused, brokenAt, keptNow}
 use Rattle.rounds.specs.Feeds.{droppedNow, entered, moved, quiet, Onward, completes-prechart, fires, stays}
-use Rattle.rounds.specs.Feeds.{SaysRunsOn, SaysDroppedOrBroken, Exactly}
-use Rattle.rounds.specs.Machine.{Monitor, Step, goOn, keepRound, dropRound, breakRound, feed, after}
+use Rattle.rounds.specs.Feeds.{SaysRunsOn, SaysDroppedOrBroken, Missed, Fits, Exactly, ExactlyOffered}
+use Rattle.rounds.specs.Machine.{Monitor, Step, goOn, keepRound, dropRound, breakRound, reopened, feed, after}
 use Rattle.rounds.specs.Demand3.{Unbroken, AtLast, Agrees, Meaning}
 use Rattle.rounds.proofs.Rows.{one-row}
-use Rattle.rounds.proofs.Endings.{unlawful, Comes, on, keeps, drops, breaks}
-use Rattle.rounds.proofs.Feeds.{feed-unbroken, comes-unbroken, Besides, besides, agrees}
+use Rattle.rounds.proofs.Endings.{none-placed, unlawful, Comes, on, keeps, drops, breaks}
+use Rattle.rounds.proofs.Offers.{comes-unbroken, reopened-unbroken, accept-once, accept-twice}
+use Rattle.rounds.proofs.Second.{second-answer}
+use Rattle.rounds.proofs.Feeds.{feed-unbroken, besides-opened, Besides, besides, agrees}
 
 -- the answers by kinds, of which none has two
 abbrev kind : Answer → ℕ
@@ -89,11 +92,33 @@ module _ (C : Chart) (A : Accepted C) where
 
   pub exactly : {fs : Snoc LogRecord} (M : Meaning C fs) (o : ℕ) (s : Snoc LogRecord) (e : LogRecord)
       → M .last ≡ unended o s
-      → refusal (M .accepted) e ≡ none → Exactly C o s e (feed C (after C fs) e .answer)
+      → refusal (M .accepted) e ≡ none → ExactlyOffered C o s e (feed C (after C fs) e .answer)
   unfolding AtLast
   exactly {fs} M o s e p h =
-      let G : Agrees C (M .accepted) (M .stretches) (unended o s) (after C fs) = rw p at (agrees C A (M .fed) .1) in
-      let T : Unbroken C o s (after C fs) = G .at-last in
+      let m = after C fs in
+      let G : Agrees C (M .accepted) (M .stretches) (unended o s) m = rw p at (agrees C A (M .fed) .1) in
+      let T : Unbroken C o s m = G .at-last in
+      let R : Unbroken C (e .time) ε (reopened C m e) = reopened-unbroken C A e m T in
       let B : Besides C A (unended o s) (M .accepted) = rw p at (besides C A (M .fed)) in
-      rw (feed-unbroken C (after C fs) e G, h)
-      (exact o s e (T .row) (T .lawful) (comes-unbroken C A e (after C fs) T (B (T .row) (T .lawful))))
+      record {
+        once-exactly = λ n. rw (feed-unbroken C m e G, h, accept-once C A e m T n)
+            (exact o s e (T .row) (T .lawful) (comes-unbroken C A e m T (B (T .row) (T .lawful))));
+        twice-exactly = λ D F. (
+          none-placed C A o s e (D .unplaced),
+          rw (feed-unbroken C m e G, h, accept-twice C A e m T D F) (exact (e .time) ε e (R .row) (R .lawful)
+              (comes-unbroken C A e (reopened C m e) R
+              (besides-opened C A (e .time) (M .accepted) (R .row) (R .lawful)))),
+        );
+      }
+
+  -- a second offer is answered moved or dropped
+  pub second-offer : {fs : Snoc LogRecord} (M : Meaning C fs) (o : ℕ) (s : Snoc LogRecord) (e : LogRecord)
+      → M .last ≡ unended o s
+      → refusal (M .accepted) e ≡ none → Missed C o s e → Fits C e
+      → let a = feed C (after C fs) e .answer in (a ≡ moved) ⊎ ((x : Cause) × (a ≡ droppedNow x))
+  unfolding AtLast
+  second-offer {fs} M o s e p h D F =
+      let m = after C fs in
+      let G : Agrees C (M .accepted) (M .stretches) (unended o s) m = rw p at (agrees C A (M .fed) .1) in
+      let T : Unbroken C o s m = G .at-last in
+      rw (feed-unbroken C m e G, h) (second-answer C A e m T D F)

@@ -8,24 +8,24 @@ use lib.Dec.{eqb, ltb, leb}
 use borrow.Author.Tests.{eq-eqb, ne-eqb}
 use Rattle.base.specs.Lists.{Snoc, ε, _▸_, size, onFound}
 use Rattle.model.specs.Answers.{mostRecords}
+use Rattle.model.specs.Monitor.{noCause}
 use Rattle.rounds.specs.Chart.{Chart, Accepted}
-use Rattle.rounds.specs.Rows.{LogRecord, Row, stands, chartMessages, messageRegions, opened, resetMoment, Lawful}
-use Rattle.rounds.specs.Rows.{Full}
-use Rattle.rounds.specs.Rows.{LawfulBy}
-use Rattle.rounds.specs.Tally.{Break, noBreak}
+use Rattle.rounds.specs.Rows.{LogRecord, Row, stands, chartMessages, opened, Lawful, Full}
 use Rattle.rounds.specs.Feeds.{lastMoment, refusal, Outcome, kept, dropped, broken, Stretch, Last, unended}
 use Rattle.rounds.specs.Feeds.{afterBreak, lastAfter, Ends, Answer}
-use Rattle.rounds.specs.Feeds.{refused, brokenAt, ending, Onward, refuses, runs-on, ends, again, Fed}
-use Rattle.rounds.specs.Feeds.{none-yet, one-more}
-use Rattle.rounds.specs.Machine.{Monitor, Step, opening, goOn, keepRound, dropRound, breakRound, accept, feed}
-use Rattle.rounds.specs.Machine.{after, answers}
+use Rattle.rounds.specs.Feeds.{refused, brokenAt, ending, Onward, runs-on, ends, refuses, once, twice, again, Fed}
+use Rattle.rounds.specs.Feeds.{none-yet, one-more, keptAmong, droppedAmong}
+use Rattle.rounds.specs.Machine.{Monitor, Step, opening, goOn, keepRound, dropRound, breakRound, reopened, accept}
+use Rattle.rounds.specs.Machine.{feed, after, answers}
 use Rattle.rounds.specs.Demand3.{Unbroken, Broken, AtLast, Agrees, Meaning}
 use Rattle.base.proofs.Bools.{split}
-use Rattle.rounds.proofs.Machine.{opening-lacks, opening-settled}
+use Rattle.rounds.proofs.Machine.{opening-lacks}
 use Rattle.rounds.proofs.Rows.{one-row}
 use Rattle.rounds.proofs.Rounds.{placeOf}
-use Rattle.rounds.proofs.Endings.{FedOne, onward-same, one-outcome, ended, Comes, on, keeps, drops, breaks}
-use Rattle.rounds.proofs.Endings.{comes}
+use Rattle.rounds.proofs.Endings.{FedOne, Goes, onward-same, one-outcome, ended, Comes, on, keeps, drops}
+use Rattle.rounds.proofs.Endings.{breaks}
+use Rattle.rounds.proofs.Offers.{opens, opens-unbroken, comes-unbroken, reopened-unbroken, accept-once}
+use Rattle.rounds.proofs.Offers.{accept-twice}
 
 module _ (C : Chart) (m : Monitor) (e : LogRecord) where
   -- feeding a monitor without a break refuses what the accepted records say is refused
@@ -55,52 +55,33 @@ module _ (C : Chart) (m : Monitor) (e : LogRecord) where
   feed-broken h = rw (ap not (ne-eqb (m .tally .broken .at) 0 h))
 
 module _ (C : Chart) (A : Accepted C) where
-  -- a stretch that has just opened
-  pub opens : (t : ℕ) → Lawful C t ε ε
-  unfolding LawfulBy chartMessages messageRegions
-  opens t = record { one-for-one = refl; placed = tt; settled = opening-settled C A }
-
-  opens-unbroken : (t : ℕ) (m : Monitor) → m .place .fired ≡ stands ε → m .place .clocks ≡ opened C t
-      → m .tally .broken ≡ noBreak
-      → Unbroken C t ε m
-  unfolding resetMoment
-  opens-unbroken t m f c b = record {
-    row = ε;
-    lawful = opens t;
-    has-fired = f;
-    has-clocks = c;
-    no-break = ap (λ (x : Break). x .at) b;
-    no-reason = ap (λ (x : Break). x .reason) b;
-    no-cause = ap (λ (x : Break). x .cause) b;
-  }
-
-  -- what an accepted record comes to
-  pub comes-unbroken : {o : ℕ} {s : Snoc LogRecord} (e : LogRecord) (m : Monitor) (T : Unbroken C o s m)
-      → ¬ Full C (stands (T .row))
-      → Comes C A o s e (T .row) (T .lawful) m (accept C m e)
-  comes-unbroken {o} {s} e m T l = comes C A o s e (T .row) (T .lawful) m (T .has-fired) (T .has-clocks) l
-
   -- what follows from the list besides: no lawful row of the last stretch is complete; a record was accepted before a
   -- break
   abbrev pub Besides : Last → Snoc LogRecord → Type 0
   Besides (unended o s) rs = (r : Row) → Lawful C o s r → ¬ Full C (stands r)
   Besides (afterBreak k x) rs = size rs ≢ 0
 
-  besides-opened : (t : ℕ) (rs : Snoc LogRecord) → Besides (unended t ε) rs
+  pub besides-opened : (t : ℕ) (rs : Snoc LogRecord) → Besides (unended t ε) rs
   besides-opened t rs r L =
-      subst (λ (x : Row). ¬ Full C (stands x)) (one-row C A t ε ε r (opens t) L) (opening-lacks C A)
+      subst (λ (x : Row). ¬ Full C (stands x)) (one-row C A t ε ε r (opens C A t) L) (opening-lacks C A)
 
   besides-after : (x : Outcome) (t : ℕ) (rs : Snoc LogRecord) (e : LogRecord) → Besides (lastAfter x t) (rs ▸ e)
   besides-after kept t rs e = besides-opened t (rs ▸ e)
   besides-after (dropped x) t rs e = besides-opened t (rs ▸ e)
   besides-after (broken k x) t rs e = λ z. omega (arith, z)
 
+  besides-goes : (rs : Snoc LogRecord) {es es′ : Snoc Stretch} {o n : ℕ} {s : Snoc LogRecord} {last : Last} {e : LogRecord}
+      {a : Answer}
+      → Goes C o s e n es a es′ last → Besides last (rs ▸ e)
+  besides-goes rs {o} {s} {e} (runs-on q r a M L f O) =
+      λ r′ L′. subst (λ (x : Row). ¬ Full C (stands x)) (one-row C A o (s ▸ e) r r′ L L′) f
+  besides-goes rs {e} (ends x E) = besides-after x (e .time) rs e
+
   besides-one : {rs rs′ : Snoc LogRecord} {es es′ : Snoc Stretch} {last last′ : Last} {e : LogRecord} {a : Answer}
       → FedOne C rs es e last a rs′ es′ last′ → Besides last rs → Besides last′ rs′
   besides-one (refuses k h) B = B
-  besides-one {e} (runs-on {o} {s} h q r a M L f O) B =
-      λ r′ L′. subst (λ (x : Row). ¬ Full C (stands x)) (one-row C A o (s ▸ e) r r′ L L′) f
-  besides-one {rs} {e} (ends h x E) B = besides-after x (e .time) rs e
+  besides-one {rs} (once h n W) B = besides-goes rs W
+  besides-one {rs} (twice h M F W) B = besides-goes rs W
   besides-one again B = B
 
   pub besides : {fs : Snoc LogRecord} {ans : Snoc Answer} {rs : Snoc LogRecord} {es : Snoc Stretch} {last : Last}
@@ -112,10 +93,16 @@ module _ (C : Chart) (A : Accepted C) where
     answer : v .answer ≡ a
     next : Agrees C rs es last (v .next)
 
-  -- an accepted record
+  -- the monitor's counts are those of these records and stretches
+  record Counts (rs : Snoc LogRecord) (es : Snoc Stretch) (m : Monitor) : Type 0 where
+    records : m .tally .records ≡ size rs
+    kept : m .tally .kept ≡ keptAmong es
+    dropped : m .tally .dropped ≡ droppedAmong es
+
+  -- one offer of an accepted record
   module _ (m : Monitor) (rs : Snoc LogRecord) (es : Snoc Stretch) (o : ℕ) (s : Snoc LogRecord) (e : LogRecord)
       (q : Row)
-      (lawful : Lawful C o s q) (G : Agrees C rs es (unended o s) m) where
+      (lawful : Lawful C o s q) (G : Counts rs es m) where
     after-on : {v : Step} → Comes C A o s e q lawful m v → (p r : Row) (a : Answer) → Lawful C o s p
         → Lawful C o (s ▸ e) r
         → ¬ Full C (stands r) → Onward C p r a → StepAgrees a (rs ▸ e) es (unended o (s ▸ e)) v
@@ -160,7 +147,7 @@ module _ (C : Chart) (A : Accepted C) where
             records = ap suc (G .records);
             kept = ap suc (G .kept);
             dropped = G .dropped;
-            at-last = opens-unbroken (e .time) (keepRound C m e .next) refl refl refl;
+            at-last = opens-unbroken C A (e .time) (keepRound C m e .next) refl refl refl;
           };
         })
     after-ends (drops z E′) x E =
@@ -172,7 +159,7 @@ module _ (C : Chart) (A : Accepted C) where
             records = ap suc (G .records);
             kept = G .kept;
             dropped = ap suc (G .dropped);
-            at-last = opens-unbroken (e .time) (dropRound C m e z .next) refl refl refl;
+            at-last = opens-unbroken C A (e .time) (dropRound C m e z .next) refl refl refl;
           };
         })
     after-ends (breaks k z d E′) x E =
@@ -188,6 +175,23 @@ module _ (C : Chart) (A : Accepted C) where
           };
         })
 
+    goes-agrees : {v : Step} {a : Answer} {es′ : Snoc Stretch} {last : Last} → Comes C A o s e q lawful m v
+        → Goes C o s e (suc (size rs)) es a es′ last → StepAgrees a (rs ▸ e) es′ last v
+    goes-agrees K (runs-on p r a M L h O) = after-on K p r a M L h O
+    goes-agrees K (ends x E) = after-ends K x E
+
+  counts : {rs : Snoc LogRecord} {es : Snoc Stretch} {last : Last} {m : Monitor} → Agrees C rs es last m
+      → Counts rs es m
+  counts G = record { records = G .records; kept = G .kept; dropped = G .dropped }
+
+  -- between two offers the stretch so far counts as dropped
+  recounted : {rs : Snoc LogRecord} {es : Snoc Stretch} {last : Last} {m : Monitor} (e : LogRecord) (o : ℕ)
+      (s : Snoc LogRecord)
+      → Agrees C rs es last m
+      → Counts rs (es ▸ record { opening = o; records = s ▸ e; outcome = dropped noCause }) (reopened C m e)
+  unfolding reopened
+  recounted e o s G = record { records = G .records; kept = G .kept; dropped = ap suc (G .dropped) }
+
   -- one feed to a monitor that agrees
   feed-agrees : {rs rs′ : Snoc LogRecord} {es es′ : Snoc Stretch} {last last′ : Last} {e : LogRecord} {a : Answer}
       (m : Monitor)
@@ -195,14 +199,18 @@ module _ (C : Chart) (A : Accepted C) where
       → StepAgrees a rs′ es′ last′ (feed C m e)
   unfolding AtLast
   feed-agrees {e} m G B (refuses k h) = rw (feed-unbroken C m e G, h) (record { answer = refl; next = G })
-  feed-agrees {rs} {es} {e} m G B (runs-on {o} {s} h p r a M L nf O) =
+  feed-agrees {rs} {es} {e} m G B (once {o} {s} h n W) =
       let T : Unbroken C o s m = G .at-last in
-      rw (feed-unbroken C m e G, h)
-      (after-on m rs es o s e (T .row) (T .lawful) G (comes-unbroken e m T (B (T .row) (T .lawful))) p r a M L nf O)
-  feed-agrees {rs} {es} {e} m G B (ends {o} {s} h x E) =
+      rw (feed-unbroken C m e G, h, accept-once C A e m T n)
+      (goes-agrees m rs es o s e (T .row) (T .lawful) (counts G)
+      (comes-unbroken C A e m T (B (T .row) (T .lawful))) W)
+  feed-agrees {rs} {es} {e} m G B (twice {o} {s} h M F W) =
       let T : Unbroken C o s m = G .at-last in
-      rw (feed-unbroken C m e G, h)
-      (after-ends m rs es o s e (T .row) (T .lawful) G (comes-unbroken e m T (B (T .row) (T .lawful))) x E)
+      let R : Unbroken C (e .time) ε (reopened C m e) = reopened-unbroken C A e m T in
+      rw (feed-unbroken C m e G, h, accept-twice C A e m T M F)
+      (goes-agrees (reopened C m e) rs (es ▸ record { opening = o; records = s ▸ e; outcome = dropped noCause })
+      (e .time) ε e (R .row) (R .lawful) (recounted e o s G)
+      (comes-unbroken C A e (reopened C m e) R (besides-opened (e .time) rs (R .row) (R .lawful))) W)
   feed-agrees {rs} {e} m G B (again {k} {x}) =
       let T : Broken k x rs m = G .at-last in
       rw (feed-broken C m e (λ z. B (sym (T .at-last-accepted) ∙ z)))
@@ -217,7 +225,7 @@ module _ (C : Chart) (A : Accepted C) where
       records = refl;
       kept = refl;
       dropped = refl;
-      at-last = opens-unbroken 0 (after C ε) refl
+      at-last = opens-unbroken C A 0 (after C ε) refl
           (fun-ext (λ c. elim (split (ltb c (C .clocks))) [ inl t ↦ rw t | inr t ↦ rw t ])) refl;
     },
   )

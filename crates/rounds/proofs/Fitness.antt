@@ -1,8 +1,8 @@
 -- A fresh monitor is fit, and feeding a fit monitor gives a fit one. Assumes nothing.
 use mathlib.Core.Path.{_≡_, refl}
 use mathlib.Core.Logic.{_≢_, _⊎_, inl, inr}
-use mathlib.Core.Bool.{false, not, So, false≢true}
-use Prim.Native.Nat.{ℕ, zero, suc, _+_, _≤_, _<_}
+use mathlib.Core.Bool.{false, not, So, _&&_, false≢true}
+use Prim.Native.Nat.{ℕ, zero, suc, _+_, _*_, _≤_, _<_}
 use native.Mathlib.Omega.{arith}
 use lib.Dec.{eqb, ltb, leb}
 use borrow.Author.Tests.{eqb-true, eqb-false, ltb-false, ltb-true, leb-false, not-false}
@@ -15,12 +15,13 @@ use Rattle.rounds.specs.Rows.{LogRecord, chartMessage, plain, Ready, val
 use Rattle.rounds.specs.Tally.{noBreak, countedAs}
 use Rattle.rounds.specs.Feeds.{noReadyRegion, conditionFails}
 use Rattle.rounds.specs.Machine.{Place, Monitor, fresh, Move, stuck, fails, rests, readyPlain, readyFor, fire}
-use Rattle.rounds.specs.Machine.{unfired, settle, offer, opening, full, prechartDone, goOn, keepRound, dropRound}
-use Rattle.rounds.specs.Machine.{tryRegion, breakRound, conclude, accept, feed, after, CauseIn, Fit}
+use Rattle.rounds.specs.Machine.{unfired, settle, takeMessage, opening, full, prechartDone, goOn, keepRound, dropRound}
+use Rattle.rounds.specs.Machine.{tryRegion, breakRound, conclude, offer, missed, fitsOpening, reopened, accept, feed, after}
+use Rattle.rounds.specs.Machine.{CauseIn, Fit}
 use Rattle.base.proofs.Bools.{split, or-right, either}
 use Rattle.base.proofs.Facts.{found}
 use Rattle.rounds.proofs.Machine.{full-false, ready-lacks, unfired-falls, opening-lacks, opening-settled}
-use Rattle.rounds.proofs.Machine.{plain-some, plain-none, for-some, offer-stuck, offer-fails, offer-fires}
+use Rattle.rounds.proofs.Machine.{plain-some, plain-none, for-some, message-stuck, message-fails, message-fires}
 
 module _ (C : Chart) (A : Accepted C) where
   record FitPlace (t : ℕ) (p : Place) : Type 0 where
@@ -93,40 +94,37 @@ module _ (C : Chart) (A : Accepted C) where
         ]
   ]
 
-  offer-fits : (p : Place) (e : LogRecord) → FitPlace (e .time) p → FitMove (e .time) (offer C p e)
+  message-fits : (p : Place) (e : LogRecord) → FitPlace (e .time) p → FitMove (e .time) (takeMessage C p e)
   unfolding FitMove
-  offer-fits p e F = elim (found (readyFor C (p .fired) e)) [
-    | inl n ↦ rw (offer-stuck C p e n) tt
+  message-fits p e F = elim (found (readyFor C (p .fired) e)) [
+    | inl n ↦ rw (message-stuck C p e n) tt
     | inr f ↦
         let R : Ready C (p .fired) (f .0) = for-some C A (p .fired) e (f .0) (f .1) .0 in
         elim (split (conditionOf C (f .0) (values C (e .time) (p .clocks)))) [
-          | inl q ↦ rw (offer-fires C p e (f .0) (f .1) q)
+          | inl q ↦ rw (message-fires C p e (f .0) (f .1) q)
               (settle-fits (e .time) (unfired C (fire C (e .time) p (f .0) .fired)) (fire C (e .time) p (f .0))
               (fire-fits (e .time) p (f .0) F R) (omega arith))
           | inr q ↦
-              rw (offer-fails C p e (f .0) (f .1) q)
+              rw (message-fails C p e (f .0) (f .1) q)
               (F, ready-lacks C (p .fired) (f .0) R, cause-in (f .0) _ (R .region) q)
         ]
   ]
 
-  -- an accepted record, counted
-  module _ (m : Monitor) (e : LogRecord) (F : Fit C m) (later : m .tally .now ≤ e .time)
-      (room : m .tally .records < mostRecords)
-      (unbroken : m .tally .broken .at ≡ 0) where
-    at-now : FitPlace (e .time) (m .place)
-    at-now = record {
-      closed = F .closed;
-      within = F .within;
-      moments = λ c. omega (arith, F .moments c, later);
-      unused = F .unused;
-    }
+  -- a monitor that is fit, or stands between two offers, where a drop is counted and its record is not yet
+  record Offerable (t : ℕ) (m : Monitor) : Type 0 where
+    at-place : FitPlace t (m .place)
+    unfinished : ¬ Full C (m .place .fired)
+    settled : Settled (m .place)
+    counts : m .tally .kept + m .tally .dropped ≤ 2 * m .tally .records + 1
 
+  -- one offer of an accepted record, counted
+  module _ (m : Monitor) (e : LogRecord) (F : Offerable (e .time) m) (room : m .tally .records < mostRecords) where
     -- at place p, with k kept and d dropped rounds and no break
     abbrev unbrokenAt : Place → ℕ → ℕ → Monitor
     unbrokenAt p k d = record { place = p; tally = countedAs (m .tally) (e .time) k d noBreak }
 
     unbroken-fits : (p : Place) (k d : ℕ) → FitPlace (e .time) p → ¬ Full C (p .fired) → Settled p
-        → k + d ≤ suc (m .tally .records)
+        → k + d ≤ 2 * suc (m .tally .records)
         → Fit C (unbrokenAt p k d)
     unfolding Settled
     unbroken-fits p k d P n r h = record {
@@ -141,7 +139,7 @@ module _ (C : Chart) (A : Accepted C) where
       break-fits = inl (refl, refl, refl);
     }
 
-    opening-fit : (k d : ℕ) → k + d ≤ suc (m .tally .records) → Fit C (unbrokenAt (opening C (e .time)) k d)
+    opening-fit : (k d : ℕ) → k + d ≤ 2 * suc (m .tally .records) → Fit C (unbrokenAt (opening C (e .time)) k d)
     unfolding opening Settled
     opening-fit k d h =
         unbroken-fits (opening C (e .time)) k d (opening-fits (e .time)) (opening-lacks C A) (opening-settled C A) h
@@ -174,7 +172,7 @@ module _ (C : Chart) (A : Accepted C) where
     conclude-fit : (v : Move) → FitMove (e .time) v → Fit C (conclude C m e v .next)
     unfolding FitMove conclude goOn
     conclude-fit stuck S = elim (split (prechartDone C (m .place .fired))) [
-      | inl q ↦ rw q (break-fit noReadyRegion noCause (m .place) (inl (refl, refl)) at-now (F .unfinished))
+      | inl q ↦ rw q (break-fit noReadyRegion noCause (m .place) (inl (refl, refl)) (F .at-place) (F .unfinished))
       | inr q ↦ rw q (drop-fit noCause)
     ]
     conclude-fit (fails i term p) S = elim (split (C .hot i)) [
@@ -188,13 +186,47 @@ module _ (C : Chart) (A : Accepted C) where
           (omega (arith, F .counts)))
     ]
 
-    accept-fit : Fit C (accept C m e .next)
-    unfolding accept goOn Settled
-    accept-fit = elim (split (chartMessage C e)) [
-      | inl q ↦ rw q (conclude-fit (offer C (m .place) e) (offer-fits (m .place) e at-now))
+    offer-fit : Fit C (offer C m e .next)
+    unfolding offer goOn
+    offer-fit = elim (split (chartMessage C e)) [
+      | inl q ↦ rw q (conclude-fit (takeMessage C (m .place) e) (message-fits (m .place) e (F .at-place)))
       | inr q ↦
-          rw q (unbroken-fits (m .place) (m .tally .kept) (m .tally .dropped) at-now (F .unfinished)
-          (F .settled unbroken) (omega (arith, F .counts)))
+          rw q (unbroken-fits (m .place) (m .tally .kept) (m .tally .dropped) (F .at-place) (F .unfinished)
+          (F .settled) (omega (arith, F .counts)))
+    ]
+
+  -- an accepted record
+  module _ (m : Monitor) (e : LogRecord) (F : Fit C m) (later : m .tally .now ≤ e .time)
+      (room : m .tally .records < mostRecords)
+      (unbroken : m .tally .broken .at ≡ 0) where
+    first-offer : Offerable (e .time) m
+    unfolding Settled
+    first-offer = record {
+      at-place = record {
+        closed = F .closed;
+        within = F .within;
+        moments = λ c. omega (arith, F .moments c, later);
+        unused = F .unused;
+      };
+      unfinished = F .unfinished;
+      settled = F .settled unbroken;
+      counts = omega (arith, F .counts);
+    }
+
+    second-offer : Offerable (e .time) (reopened C m e)
+    unfolding Settled reopened opening
+    second-offer = record {
+      at-place = opening-fits (e .time);
+      unfinished = opening-lacks C A;
+      settled = opening-settled C A;
+      counts = omega (arith, F .counts);
+    }
+
+    accept-fit : Fit C (accept C m e .next)
+    unfolding accept reopened
+    accept-fit = elim (split (missed C m e && fitsOpening C e)) [
+      | inl q ↦ rw q (offer-fit (reopened C m e) e second-offer room)
+      | inr q ↦ rw q (offer-fit m e first-offer room)
     ]
 
   pub feed-fit : (m : Monitor) (e : LogRecord) → Fit C m → Fit C (feed C m e .next)

@@ -4,6 +4,8 @@ pub mod Settling
 pub mod Rows
 pub mod Rounds
 pub mod Endings
+pub mod Offers
+pub mod Second
 pub mod Feeds
 pub mod Cuts
 pub mod Stretches

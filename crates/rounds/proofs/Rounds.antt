@@ -17,11 +17,11 @@ use Rattle.rounds.specs.Rows.{LogRecord, Row, stands, chartMessage, char
 use Rattle.rounds.specs.Rows.{momentOf, resetMoment, Placed, Lawful, LawfulButLast, firstFailing}
 use Rattle.rounds.specs.Rows.{LawfulButLastBy, LawfulBy, clockTest, firstFailingBy, holdsBy, waivedBy}
 use Rattle.rounds.specs.Machine.{Place, Move, stuck, fails, rests, readyPlain, readyFor, unfired, fire, settle}
-use Rattle.rounds.specs.Machine.{tryRegion, offer}
+use Rattle.rounds.specs.Machine.{tryRegion, takeMessage}
 use Rattle.base.proofs.Bools.{split, clash, or-left}
 use Rattle.base.proofs.Facts.{found, none-some}
-use Rattle.rounds.proofs.Machine.{plain-some, plain-none, for-some, has-message, offer-stuck, offer-fails}
-use Rattle.rounds.proofs.Machine.{offer-fires}
+use Rattle.rounds.proofs.Machine.{plain-some, plain-none, for-some, has-message, message-stuck, message-fails}
+use Rattle.rounds.proofs.Machine.{message-fires}
 use Rattle.rounds.proofs.Moments.{holds, waived, chartMessages-take, messageRegions-take, messageRegions-skip}
 use Rattle.rounds.proofs.Moments.{momentOf-last}
 use Rattle.rounds.proofs.Moments.{resetMoment-earlier, holds-earlier, retest}
@@ -227,16 +227,16 @@ module _ (C : Chart) (A : Accepted C) (o : ℕ) (s : Snoc LogRecord) (e : LogRec
         (rw (messageRegions-skip C r i (plain-some C A (stands r) i f .is-plain), plains-messages C A strict w) codes-m)
         (plain-last last-m w f)
 
-    place-settles : So (strict q m) → offer C (placeOf C o l q) e ≡ asMove C o l
+    place-settles : So (strict q m) → takeMessage C (placeOf C o l q) e ≡ asMove C o l
         (settleRow C strict (free C (q ▸ m)) (q ▸ m))
     unfolding free placeOf
     place-settles t =
-        offer-fires C (placeOf C o l q) e m fits (sym (tests-same C o l (e .time) q m (now (q ▸ m) last-m)) ∙ t)
+        message-fires C (placeOf C o l q) e m fits (sym (tests-same C o l (e .time) q m (now (q ▸ m) last-m)) ∙ t)
         ∙ ap (λ (p : Place). settle C (e .time) (unfired C (p .fired)) p)
         (fire-is C o l (e .time) q m (now (q ▸ m) last-m))
         ∙ settle-is C o l (e .time) A (unfired C (stands (q ▸ m))) (q ▸ m) (now (q ▸ m) last-m)
 
-    means-for : Means C o s q e (offer C (placeOf C o l q) e)
+    means-for : Means C o s q e (takeMessage C (placeOf C o l q) e)
     unfolding placeOf
     means-for = elim (split (strict q m)) [
       | inl t ↦
@@ -244,17 +244,35 @@ module _ (C : Chart) (A : Accepted C) (o : ℕ) (s : Snoc LogRecord) (e : LogRec
           (means-settled (settleRow C strict (free C (q ▸ m)) (q ▸ m)) t (settling C A strict (q ▸ m)))
       | inr t ↦
           rw (
-            offer-fails C (placeOf C o l q) e m fits (sym (tests-same C o l (e .time) q m (now (q ▸ m) last-m)) ∙ t),
+            message-fails C (placeOf C o l q) e m fits (sym (tests-same C o l (e .time) q m (now (q ▸ m) last-m)) ∙ t),
             ← (terms-same C o l (e .time) q m (now (q ▸ m) last-m)),
           )
           (fails-here q m placed-q (placed-m loose (waived-last q m last-m)) t codes-m last-m)
     ]
 
+  -- no ready region has the message, and no row is lawful even with its conditions waived; or one has, and one is
+  pub unready : readyFor C (stands q) e ≡ none → (r : Row) → ¬ LawfulButLast C o s e r
+  unfolding LawfulButLastBy
+  unready n r M = none-some n (through C A o s e chart q only loose r (waived-early C o s e chart) M .fits)
+
+  pub placeable : (m : ℕ) → readyFor C (stands q) e ≡ some m → (r : Row) × LawfulButLast C o s e r
+  unfolding LawfulButLastBy
+  placeable m fits =
+      let W : (r : Row) × Plains C loose (q ▸ m) r × (readyPlain C (stands r) ≡ none)
+      = rests-loose (q ▸ m) (last-m m fits) (settling C A loose (q ▸ m)) in (
+        W .0,
+        record {
+          one-for-one = rw (plains-messages C A loose (W .1)) (codes-m m fits);
+          placed = plains-placed C A loose (W .1)
+              (placed-waived C o s e q placed-q, placed-m m fits loose (waived-last q m (last-m m fits)));
+          settled = plain-none C A (stands (W .0)) (W .2);
+        },
+      )
+
   -- the machine's move on a chart message, after the lawful row of the stretch so far
-  pub move-means : Means C o s q e (offer C (placeOf C o (chartMessages C s) q) e)
+  pub move-means : Means C o s q e (takeMessage C (placeOf C o (chartMessages C s) q) e)
   unfolding LawfulButLastBy placeOf
   move-means = rw (← place-q) (elim (found (readyFor C (stands q) e)) [
-    | inl n ↦ rw (offer-stuck C (placeOf C o l q) e n) (unplaced
-        (λ r M. none-some n (through C A o s e chart q only loose r (waived-early C o s e chart) M .fits)))
+    | inl n ↦ rw (message-stuck C (placeOf C o l q) e n) (unplaced (unready n))
     | inr f ↦ means-for (f .0) (f .1)
   ])

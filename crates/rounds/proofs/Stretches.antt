@@ -6,13 +6,13 @@ use Rattle.base.specs.Lists.{Snoc, ε, _▸_, EachIn, Beginning, all-of-it, sho
 use Rattle.rounds.specs.Chart.{Chart, Accepted}
 use Rattle.rounds.specs.Rows.{LogRecord, Row, stands, Lawful, Full}
 use Rattle.rounds.specs.Feeds.{Outcome, kept, dropped, broken, Stretch, Last, unended, afterBreak, lastAfter}
-use Rattle.rounds.specs.Feeds.{Ends}
-use Rattle.rounds.specs.Feeds.{Answer, refuses, runs-on, ends, again, Fed, none-yet, one-more}
+use Rattle.rounds.specs.Feeds.{Ends, unplaced-prechart, Answer, runs-on, ends, refuses, once, twice, again, Fed}
+use Rattle.rounds.specs.Feeds.{none-yet, one-more}
 use Rattle.rounds.specs.Demand3.{RunsOn, Ended, Meaning}
 use Rattle.base.proofs.Facts.{snoc-same-init, snoc-same-last}
 use Rattle.rounds.proofs.Machine.{opening-lacks}
-use Rattle.rounds.proofs.Endings.{FedOne, one-outcome, ended}
-use Rattle.rounds.proofs.Feeds.{opens}
+use Rattle.rounds.proofs.Endings.{FedOne, Goes, one-outcome, ended}
+use Rattle.rounds.proofs.Offers.{opens}
 
 module _ (C : Chart) (A : Accepted C) where
   -- the stretch that has just opened
@@ -41,14 +41,33 @@ module _ (C : Chart) (A : Accepted C) where
     ended : EachIn (λ before x. Ended C x) es
     running : AtLast last
 
-  one : {rs rs′ : Snoc LogRecord} {es es′ : Snoc Stretch} {last last′ : Last} {e : LogRecord} {a : Answer}
-      → Cut es last → FedOne C rs es e last a rs′ es′ last′ → Cut es′ last′
-  one K (refuses k h) = K
-  one {e} K (runs-on {o} {s} h q r a M L f O) = record { ended = K .ended; running = longer o s e (K .running) r L f }
-  one {e} K (ends {o} {s} h x E) = record {
+  goes : {n : ℕ} {es es′ : Snoc Stretch} {o : ℕ} {s : Snoc LogRecord} {last : Last} {e : LogRecord} {a : Answer}
+      → Cut es (unended o s) → Goes C o s e n es a es′ last → Cut es′ last
+  goes {o} {s} {e} K (runs-on q r a M L f O) = record { ended = K .ended; running = longer o s e (K .running) r L f }
+  goes {s} {e} K (ends x E) = record {
     ended = (K .ended, record { before = s; last = e; parts = refl; ran-on = K .running; ends = E });
     running = after-it x (e .time);
   }
+
+  one : {rs rs′ : Snoc LogRecord} {es es′ : Snoc Stretch} {last last′ : Last} {e : LogRecord} {a : Answer}
+      → Cut es last → FedOne C rs es e last a rs′ es′ last′ → Cut es′ last′
+  one K (refuses k h) = K
+  one K (once h n W) = goes K W
+  one {e} K (twice {s} h M F W) = goes
+      (record {
+        ended = (
+          K .ended,
+          record {
+            before = s;
+            last = e;
+            parts = refl;
+            ran-on = K .running;
+            ends = unplaced-prechart (M .row) (M .unplaced) (M .lawful) (M .in-prechart);
+          },
+        );
+        running = opened (e .time);
+      })
+      W
   one K again = K
 
   cuts : {fs : Snoc LogRecord} {ans : Snoc Answer} {rs : Snoc LogRecord} {es : Snoc Stretch} {last : Last}

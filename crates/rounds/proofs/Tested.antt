@@ -13,7 +13,7 @@ use Rattle.rounds.specs.Chart.{Chart, Accepted}
 use Rattle.rounds.specs.Rows.{LogRecord, Row, stands, chartMessage, chartMessages, plain, messageRegions, Ready}
 use Rattle.rounds.specs.Rows.{Placed, LawfulIf, Lawful, LawfulButLast}
 use Rattle.rounds.specs.Rows.{LawfulButLastBy, LawfulBy}
-use Rattle.rounds.specs.Machine.{Move, stuck, ready, readyPlain, offer}
+use Rattle.rounds.specs.Machine.{Move, stuck, ready, readyPlain, takeMessage}
 use Rattle.base.proofs.Bools.{and-left, and-right}
 use Rattle.base.proofs.Facts.{found}
 use Rattle.rounds.proofs.Machine.{ready-true, plain-some, plain-none}
@@ -87,7 +87,7 @@ module _ (C : Chart) (A : Accepted C) (o : ℕ) (s : Snoc LogRecord) where
 module _ (C : Chart) (A : Accepted C) (o : ℕ) (s : Snoc LogRecord) (e : LogRecord) (q : Row) (lawful : Lawful C o s q)
     (chart : So (chartMessage C e)) where
   abbrev move : Move
-  move = offer C (placeOf C o (chartMessages C s) q) e
+  move = takeMessage C (placeOf C o (chartMessages C s) q) e
 
   means : {v : Move} → move ≡ v → Means C o s q e v
   means p = rw p at (move-means C A o s e chart q lawful)

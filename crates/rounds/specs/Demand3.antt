@@ -1,5 +1,6 @@
--- The third demand, of one chart: the rules on lists of feeds, rows and stretches (W9 to W30).
+-- The third demand, of one chart: the rules on lists of feeds, rows and stretches (W9 to W31).
 use mathlib.Core.Path.{_≡_}
+use mathlib.Core.Logic.{_⊎_}
 use mathlib.Core.Option.{none}
 use Prim.Native.Nat.{ℕ}
 use Rattle.base.specs.Lists.{Snoc, _▸_, size, EachIn, Beginning}
@@ -9,7 +10,7 @@ use Rattle.rounds.specs.Chart.{Chart}
 use Rattle.rounds.specs.Rows.{LogRecord, Row, Test, stands, chartMessages, resetMoment, clockTest, Full}
 use Rattle.rounds.specs.Rows.{Lawful, LawfulButLast}
 use Rattle.rounds.specs.Feeds.{lastMoment, refusal, Stretch, Last, unended, afterBreak, Ends, Answer, FedBy}
-use Rattle.rounds.specs.Feeds.{keptAmong, droppedAmong, Exactly}
+use Rattle.rounds.specs.Feeds.{moved, droppedNow, Missed, Fits, keptAmong, droppedAmong, ExactlyOffered}
 use Rattle.rounds.specs.Machine.{Monitor, feed, after, answers, Fit}
 
 -- W27, after a broken stretch: how many records were accepted, its reason and its cause
@@ -76,10 +77,15 @@ pub record Demand3 (C : Chart) : Type 0 where
   -- W11 to W23: each list of feeds has a meaning, and only one
   pub cut-exists : (fs : Snoc LogRecord) → Meaning C fs
   pub cut-unique : {fs : Snoc LogRecord} (M M′ : Meaning C fs) → Same M M′
-  -- W24: the answer to one more accepted record, after the list fs
+  -- W24, W31: the answer to one more accepted record, after the list fs
   pub exactly : {fs : Snoc LogRecord} (M : Meaning C fs) (o : ℕ) (s : Snoc LogRecord) (e : LogRecord)
       → M .last ≡ unended o s
-      → refusal (M .accepted) e ≡ none → Exactly C o s e (feed C (after C fs) e .answer)
+      → refusal (M .accepted) e ≡ none → ExactlyOffered C o s e (feed C (after C fs) e .answer)
+  -- W31: if two stretches share it, no other answer than moved or dropped
+  pub second-offer : {fs : Snoc LogRecord} (M : Meaning C fs) (o : ℕ) (s : Snoc LogRecord) (e : LogRecord)
+      → M .last ≡ unended o s
+      → refusal (M .accepted) e ≡ none → Missed C o s e → Fits C e
+      → let a = feed C (after C fs) e .answer in (a ≡ moved) ⊎ ((x : Cause) × (a ≡ droppedNow x))
   -- W24, of the stretches themselves: of each that has ended, and of the last one at each of its records
   pub each-stretch : {fs : Snoc LogRecord} (M : Meaning C fs) → EachIn (λ before x. Ended C x) (M .stretches)
   pub last-stretch : {fs : Snoc LogRecord} (M : Meaning C fs) (o : ℕ) (s : Snoc LogRecord)

@@ -1,4 +1,4 @@
--- Stretches, how they end, and how feeds are answered (W11 to W26, W30).
+-- Stretches, how they end, and how feeds are answered (W11 to W26, W30, W31).
 use mathlib.Core.Path.{_≡_}
 use mathlib.Core.Logic.{_↔_, _⊎_}
 use mathlib.Core.Bool.{Bool, true, false, cond, So}
@@ -10,7 +10,8 @@ use Rattle.model.specs.declared.Cause.{Cause}
 use Rattle.model.specs.Monitor.{noCause, causeOf}
 use Rattle.model.specs.Answers.{timeFalls, tooManyRecords, mostRecords}
 use Rattle.rounds.specs.Chart.{Chart}
-use Rattle.rounds.specs.Rows.{LogRecord, Row, Test, stands, chartMessages, Full, PrechartDone, clockTest}
+use Rattle.rounds.specs.Rows.{LogRecord, Row, Test, stands, chartMessage, chartMessages, Full, PrechartDone}
+use Rattle.rounds.specs.Rows.{clockTest}
 use Rattle.rounds.specs.Rows.{LawfulBy, NoRowBy, LawfulButLastBy, firstFailingBy}
 
 -- T19, T21: the reasons of a break
@@ -36,7 +37,8 @@ pub data Outcome : Type 0 where
   dropped : Cause → Outcome
   broken : ℕ → Cause → Outcome
 
--- a stretch that has ended: the moment of its opening, its records, its outcome
+-- A stretch that has ended: the moment of its opening, its records, its outcome. Its last record may be the first of the
+-- next stretch too (W31).
 pub record Stretch : Type 0 where
   pub opening : ℕ
   pub records : Snoc LogRecord
@@ -94,6 +96,31 @@ module _ (C : Chart) where
     stays : q ≡ r → Onward q r quiet
 
 module _ (C : Chart) (T : Test) where
+  -- How the stretch that opened at o and has the records s goes on with record e, the n-th that is accepted, after the
+  -- ended stretches es: the answer, the ended stretches then, and what follows them.
+  pub data GoesBy (o : ℕ) (s : Snoc LogRecord) (e : LogRecord) (n : ℕ) (es : Snoc Stretch)
+      : Answer → Snoc Stretch → Last → Type 0 where
+    -- W14: it has a row that lacks a region; or it ends
+    runs-on : (q r : Row) (a : Answer) → LawfulBy C T o s q → LawfulBy C T o (s ▸ e) r → ¬ Full C (stands r)
+        → Onward C q r a → GoesBy o s e n es a es (unended o (s ▸ e))
+    ends : (x : Outcome) → EndsBy C T o s e x
+        → GoesBy o s e n es (ending x n) (es ▸ record { opening = o; records = s ▸ e; outcome = x })
+        (lastAfter x (e .time))
+
+  -- W31: record e drops the stretch s by W19, and the row without e has a region
+  pub record MissedBy (o : ℕ) (s : Snoc LogRecord) (e : LogRecord) : Type 0 where
+    pub row : Row
+    pub lawful : LawfulBy C T o s row
+    pub fired-before : 0 < size row
+    pub in-prechart : ¬ PrechartDone C (stands row)
+    pub unplaced : (r : Row) → ¬ LawfulButLastBy C T o s e r
+
+  -- W31: a chart message that a stretch could start with: opened at its time, with its conditions waived, there is a row
+  pub record FitsBy (e : LogRecord) : Type 0 where
+    pub is-message : So (chartMessage C e)
+    pub row : Row
+    pub lawful : LawfulButLastBy C T (e .time) ε e row
+
   -- One feed, of record e: the accepted records, the ended stretches and what follows them, before it; its answer; and
   -- the same three after it.
   pub data FedOneBy (rs : Snoc LogRecord) (es : Snoc Stretch) (e : LogRecord)
@@ -101,14 +128,17 @@ module _ (C : Chart) (T : Test) where
     -- W25: refused, and nothing changes
     refuses : {o : ℕ} {s : Snoc LogRecord} (k : ℕ) → refusal rs e ≡ some k
         → FedOneBy rs es e (unended o s) (refused k) rs es (unended o s)
-    -- W14: accepted, and the stretch has a row that lacks a region; or it ends
-    runs-on : {o : ℕ} {s : Snoc LogRecord} → refusal rs e ≡ none
-        → (q r : Row) (a : Answer) → LawfulBy C T o s q → LawfulBy C T o (s ▸ e) r → ¬ Full C (stands r)
-        → Onward C q r a → FedOneBy rs es e (unended o s) a (rs ▸ e) es (unended o (s ▸ e))
-    ends : {o : ℕ} {s : Snoc LogRecord} → refusal rs e ≡ none
-        → (x : Outcome) → EndsBy C T o s e x
-        → FedOneBy rs es e (unended o s) (ending x (suc (size rs))) (rs ▸ e)
-        (es ▸ record { opening = o; records = s ▸ e; outcome = x }) (lastAfter x (e .time))
+    -- accepted, and of the last stretch alone
+    once : {o : ℕ} {s : Snoc LogRecord} {a : Answer} {es′ : Snoc Stretch} {last : Last} → refusal rs e ≡ none
+        → ¬ (MissedBy o s e × FitsBy e) → GoesBy o s e (suc (size rs)) es a es′ last
+        → FedOneBy rs es e (unended o s) a (rs ▸ e) es′ last
+    -- W31: accepted, and of two stretches: one ends with it, dropped; the next, opened at its time, starts with it and
+    -- gives the answer
+    twice : {o : ℕ} {s : Snoc LogRecord} {a : Answer} {es′ : Snoc Stretch} {last : Last} → refusal rs e ≡ none
+        → MissedBy o s e → FitsBy e
+        → GoesBy (e .time) ε e (suc (size rs)) (es ▸ record { opening = o; records = s ▸ e; outcome = dropped noCause })
+        a es′ last
+        → FedOneBy rs es e (unended o s) a (rs ▸ e) es′ last
     -- W25: after a break the answer is the same again
     again : {k : ℕ} {x : Cause} → FedOneBy rs es e (afterBreak k x) (brokenAt (size rs) k x) rs es (afterBreak k x)
 
@@ -123,6 +153,12 @@ module _ (C : Chart) (T : Test) where
 module _ (C : Chart) where
   abbrev pub Ends : ℕ → Snoc LogRecord → LogRecord → Outcome → Type 0
   Ends = EndsBy C (clockTest C)
+
+  abbrev pub Missed : ℕ → Snoc LogRecord → LogRecord → Type 0
+  Missed = MissedBy C (clockTest C)
+
+  abbrev pub Fits : LogRecord → Type 0
+  Fits = FitsBy C (clockTest C)
 
   abbrev pub Fed : Snoc LogRecord → Snoc Answer → Snoc LogRecord → Snoc Stretch → Last → Type 0
   Fed = FedBy C (clockTest C)
@@ -160,5 +196,15 @@ pub record ExactlyBy (C : Chart) (T : Test) (o : ℕ) (s : Snoc LogRecord) (e : 
   -- dropped or broken: no row is lawful
   pub dropped-or-broken-exactly : SaysDroppedOrBroken a ↔ NoRowBy C T o (s ▸ e)
 
-abbrev pub Exactly : Chart → ℕ → Snoc LogRecord → LogRecord → Answer → Type 0
-Exactly C = ExactlyBy C (clockTest C)
+-- W24 and W31, of a record that two stretches may share
+pub record ExactlyOfferedBy (C : Chart) (T : Test) (o : ℕ) (s : Snoc LogRecord) (e : LogRecord) (a : Answer) : Type 0 where
+  pub once-exactly : ¬ (MissedBy C T o s e × FitsBy C T e) → ExactlyBy C T o s e a
+  -- the stretch before has no lawful row any more, and the answer is that of the stretch which starts with e
+  pub twice-exactly : MissedBy C T o s e → FitsBy C T e → NoRowBy C T o (s ▸ e) × ExactlyBy C T (e .time) ε e a
+
+module _ (C : Chart) where
+  abbrev pub Exactly : ℕ → Snoc LogRecord → LogRecord → Answer → Type 0
+  Exactly = ExactlyBy C (clockTest C)
+
+  abbrev pub ExactlyOffered : ℕ → Snoc LogRecord → LogRecord → Answer → Type 0
+  ExactlyOffered = ExactlyOfferedBy C (clockTest C)

@@ -1,17 +1,18 @@
--- T1 to T32 as a machine over an abstract chart, step by step, and which monitors are fit (M10).
+-- T1 to T34 as a machine over an abstract chart, step by step, and which monitors are fit (M10).
 use mathlib.Core.Path.{_≡_}
 use mathlib.Core.Logic.{_⊎_}
 use mathlib.Core.Bool.{Bool, false, not, cond, So, _&&_, _||_}
 use mathlib.Core.Option.{Option}
-use Prim.Native.Nat.{ℕ, zero, suc, _+_, _≤_, _<_}
+use Prim.Native.Nat.{ℕ, zero, suc, _+_, _*_, _≤_, _<_}
 use lib.Dec.{eqb, ltb, leb}
-use Rattle.base.specs.Lists.{Snoc, ε, _▸_, allBelow, countBelow, first, onFound}
+use Rattle.base.specs.Lists.{Snoc, ε, _▸_, allBelow, someBelow, countBelow, first, onFound, isFound}
 use Rattle.model.specs.declared.Cause.{Cause}
 use Rattle.model.specs.Monitor.{noCause, causeOf}
 use Rattle.model.specs.Answers.{timeFalls, tooManyRecords, mostRecords}
 use Rattle.rounds.specs.Chart.{Chart, conditionOf}
 use Rattle.rounds.specs.Rows.{LogRecord, chartMessage, plain, Ready, Full, values, opened}
 use Rattle.rounds.specs.Tally.{Tally, freshTally, counted, countedKept, countedDropped, countedBroken}
+use Rattle.rounds.specs.Tally.{reopenedTally}
 use Rattle.rounds.specs.Feeds.{noReadyRegion, conditionFails, Answer}
 use Rattle.rounds.specs.Feeds.{refused, brokenAt, keptNow, droppedNow, entered, moved, quiet}
 
@@ -74,8 +75,8 @@ module _ (C : Chart) where
   settle t (suc k) p = onFound (readyPlain (p .fired)) (rests p) (λ i. tryRegion t p i (settle t k (fire t p i)))
 
   -- T11, T12: the message's region is tested and fired, its resets come after the test; then T13
-  unfoldable pub offer : Place → LogRecord → Move
-  offer p e = onFound (readyFor (p .fired) e) stuck
+  unfoldable pub takeMessage : Place → LogRecord → Move
+  takeMessage p e = onFound (readyFor (p .fired) e) stuck
       (λ i. tryRegion (e .time) p i (let q = fire (e .time) p i in settle (e .time) (unfired (q .fired)) q))
 
   -- T22: how a round opens at moment t
@@ -124,9 +125,26 @@ module _ (C : Chart) where
   conclude m e (rests p) = cond (full (p .fired)) (keepRound m e)
       (goOn m e (cond (not (prechartDone (m .place .fired)) && prechartDone (p .fired)) entered moved) p)
 
-  -- T10: a record that is no chart message is counted, and that is all
+  -- One offer of a record, steps 1 to 7. T10: one that is no chart message is counted, and that is all
+  unfoldable pub offer : Monitor → LogRecord → Step
+  offer m e = cond (chartMessage C e) (conclude m e (takeMessage (m .place) e)) (goOn m e quiet (m .place))
+
+  -- T33: a chart message drops the round by T18, and a region was fired in it before
+  unfoldable pub missed : Monitor → LogRecord → Bool
+  missed m e = chartMessage C e && (not (prechartDone (m .place .fired))
+      && (someBelow (C .regions) (m .place .fired) && not (isFound (readyFor (m .place .fired) e))))
+
+  -- T33: a region that is ready at the opening has the message, whatever its condition
+  unfoldable pub fitsOpening : LogRecord → Bool
+  fitsOpening e = isFound (readyFor (λ i. false) e)
+
+  -- T34: between the two offers the round stands at the opening, at the record's time, and its drop is counted
+  unfoldable pub reopened : Monitor → LogRecord → Monitor
+  reopened m e = record { place = opening (e .time); tally = reopenedTally (m .tally) (e .time) }
+
+  -- T33, T34: a record that the round missed and that fits is offered to the round that opens; any other once
   unfoldable pub accept : Monitor → LogRecord → Step
-  accept m e = cond (chartMessage C e) (conclude m e (offer (m .place) e)) (goOn m e quiet (m .place))
+  accept m e = cond (missed m e && fitsOpening e) (offer (reopened m e) e) (offer m e)
 
   -- M12 to M14: broken again, 22 or 23, each with the monitor unchanged; or the record is taken
   unfoldable pub feed : Monitor → LogRecord → Step
@@ -168,8 +186,8 @@ pub record Fit (C : Chart) (m : Monitor) : Type 0 where
   pub unused : (c : ℕ) → C .clocks ≤ c → m .place .clocks c ≡ 0
   -- records is not above the most that there can be
   pub few : m .tally .records ≤ mostRecords
-  -- no more rounds have ended than records came
-  pub counts : m .tally .kept + m .tally .dropped ≤ m .tally .records
+  -- each record ends two rounds at most
+  pub counts : m .tally .kept + m .tally .dropped ≤ 2 * m .tally .records
   -- no break, no reason and no cause; or a break at a record that was counted, with a condition's cause for reason 2
   pub break-fits : ((m .tally .broken .at ≡ 0) × (m .tally .broken .reason ≡ 0) × (m .tally .broken .cause ≡ noCause))
       ⊎ ((1 ≤ m .tally .broken .at) × (m .tally .broken .at ≤ m .tally .records)

@@ -50,3 +50,13 @@ countedDropped x t = countedAs x t (x .kept) (suc (x .dropped)) noBreak
 abbrev pub countedBroken : Tally → ℕ → ℕ → Cause → Tally
 countedBroken x t k z =
     countedAs x t (x .kept) (x .dropped) (record { at = suc (x .records); reason = k; cause = z })
+
+-- T34: a round is dropped at time t by a record that is offered again, and counted with that offer
+abbrev pub reopenedTally : Tally → ℕ → Tally
+reopenedTally x t = record {
+  now = t;
+  records = x .records;
+  kept = x .kept;
+  dropped = suc (x .dropped);
+  broken = x .broken;
+}

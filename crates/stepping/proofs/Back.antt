@@ -13,9 +13,9 @@ use Rattle.base.proofs.Bools.{split}
 use Rattle.rounds.specs.Chart.{Chart}
 use Rattle.rounds.specs.Rows.{LogRecord, chartMessage}
 use Rattle.rounds.specs.Feeds.{Answer as AbstractAnswer, refused, brokenAt, keptNow, droppedNow, entered, moved, quiet}
-use Rattle.rounds.specs.Machine.{Monitor as AbstractMonitor, Step as AbstractStep, Move, stuck, fails, rests, offer}
-use Rattle.rounds.specs.Machine.{full, prechartDone, goOn, keepRound, dropRound, breakRound, conclude, accept}
-use Rattle.rounds.specs.Machine.{feed}
+use Rattle.rounds.specs.Machine.{Monitor as AbstractMonitor, Step as AbstractStep, Move, stuck, fails, rests, full}
+use Rattle.rounds.specs.Machine.{takeMessage, prechartDone, goOn, keepRound, dropRound, breakRound, conclude, offer}
+use Rattle.rounds.specs.Machine.{missed, fitsOpening, reopened, accept, feed}
 use Rattle.stepping.specs.declared.Step.{Step}
 use Rattle.stepping.specs.Answers.{answerOf, HandsBack}
 
@@ -47,11 +47,17 @@ module _ (C : Chart) (m : AbstractMonitor) (e : LogRecord) where
       on true = tt
       on false = tt
 
-  pub accept-taken : NotRefused (accept C m e .answer)
-  unfolding accept goOn NotRefused
-  accept-taken =
-      either-taken (chartMessage C e) (conclude C m e (offer C (m .place) e)) (goOn C m e quiet (m .place))
-      (conclude-taken (offer C (m .place) e)) tt
+  offer-taken : NotRefused (offer C m e .answer)
+  unfolding offer goOn NotRefused
+  offer-taken =
+      either-taken (chartMessage C e) (conclude C m e (takeMessage C (m .place) e)) (goOn C m e quiet (m .place))
+      (conclude-taken (takeMessage C (m .place) e)) tt
+
+pub accept-taken : (C : Chart) (m : AbstractMonitor) (e : LogRecord) → NotRefused (accept C m e .answer)
+unfolding accept
+accept-taken C m e =
+    either-taken (missed C m e && fitsOpening C e) (offer C (reopened C m e) e) (offer C m e)
+    (offer-taken C (reopened C m e) e) (offer-taken C m e)
 
 -- the machine refuses with 22 and 23 alone
 pub refuses-with : (C : Chart) (m : AbstractMonitor) (e : LogRecord) {k : ℕ} → feed C m e .answer ≡ refused k

@@ -1,2 +1,3 @@
 pub mod Answers
 pub mod Monitors
+pub mod Parts

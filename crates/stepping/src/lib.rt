@@ -1,4 +1,5 @@
 // One record taken by a fit monitor. The chart is compiled: its head, and four arrays that are lent beside it.
+use firing::Found;
 use firing::Rest;
 use firing::Settled;
 use firing::Sought;
@@ -15,22 +16,27 @@ use model::Monitor;
 use model::Place;
 use model::Tally;
 ghost use mathlib.Core.Path.{_≡_};
-ghost use mathlib.Core.Bool.{_&&_, not, cond};
+ghost use mathlib.Core.Logic.{_≢_};
+ghost use mathlib.Core.Bool.{So, _&&_, not, cond};
+ghost use mathlib.Core.Option.{none};
 ghost use mathlib.Core.List.{List};
-ghost use Prim.Native.Nat.{ℕ, _<_, _≤_, _+_};
+ghost use Prim.Native.Nat.{ℕ, _<_, _≤_, _+_, _*_};
+ghost use Rattle.bitset.specs.Set.{contains};
 ghost use Rattle.model.specs.Chart.{mostRegions, mostClocks};
 ghost use Rattle.model.specs.Answers.{mostRecords};
 ghost use Rattle.rounds.specs.Chart.{Chart};
+ghost use Rattle.rounds.specs.Rows.{chartMessage};
 ghost use Rattle.rounds.specs.Feeds.{entered, moved};
 ghost use Rattle.rounds.specs.Tally.{countedAs, counted as tallied, countedKept, countedDropped, countedBroken};
-ghost use Rattle.rounds.specs.Machine.{stuck, goOn, keepRound, dropRound};
-ghost use Rattle.rounds.specs.Machine.{breakRound, conclude as concluded, accept as accepted, feed as fed, Fit};
+ghost use Rattle.rounds.specs.Machine.{stuck, readyFor, goOn, keepRound, dropRound, breakRound};
+ghost use Rattle.rounds.specs.Machine.{conclude as concluded, reopened as reopens, accept as accepted, feed as fed, Fit};
 ghost use Rattle.layout.specs.View.{planChart, Compiled, Covers};
 ghost use Rattle.firing.specs.declared.Rest.the-variants.{Fails as FailsAt};
-ghost use Rattle.firing.specs.Places.{momentsOf, placeAt};
+ghost use Rattle.firing.specs.Places.{placeAt};
 ghost use Rattle.firing.specs.Parts.{moveOf};
 ghost use Rattle.stepping.specs.Answers.{answerOf, HandsBack};
 ghost use Rattle.stepping.specs.Monitors.{breakAt, tallyAt, monitorAt, stepOf, recordOf};
+ghost use Rattle.stepping.specs.Parts.{Offerable, Decides};
 
 // The reasons of a break.
 pub const NO_READY_REGION: u8 = 1;
@@ -67,7 +73,7 @@ fn counted(x: Tally, t: Moment) -> Tally
 
 // A record is counted, and the round is kept.
 fn counted_kept(x: Tally, t: Moment) -> Tally
-    requires { ⌜ (x .records < mostRecords) × (x .kept ≤ x .records) ⌝ }
+    requires { ⌜ (x .records < mostRecords) × (x .kept ≤ 2 * x .records + 1) ⌝ }
     ensures { λ r. ⌜ tallyAt r ≡ countedKept (tallyAt x) (t .0) ⌝ }
 {
     counted_as(x, t, x.kept + 1, x.dropped, model::no_break())
@@ -75,7 +81,7 @@ fn counted_kept(x: Tally, t: Moment) -> Tally
 
 // A record is counted, and the round is dropped.
 fn counted_dropped(x: Tally, t: Moment) -> Tally
-    requires { ⌜ (x .records < mostRecords) × (x .dropped ≤ x .records) ⌝ }
+    requires { ⌜ (x .records < mostRecords) × (x .dropped ≤ 2 * x .records + 1) ⌝ }
     ensures { λ r. ⌜ tallyAt r ≡ countedDropped (tallyAt x) (t .0) ⌝ }
 {
     counted_as(x, t, x.kept, x.dropped + 1, model::no_break())
@@ -110,7 +116,7 @@ fn go_on(m: Monitor, t: Moment, answer: Answer, place: Place) -> Step
 // The round is kept.
 fn keep_round(clocks: usize, m: Monitor, t: Moment) -> Step
     requires { ⌜ clocks ≤ mostClocks ⌝ }
-    requires { ⌜ (m .tally .records < mostRecords) × (m .tally .kept ≤ m .tally .records) ⌝ }
+    requires { ⌜ (m .tally .records < mostRecords) × (m .tally .kept ≤ 2 * m .tally .records + 1) ⌝ }
     ensures { λ r. ⌜ ((C : Chart) (code : ℕ) → C .clocks ≡ clocks
         → stepOf r ≡ keepRound C (monitorAt m) (recordOf code (t .0))) ⌝ }
 {
@@ -125,7 +131,7 @@ fn keep_round(clocks: usize, m: Monitor, t: Moment) -> Step
 // The round is dropped; the cause is in the answer alone (T32).
 fn drop_round(clocks: usize, m: Monitor, t: Moment, cause: Cause) -> Step
     requires { ⌜ clocks ≤ mostClocks ⌝ }
-    requires { ⌜ (m .tally .records < mostRecords) × (m .tally .dropped ≤ m .tally .records) ⌝ }
+    requires { ⌜ (m .tally .records < mostRecords) × (m .tally .dropped ≤ 2 * m .tally .records + 1) ⌝ }
     ensures { λ r. ⌜ ((C : Chart) (code : ℕ) → C .clocks ≡ clocks
         → stepOf r ≡ dropRound C (monitorAt m) (recordOf code (t .0)) cause) ⌝ }
 {
@@ -163,7 +169,8 @@ fn entered_or_moved(before: bool, after: bool) -> Answer
 // T18 and T19: no ready region has the chart message.
 fn unplaced(h: Head, m: Monitor, t: Moment) -> Step
     requires { ⌜ (h .prechart ≤ mostRegions) × (h .clocks ≤ mostClocks) ⌝ }
-    requires { ⌜ (m .tally .records < mostRecords) × (m .tally .kept + m .tally .dropped ≤ m .tally .records) ⌝ }
+    requires { ⌜ (m .tally .records < mostRecords)
+        × (m .tally .kept + m .tally .dropped ≤ 2 * m .tally .records + 1) ⌝ }
     ensures { λ r. ⌜ ((keys above resets terms : List ℕ) (code : ℕ)
         → stepOf r ≡ concluded (planChart h keys above resets terms) (monitorAt m) (recordOf code (t .0)) stuck) ⌝ }
 {
@@ -177,7 +184,8 @@ fn unplaced(h: Head, m: Monitor, t: Moment) -> Step
 // T17, T21, T28, T29: what follows from the end of steps 3 and 4.
 fn conclude(h: Head, m: Monitor, t: Moment, s: Settled) -> Step
     requires { ⌜ (h .count ≤ mostRegions) × (h .prechart ≤ mostRegions) × (h .clocks ≤ mostClocks) ⌝ }
-    requires { ⌜ (m .tally .records < mostRecords) × (m .tally .kept + m .tally .dropped ≤ m .tally .records) ⌝ }
+    requires { ⌜ (m .tally .records < mostRecords)
+        × (m .tally .kept + m .tally .dropped ≤ 2 * m .tally .records + 1) ⌝ }
     requires { ⌜ ((i term : ℕ) → s .rest ≡ FailsAt i term → i < mostRegions) ⌝ }
     ensures { λ r. ⌜ ((keys above resets terms : List ℕ) (code : ℕ)
         → stepOf r
@@ -205,6 +213,104 @@ fn conclude(h: Head, m: Monitor, t: Moment, s: Settled) -> Step
     }
 }
 
+// T34: the monitor between two offers of a record: at the opening, with one more drop.
+fn reopened(clocks: usize, m: Monitor, t: Moment) -> Monitor
+    requires { ⌜ clocks ≤ mostClocks ⌝ }
+    requires { ⌜ (m .tally .records < mostRecords) × (m .tally .dropped ≤ 2 * m .tally .records) ⌝ }
+    ensures { λ r. ⌜ ((C : Chart) (code : ℕ) → C .clocks ≡ clocks
+        → monitorAt r ≡ reopens C (monitorAt m) (recordOf code (t .0))) ⌝ }
+{
+    let x = m.tally;
+    let broken = x.broken;
+    let tally = Tally {
+        now: t,
+        records: x.records,
+        kept: x.kept,
+        dropped: x.dropped + 1,
+        broken,
+    };
+    let place = firing::opening(clocks, t);
+    Monitor { place, tally }
+}
+
+// An offer of a record: which regions have its message, and the monitor to which it is offered.
+pub struct Offer {
+    pub sought: Sought,
+    pub monitor: Monitor,
+}
+
+// T33: the offer that decides if no ready region has the chart message: the second one, or the first. With nothing
+// fired, none has it at the opening either.
+fn offer_again<'a>(
+    h: Head,
+    keys: &'a [u64; MOST_REGIONS],
+    above: &'a [u32; MOST_REGIONS],
+    among: u32,
+    m: Monitor,
+    code: u64,
+    t: Moment,
+) -> Offer
+    requires { ⌜ (h .prechart ≤ mostRegions) × (h .clocks ≤ mostClocks) ⌝ }
+    requires { ⌜ Offerable m (t .0) ⌝ }
+    requires { ⌜ Covers (h .count) (now keys) code among ⌝ }
+    ensures { λ r. ⌜ ((resets terms : List ℕ) → Compiled h (now (keys .entry)) (now (above .entry)) resets terms
+        → let C = planChart h (now (keys .entry)) (now (above .entry)) resets terms in
+        So (chartMessage C (recordOf code (t .0)))
+        → readyFor C (contains (m .place .fired)) (recordOf code (t .0)) ≡ none
+        → Decides C m (recordOf code (t .0)) r) ⌝ }
+{
+    let place = m.place;
+    if firing::all_fired(h.prechart, place.fired) | (place.fired == 0) {
+        return Offer {
+            sought: Sought::Unready,
+            monitor: m,
+        };
+    }
+    let f = firing::ready_for(keys, above, among, 0, code);
+    let Found::At(i) = f else {
+        return Offer {
+            sought: Sought::Unready,
+            monitor: m,
+        };
+    };
+    Offer {
+        sought: Sought::Ready(i),
+        monitor: reopened(h.clocks, m, t),
+    }
+}
+
+// The offer that decides what a message does. The steps after it have one caller, so that the compiler takes them in.
+fn deciding_offer<'a>(
+    h: Head,
+    keys: &'a [u64; MOST_REGIONS],
+    above: &'a [u32; MOST_REGIONS],
+    among: u32,
+    m: Monitor,
+    code: u64,
+    t: Moment,
+) -> Offer
+    requires { ⌜ (h .prechart ≤ mostRegions) × (h .clocks ≤ mostClocks) ⌝ }
+    requires { ⌜ Offerable m (t .0) ⌝ }
+    requires { ⌜ Covers (h .count) (now keys) code among ⌝ }
+    requires { ⌜ code ≢ 0 ⌝ }
+    ensures { λ r. ⌜ ((resets terms : List ℕ) → Compiled h (now (keys .entry)) (now (above .entry)) resets terms
+        → Decides (planChart h (now (keys .entry)) (now (above .entry)) resets terms) m (recordOf code (t .0)) r) ⌝ }
+{
+    let place = m.place;
+    let sought = firing::seek(keys, above, among, place.fired, code);
+    match sought {
+        Sought::Unready => offer_again(h, keys, above, among, m, code, t),
+        Sought::Ready(i) => Offer {
+            sought: Sought::Ready(i),
+            monitor: m,
+        },
+        Sought::Foreign => Offer {
+            sought: Sought::Foreign,
+            monitor: m,
+        },
+    }
+}
+
 // A record that is neither refused nor after a break; code 0 is a record of time. Every region that has its message is
 // in `among`.
 pub fn accept<'a>(
@@ -219,24 +325,26 @@ pub fn accept<'a>(
     t: Moment,
 ) -> Step
     requires { ⌜ Compiled h (now keys) (now above) (now resets) (now terms) ⌝ }
-    requires { ⌜ (m .tally .records < mostRecords) × (m .tally .kept + m .tally .dropped ≤ m .tally .records) ⌝ }
-    requires { ⌜ ((c : ℕ) → momentsOf (m .place .resets) c ≤ t .0) ⌝ }
+    requires { ⌜ Offerable m (t .0) ⌝ }
     requires { ⌜ Covers (h .count) (now keys) code among ⌝ }
     ensures { λ r. ⌜ stepOf r
         ≡ accepted (planChart h (now (keys .entry)) (now (above .entry)) (now (resets .entry)) (now (terms .entry)))
         (monitorAt m) (recordOf code (t .0)) ⌝ }
 {
-    let place = m.place;
     if code == 0 {
+        let place = m.place;
         return go_on(m, t, Answer::Quiet, place);
     }
-    let sought = firing::seek(keys, above, among, place.fired, code);
+    let o = deciding_offer(h, keys, above, among, m, code, t);
+    let n = o.monitor;
+    let place = n.place;
+    let sought = o.sought;
     match sought {
-        Sought::Foreign => go_on(m, t, Answer::Quiet, place),
-        Sought::Unready => unplaced(h, m, t),
+        Sought::Foreign => go_on(n, t, Answer::Quiet, place),
+        Sought::Unready => unplaced(h, n, t),
         Sought::Ready(i) => {
             let s = firing::take_region(h, keys, above, resets, terms, place, i, t);
-            conclude(h, m, t, s)
+            conclude(h, n, t, s)
         }
     }
 }

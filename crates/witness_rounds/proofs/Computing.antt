@@ -9,16 +9,19 @@ use Rattle.rounds.specs.Chart.{conditionOf}
 use Rattle.rounds.specs.Rows.{momentAt, chartMessage, chartMessages, plain, messageRegions, momentOf, values, opened}
 use Rattle.rounds.specs.Rows.{resetMoment, clockTest, holdsBy, waivedBy, firstFailingBy}
 use Rattle.rounds.specs.Feeds.{refusal}
-use Rattle.rounds.specs.Machine.{ready, readyFor, readyPlain, fire, unfired, tryRegion, settle, offer, opening, full}
-use Rattle.rounds.specs.Machine.{prechartDone, goOn, keepRound, dropRound, breakRound, conclude, accept, feed, after}
+use Rattle.rounds.specs.Machine.{ready, readyFor, readyPlain, fire, unfired, tryRegion, settle, takeMessage, opening}
+use Rattle.rounds.specs.Machine.{full, prechartDone, goOn, keepRound, dropRound, breakRound, conclude, offer, missed}
+use Rattle.rounds.specs.Machine.{fitsOpening, reopened, accept, feed, after}
 use Rattle.rounds.proofs.Tested.{promptTest, placedTest, rowTest}
 use Rattle.rounds.proofs.Rounds.{placeOf}
 use Rattle.paper.specs.Runs.{add, reset, shift, configAt}
+use Rattle.paper.proofs.Offering.{unplaceable, caseFor}
+use Rattle.paper.proofs.Taking.{number}
 use Rattle.log_reader.specs.Records.{recordsFrom, recordsIn}
 use Rattle.judge.specs.Check.{stepAt, checkFrom, checkLog}
 use Rattle.judge.specs.Judge.{judgeOf}
 use Rattle.judge.specs.Verdict.{standingOf}
 
 unfoldable pub computing : Unit {0}
-unfolding contains single inserted union isSubset within isOver gathered aboveSets readChart readFrom advanceOf isZeroTerm termPlaced termsFit regionFits isZeroRegion touchedBefore regionPlaced wellFormed conditionOf momentAt chartMessage chartMessages plain messageRegions momentOf values opened resetMoment clockTest holdsBy waivedBy firstFailingBy refusal ready readyFor readyPlain fire unfired tryRegion settle offer opening full prechartDone goOn keepRound dropRound breakRound conclude accept feed after promptTest placedTest rowTest placeOf add reset shift configAt recordsFrom recordsIn stepAt checkFrom checkLog standingOf judgeOf
+unfolding contains single inserted union isSubset within isOver gathered aboveSets readChart readFrom advanceOf isZeroTerm termPlaced termsFit regionFits isZeroRegion touchedBefore regionPlaced wellFormed conditionOf momentAt chartMessage chartMessages plain messageRegions momentOf values opened resetMoment clockTest holdsBy waivedBy firstFailingBy refusal ready readyFor readyPlain fire unfired tryRegion settle takeMessage opening full prechartDone goOn keepRound dropRound breakRound conclude offer missed fitsOpening reopened accept feed after promptTest placedTest rowTest placeOf add reset shift configAt unplaceable caseFor number recordsFrom recordsIn stepAt checkFrom checkLog standingOf judgeOf
 computing = tt

@@ -18,13 +18,12 @@ use Rattle.rounds.proofs.Tested.{lawful-tested, waived-tested}
 use Rattle.rounds.proofs.Machine.{full-true}
 use Rattle.chart_value.specs.Records.{logRecord, logged}
 use Rattle.log_reader.specs.Records.{recordsIn}
-use Rattle.judge.specs.Judge.{judgeOf}
 use Rattle.claims.specs.Examples.{chartU}
+use Rattle.witnesses.specs.Offers.{coldSecond}
 use Rattle.witness_rounds.specs.Charts.{chartA, chartB, written}
-use Rattle.witness_rounds.specs.Rounds.{valueOf, theory, U, A, B, TakenBy, Round, RoundShown, roundU, keptA}
-use Rattle.witness_rounds.specs.Rounds.{droppedA, brokenA, keptB, droppedB, brokenB}
+use Rattle.witness_rounds.specs.Rounds.{valueOf, theory, U, A, B, D, Judged, TakenBy, Round, RoundShown, roundU}
+use Rattle.witness_rounds.specs.Rounds.{keptA, droppedA, brokenA, keptB, droppedB, brokenB}
 use Rattle.witness_rounds.proofs.Computing.{computing}
-use Rattle.paper.proofs.Taking.{unplaceable, caseFor}
 use Rattle.witness_rounds.proofs.Laws.{accepts, taken-anew, taken-at}
 
 pub read-u : readChart chartU ≡ acceptedAs (valueOf chartU)
@@ -48,12 +47,18 @@ read-b = refl
 pub accepted-b : Accepted B
 accepted-b = shown-of chartB (valueOf chartB) read-b .accepted
 
+read-d : readChart coldSecond ≡ acceptedAs (valueOf coldSecond)
+unfolding computing
+read-d = refl
+
+pub accepted-d : Accepted D
+accepted-d = shown-of coldSecond (valueOf coldSecond) read-d .accepted
+
 -- a round that ends where a condition fails, from the tests of its row
 failing : (g : Round) (A : Accepted (theory (g .chart))) (x : Cause)
     → readChart (g .chart) ≡ acceptedAs (valueOf (g .chart))
     → recordsIn (written (g .before ▸ g .last) []) ≡ g .before ▸ g .last
-    → judgeOf (valueOf (g .chart))
-    (written (g .before ▸ g .last) []) ≡ record { number = 0; offset = 0; verdict = g .verdict }
+    → Judged (g .chart) (g .before ▸ g .last) (g .verdict)
     → Lawful (theory (g .chart)) 0 (logged (g .before)) (g .row)
     → (W : LawfulButLast (theory (g .chart)) 0 (logged (g .before)) (logRecord (g .last)) (g .whole))
     → g .failing ≡ some x
@@ -72,7 +77,7 @@ failing g A x c l j Q W f h E k T = record {
 }
 
 pub round-u : RoundShown roundU
-unfolding computing unplaceable caseFor accepts
+unfolding computing accepts
 round-u =
     let s : Snoc LogRecord = logged (roundU .before) in
     let e : LogRecord = logRecord (roundU .last) in
@@ -89,7 +94,7 @@ round-u =
     }
 
 pub kept-a : RoundShown keptA
-unfolding computing unplaceable caseFor accepts
+unfolding computing accepts
 kept-a =
     let s : Snoc LogRecord = logged (keptA .before) in
     let e : LogRecord = logRecord (keptA .last) in
@@ -106,7 +111,7 @@ kept-a =
     }
 
 pub dropped-a : RoundShown droppedA
-unfolding computing unplaceable caseFor accepts
+unfolding computing accepts
 dropped-a =
     let s : Snoc LogRecord = logged (droppedA .before) in
     let e : LogRecord = logRecord (droppedA .last) in
@@ -118,7 +123,7 @@ dropped-a =
     (taken-anew A accepted-a s e 4 (droppedNow (causeOf 2 1)) refl refl refl refl)
 
 pub broken-a : RoundShown brokenA
-unfolding computing unplaceable caseFor accepts
+unfolding computing accepts
 broken-a =
     let s : Snoc LogRecord = logged (brokenA .before) in
     let e : LogRecord = logRecord (brokenA .last) in
@@ -130,7 +135,7 @@ broken-a =
     (brokenAt 3 conditionFails (causeOf 4 1)) refl refl refl refl refl)
 
 pub kept-b : RoundShown keptB
-unfolding computing unplaceable caseFor accepts
+unfolding computing accepts
 kept-b =
     let s : Snoc LogRecord = logged (keptB .before) in
     let e : LogRecord = logRecord (keptB .last) in
@@ -147,7 +152,7 @@ kept-b =
     }
 
 pub dropped-b : RoundShown droppedB
-unfolding computing unplaceable caseFor accepts
+unfolding computing accepts
 dropped-b =
     let s : Snoc LogRecord = logged (droppedB .before) in
     let e : LogRecord = logRecord (droppedB .last) in
@@ -159,7 +164,7 @@ dropped-b =
     (taken-anew B accepted-b s e 4 (droppedNow (causeOf 2 1)) refl refl refl refl)
 
 pub broken-b : RoundShown brokenB
-unfolding computing unplaceable caseFor accepts
+unfolding computing accepts
 broken-b =
     let s : Snoc LogRecord = logged (brokenB .before) in
     let e : LogRecord = logRecord (brokenB .last) in
@@ -167,4 +172,5 @@ broken-b =
     failing brokenB accepted-b (causeOf 3 1) refl refl refl
     (lawful-tested B accepted-b 0 s (brokenB .row) refl refl refl) W refl refl
     (fails-hot (brokenB .whole) 3 1 W refl refl) refl
-    (taken-at B accepted-b s e 5 (ε ▸ 0 ▸ 2 ▸ 1) (20 ∷ []) (brokenAt 2 conditionFails (causeOf 3 1)) refl refl refl refl refl)
+    (taken-at B accepted-b s e 5 (ε ▸ 0 ▸ 2 ▸ 1) (20 ∷ [])
+    (brokenAt 2 conditionFails (causeOf 3 1)) refl refl refl refl refl)

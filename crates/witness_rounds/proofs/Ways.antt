@@ -1,7 +1,7 @@
 -- The other ways to end, to run on, to be fed and to be taken, and the steps of S7 to S10: each by its constructor or
 -- by the laws. Assumes nothing.
 use mathlib.Core.Path.{_≡_, refl, ap, subst, _∙_}
-use mathlib.Core.Bool.{true, false}
+use mathlib.Core.Bool.{true, false, false≢true}
 use mathlib.Core.List.{[], _∷_}
 use Prim.Native.Nat.{ℕ}
 use native.Mathlib.Omega.{arith}
@@ -11,11 +11,11 @@ use Rattle.model.specs.Answers.{timeFalls}
 use Rattle.rounds.specs.Rows.{LogRecord, Row, stands, plain, Lawful, LawfulButLast, PrechartDone}
 use Rattle.rounds.specs.Feeds.{noReadyRegion, dropped, broken, Ends, unplaced-main, unplaced-prechart, droppedNow}
 use Rattle.rounds.specs.Feeds.{brokenAt, entered, moved, quiet, Onward, completes-prechart, fires, stays, refuses}
-use Rattle.rounds.specs.Feeds.{runs-on, ends, again, none-yet, one-more}
+use Rattle.rounds.specs.Feeds.{ends, Missed, once, again, none-yet, one-more}
 use Rattle.rounds.specs.Machine.{after}
 use Rattle.rounds.proofs.Endings.{unlawful}
 use Rattle.rounds.proofs.Tested.{lawful-tested, no-region}
-use Rattle.rounds.proofs.Machine.{full-false, done-true, done-false}
+use Rattle.rounds.proofs.Machine.{done-true, done-false}
 use Rattle.paper.specs.Runs.{Config, Letter, message, silent, delay, initial, Advance, wait, successor, Prompt, begins}
 use Rattle.paper.specs.Runs.{settles, Over, spelled}
 use Rattle.paper.proofs.Prompts.{synchronizes, advances, terminates, delays, goes-on}
@@ -23,11 +23,10 @@ use Rattle.chart_value.specs.Records.{logRecord, logged}
 use Rattle.witnesses.specs.Feeds.{passes as passed, undo, headings, references}
 use Rattle.witness_rounds.specs.Charts.{ask, pass, answer}
 use Rattle.witness_rounds.specs.Rounds.{U, A, configOf, statusAs, TakenBy}
-use Rattle.witness_rounds.specs.Witnesses.{Unplaced, StepBy, TurnOf, FiveFed}
+use Rattle.witness_rounds.specs.Witnesses.{Unplaced, StepBy, TurnOf, FiveFed, MissesNot}
 use Rattle.witness_rounds.proofs.Computing.{computing}
-use Rattle.paper.proofs.Taking.{unplaceable, caseFor}
 use Rattle.witness_rounds.proofs.Laws.{wait-is, successor-is, ready-at, rests-at, next-at, accepts, taken-anew}
-use Rattle.witness_rounds.proofs.Laws.{taken-at, turn-at}
+use Rattle.witness_rounds.proofs.Laws.{taken-at, turn-at, done-not, fed-on, none-not}
 use Rattle.witness_rounds.proofs.Logs.{accepted-u, accepted-a}
 
 -- after an opening of chart U: nothing, undo at 100, and undo again at 110
@@ -59,6 +58,9 @@ done : PrechartDone U (stands (ε ▸ 0))
 unfolding computing
 done = done-true U (stands (ε ▸ 0)) refl
 
+second-not : (o : ℕ) → ¬ Missed U o undone second
+second-not o = done-not U o undone second accepted-u (ε ▸ 0) (row-undo o) done
+
 breaks : (o : ℕ) → Ends U o undone second (broken noReadyRegion noCause)
 breaks o = unplaced-main (ε ▸ 0) (no-second o) (row-undo o) done
 
@@ -73,6 +75,14 @@ unplaced-in-prechart =
 pub unplaced-in-main : Unplaced U (ε ▸ undo 100) (undo 110) (broken noReadyRegion noCause)
 unplaced-in-main = (unlawful U accepted-u 0 undone second (breaks 0) refl, no-second 0, breaks 0)
 
+pub nothing-fired : MissesNot U ε (headings 5)
+unfolding computing
+nothing-fired = (none-not U accepted-u 0 (logRecord (headings 5)), λ M. false≢true (M .fired-before .1))
+
+pub prechart-done : MissesNot U (ε ▸ undo 100) (undo 110)
+unfolding computing
+prechart-done = (second-not 0, λ M. M .in-prechart done)
+
 pub row-entered : Onward U ε (ε ▸ 0) entered
 row-entered = completes-prechart not-done done
 
@@ -85,12 +95,11 @@ row-quiet = stays refl
 pub five-fed : FiveFed
 unfolding computing
 five-fed =
-    let lacks = full-false U (stands (ε ▸ 0)) refl in
     one-more (one-more (one-more (one-more (one-more none-yet
-    (ends refl (dropped noCause) (unplaced-in-prechart .2)))
-    (runs-on refl ε (ε ▸ 0) entered (row-empty 5) (row-undo 5) lacks row-entered))
+    (once refl (λ X. nothing-fired .0 (X .0)) (ends (dropped noCause) (unplaced-in-prechart .2))))
+    (fed-on U 5 ε (logRecord (undo 100)) ε (ε ▸ 0) entered refl (row-empty 5) (row-undo 5) refl row-entered))
     (refuses timeFalls refl))
-    (ends refl (broken noReadyRegion noCause) (breaks 5)))
+    (once refl (λ X. second-not 5 (X .0)) (ends (broken noReadyRegion noCause) (breaks 5))))
     again
 
 -- chart A's configurations: 10 ticks after the opening; after ask; 10 ticks later, after pass; and after region 2
@@ -198,25 +207,25 @@ turn-plain =
 
 pub passes-by : TakenBy 0 U (ε ▸ undo 100) (passed 110)
     (statusAs (configOf (ε ▸ 0) (10 ∷ [])) 110 2 0 0 0 0 noCause) quiet
-unfolding computing accepts caseFor unplaceable
+unfolding computing accepts
 passes-by = taken-at U accepted-u undone (logRecord (passed 110)) 0 (ε ▸ 0) (10 ∷ []) quiet refl refl refl refl refl
 
 pub moves-by : TakenBy 1 U (ε ▸ undo 100) (references 120)
     (statusAs (configOf (ε ▸ 0 ▸ 2) (20 ∷ [])) 120 2 0 0 0 0 noCause) moved
-unfolding computing accepts caseFor unplaceable
+unfolding computing accepts
 moves-by =
     taken-at U accepted-u undone (logRecord (references 120)) 1 (ε ▸ 0 ▸ 2) (20 ∷ []) moved refl refl refl refl refl
 
 pub enters-by : TakenBy 2 U ε (undo 100) (statusAs (configOf (ε ▸ 0) (0 ∷ [])) 100 1 0 0 0 0 noCause) entered
-unfolding computing accepts caseFor unplaceable
+unfolding computing accepts
 enters-by = taken-at U accepted-u ε (logRecord (undo 100)) 2 (ε ▸ 0) (0 ∷ []) entered refl refl refl refl refl
 
 pub unmatched-in-prechart : TakenBy 6 U ε (headings 5) (statusAs initial 5 1 0 1 0 0 noCause) (droppedNow noCause)
-unfolding computing accepts caseFor unplaceable
+unfolding computing accepts
 unmatched-in-prechart = taken-anew U accepted-u ε (logRecord (headings 5)) 6 (droppedNow noCause) refl refl refl refl
 
 pub unmatched-in-main : TakenBy 7 U (ε ▸ undo 100) (undo 110)
     (statusAs (configOf (ε ▸ 0) (10 ∷ [])) 110 2 0 0 2 noReadyRegion noCause) (brokenAt 2 noReadyRegion noCause)
-unfolding computing accepts caseFor unplaceable
+unfolding computing accepts
 unmatched-in-main =
     taken-at U accepted-u undone second 7 (ε ▸ 0) (10 ∷ []) (brokenAt 2 noReadyRegion noCause) refl refl refl refl refl

@@ -1,5 +1,5 @@
--- Two charts beside chart U (X1), and the records that are fed to the three. Regions are numbered from 0, as in the
--- theory.
+-- Two charts beside chart U (X1), and the records that are fed to them and to chart D. Regions are numbered from 0, as
+-- in the theory.
 use mathlib.Core.List.{List, [], _∷_}
 use Prim.Native.Nat.{ℕ}
 use Rattle.model.specs.declared.Record.{Record}
@@ -60,6 +60,13 @@ load = sent 0 1 1
 
 abbrev pub check : ℕ → Record
 check = sent 2 3 2
+
+-- chart D's, which is `coldSecond` of the crate `witnesses`
+abbrev pub press : ℕ → Record
+press = sent 0 1 1
+
+abbrev pub done : ℕ → Record
+done = sent 1 0 3
 
 -- the bytes of records with times below 256, before more of the log
 abbrev pub written : Snoc Record → List ℕ → List ℕ

@@ -26,6 +26,7 @@ use Rattle.chart_value.specs.Records.{logRecord, logged}
 use Rattle.judge.specs.Judge.{judgeOf}
 use Rattle.claims.specs.Examples.{chartU}
 use Rattle.witnesses.specs.Feeds.{undo, headings, references}
+use Rattle.witnesses.specs.Offers.{coldSecond}
 use Rattle.witness_rounds.specs.Charts.{chartA, chartB}
 use Rattle.witness_rounds.specs.Charts.{ask, pass, answer, load, check, written}
 
@@ -44,6 +45,14 @@ A = theory chartA
 
 abbrev pub B : Abstract
 B = theory chartB
+
+-- Chart D: 0 press; 1 plain, on line 0, cold: clock 0 ≥ 3; 2 label 2, 0 to 1; the main chart: 3 done
+abbrev pub D : Abstract
+D = theory coldSecond
+
+-- the bytes of a chart and of these records give this verdict
+abbrev pub Judged : List ℕ → Snoc Record → Verdict → Type 0
+Judged chart s v = judgeOf (valueOf chart) (written s []) ≡ record { number = 0; offset = 0; verdict = v }
 
 -- exactly the regions of this row are fired, and the clocks have these values
 abbrev pub configOf : Row → List ℕ → Config
@@ -64,7 +73,7 @@ statusAs config now n k d break reason x =
 
 -- After the records s, record e is taken by the case of this number, with this status after it and this answer. The
 -- cases: 0 passes, 1 moves, 2 enters, 3 keeps, 4 fails cold, 5 fails hot, 6 unmatched in the prechart, 7 in the main
--- chart.
+-- chart; 8 to 14 are 1 to 7 by the second offer, of which 8 and 11 can be (T34).
 abbrev pub TakenBy : ℕ → Abstract → Snoc Record → Record → Status → Answer → Type 0
 TakenBy n C s e y a = (T : Taken C (statusOf C (after C (logged s))) (logRecord e) y a) × (caseOf C T ≡ n)
 
@@ -96,8 +105,7 @@ RowOf C s e r (some x) =
 pub record RoundShown (g : Round) : Type 0 where
   pub chart-read : readChart (g .chart) ≡ acceptedAs (valueOf (g .chart))
   pub log-read : recordsIn (written (g .before ▸ g .last) []) ≡ g .before ▸ g .last
-  pub judged : judgeOf (valueOf (g .chart)) (written (g .before ▸ g .last) [])
-      ≡ record { number = 0; offset = 0; verdict = g .verdict }
+  pub judged : Judged (g .chart) (g .before ▸ g .last) (g .verdict)
   pub row-before : Lawful (theory (g .chart)) 0 (logged (g .before)) (g .row)
   pub row-with : RowOf (theory (g .chart)) (logged (g .before)) (logRecord (g .last)) (g .whole) (g .failing)
   pub ends : Ends (theory (g .chart)) 0 (logged (g .before)) (logRecord (g .last)) (g .outcome)

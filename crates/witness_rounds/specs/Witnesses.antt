@@ -5,20 +5,21 @@ use mathlib.Core.List.{[], _∷_}
 use mathlib.Core.Option.{some}
 use Prim.Native.Nat.{ℕ}
 use Rattle.model.specs.declared.Record.{Record}
-use Rattle.model.specs.Monitor.{noCause}
-use Rattle.model.specs.Answers.{timeFalls}
+use Rattle.model.specs.Monitor.{noCause, causeOf}
+use Rattle.model.specs.Answers.{timeFalls, verdictFrom}
 use Rattle.base.specs.Lists.{Snoc, ε, _▸_}
 use Rattle.rounds.specs.Chart.{Chart}
 use Rattle.rounds.specs.Rows.{Row, plain, NoRow, LawfulButLast}
-use Rattle.rounds.specs.Feeds.{noReadyRegion, Outcome, dropped, broken, afterBreak, Ends}
-use Rattle.rounds.specs.Feeds.{refused, droppedNow, brokenAt, entered, moved, quiet, Onward, Fed}
+use Rattle.rounds.specs.Feeds.{noReadyRegion, Outcome, kept, dropped, broken, unended, afterBreak, Ends}
+use Rattle.rounds.specs.Feeds.{refused, keptNow, droppedNow, brokenAt, entered, moved, quiet, Onward, Missed, Fits, Fed}
 use Rattle.rounds.specs.Machine.{after}
 use Rattle.paper.specs.Runs.{Config, Letter, message, silent, delay, initial, Advance, by, Prompt, Over, spelled}
-use Rattle.paper.specs.Taken.{Turn, statusOf}
+use Rattle.paper.specs.Taken.{Turn, MissedIn, Starts, statusOf}
 use Rattle.chart_value.specs.Records.{logRecord, logged}
 use Rattle.witnesses.specs.Feeds.{passes as passed, undo, headings, references}
-use Rattle.witness_rounds.specs.Charts.{ask, pass, answer}
-use Rattle.witness_rounds.specs.Rounds.{U, A, configOf, statusAs, TakenBy, RoundShown}
+use Rattle.witnesses.specs.Offers.{coldSecond}
+use Rattle.witness_rounds.specs.Charts.{chartA, ask, pass, answer, press, done}
+use Rattle.witness_rounds.specs.Rounds.{U, A, D, Judged, configOf, statusAs, TakenBy, RoundShown}
 use Rattle.witness_rounds.specs.Rounds.{roundU, keptA, droppedA, brokenA, keptB, droppedB, brokenB}
 
 -- the stretch of s and then e has no row, not even with the conditions at e waived, and ends so
@@ -46,6 +47,43 @@ FiveFed = Fed U
     ▸ record { opening = 5; records = logged (ε ▸ undo 100 ▸ undo 110); outcome = broken noReadyRegion noCause })
     (afterBreak noReadyRegion noCause)
 
+-- ask 15 is of two stretches: it drops one, and starts the next, which opens at 15 and is kept
+abbrev pub SharedFed : Type 0
+SharedFed = Fed A
+    (logged (ε ▸ ask 10 ▸ ask 15 ▸ pass 20 ▸ answer 40))
+    (ε ▸ moved ▸ moved ▸ entered ▸ keptNow)
+    (logged (ε ▸ ask 10 ▸ ask 15 ▸ pass 20 ▸ answer 40))
+    (ε ▸ record { opening = 0; records = logged (ε ▸ ask 10 ▸ ask 15); outcome = dropped noCause }
+    ▸ record { opening = 15; records = logged (ε ▸ ask 15 ▸ pass 20 ▸ answer 40); outcome = kept })
+    (unended 40 ε)
+
+-- press 10 is of two stretches, both dropped, the second by region 1; done 20 drops one and starts none
+abbrev pub DroppedTwice : Type 0
+DroppedTwice = Fed D
+    (logged (ε ▸ press 3 ▸ press 10 ▸ press 14 ▸ done 20))
+    (ε ▸ moved ▸ droppedNow (causeOf 1 1) ▸ moved ▸ droppedNow noCause)
+    (logged (ε ▸ press 3 ▸ press 10 ▸ press 14 ▸ done 20))
+    (ε ▸ record { opening = 0; records = logged (ε ▸ press 3 ▸ press 10); outcome = dropped noCause }
+    ▸ record { opening = 10; records = logged (ε ▸ press 10); outcome = dropped (causeOf 1 1) }
+    ▸ record { opening = 10; records = logged (ε ▸ press 14 ▸ done 20); outcome = dropped noCause })
+    (unended 20 ε)
+
+-- W31 by rows, S20 by the configuration: after the records s record e is missed, or is not
+abbrev pub Misses : Chart → Snoc Record → Record → Type 0
+Misses C s e =
+    Missed C 0 (logged s) (logRecord e) × MissedIn C (statusOf C (after C (logged s)) .config) (logRecord e)
+
+abbrev pub MissesNot : Chart → Snoc Record → Record → Type 0
+MissesNot C s e =
+    (¬ Missed C 0 (logged s) (logRecord e)) × (¬ MissedIn C (statusOf C (after C (logged s)) .config) (logRecord e))
+
+-- likewise: a stretch and a round can start with record e, or cannot
+abbrev pub CanStart : Chart → Record → Type 0
+CanStart C e = Fits C (logRecord e) × Starts C (logRecord e)
+
+abbrev pub CannotStart : Chart → Record → Type 0
+CannotStart C e = (¬ Fits C (logRecord e)) × (¬ Starts C (logRecord e))
+
 pub record Witnesses : Type 0 where
   -- seven rounds, from bytes to rows; `Ends` by `complete`, `fails-cold` and `fails-hot`; `Taken` by cases 3, 4 and 5
   pub round-u : RoundShown roundU
@@ -62,8 +100,21 @@ pub record Witnesses : Type 0 where
   pub row-entered : Onward U ε (ε ▸ 0) entered
   pub row-moved : Onward U (ε ▸ 0) (ε ▸ 0 ▸ 2) moved
   pub row-quiet : Onward U (ε ▸ 0) (ε ▸ 0) quiet
-  -- `Fed` and `FedOne`
+  -- `Fed`, `FedOne` and `Goes`: by one offer and by two, a stretch runs on, and one ends
   pub five-fed : FiveFed
+  pub shared-fed : SharedFed
+  pub dropped-twice : DroppedTwice
+  -- the last two from bytes: 4 records each; kept 1 and dropped 1, and dropped 3
+  pub shared-judged : Judged chartA (ε ▸ ask 10 ▸ ask 15 ▸ pass 20 ▸ answer 40) (verdictFrom 0 1 1 4 0 0 0 0)
+  pub twice-judged : Judged coldSecond (ε ▸ press 3 ▸ press 10 ▸ press 14 ▸ done 20) (verdictFrom 0 0 3 4 0 0 0 0)
+  -- `Missed` with `Fits`, `MissedIn` with `Starts`: both true; both, though a condition fails; the first alone
+  pub missed-starts : Misses A (ε ▸ ask 10) (ask 15) × CanStart A (ask 15)
+  pub missed-fails : Misses D (ε ▸ press 3) (press 10) × CanStart D (press 10) × NoRow D 10 (logged (ε ▸ press 10))
+  pub missed-ends : Misses D (ε ▸ press 14) (done 20) × CannotStart D (done 20)
+  -- neither `Missed` nor `MissedIn`: nothing was fired; a region has the message and fails; the prechart is done
+  pub nothing-fired : MissesNot U ε (headings 5)
+  pub condition-failed : MissesNot A (ε ▸ ask 10) (pass 10)
+  pub prechart-done : MissesNot U (ε ▸ undo 100) (undo 110)
   -- `Advance`: time passes, region 0 has its message, region 2 advances, or terminates where its condition fails
   pub delays-by : Advance A initial (delay 10) (configOf ε (10 ∷ 10 ∷ []))
   pub synchronizes-by : StepBy A 0 (configOf ε (10 ∷ 10 ∷ [])) (message (A .key 0)) (configOf (ε ▸ 0) (0 ∷ 10 ∷ []))
@@ -90,3 +141,10 @@ pub record Witnesses : Type 0 where
       (droppedNow noCause)
   pub unmatched-in-main : TakenBy 7 U (ε ▸ undo 100) (undo 110)
       (statusAs (configOf (ε ▸ 0) (10 ∷ [])) 110 2 0 0 2 noReadyRegion noCause) (brokenAt 2 noReadyRegion noCause)
+  -- by the second offer: moves, with both clocks at 0, and fails cold; by the first, though missed: it starts no round
+  pub twice-moves : TakenBy 8 A (ε ▸ ask 10) (ask 15)
+      (statusAs (configOf (ε ▸ 0) (0 ∷ 0 ∷ [])) 15 2 0 1 0 0 noCause) moved
+  pub twice-fails : TakenBy 11 D (ε ▸ press 3) (press 10) (statusAs initial 10 2 0 2 0 0 noCause)
+      (droppedNow (causeOf 1 1))
+  pub unmatched-once : TakenBy 6 D (ε ▸ press 14) (done 20) (statusAs initial 20 2 0 1 0 0 noCause)
+      (droppedNow noCause)

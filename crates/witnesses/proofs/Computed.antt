@@ -11,8 +11,9 @@ use Rattle.chart_value.specs.WellFormed.{isZeroTerm, termPlaced, termsFit, regi
 use Rattle.chart_value.specs.WellFormed.{regionPlaced, wellFormed}
 use Rattle.rounds.specs.Chart.{conditionOf}
 use Rattle.rounds.specs.Rows.{chartMessage, plain, values, opened}
-use Rattle.rounds.specs.Machine.{ready, readyFor, readyPlain, fire, unfired, tryRegion, settle, offer, opening, full}
-use Rattle.rounds.specs.Machine.{prechartDone, goOn, keepRound, dropRound, breakRound, conclude, accept, feed, after}
+use Rattle.rounds.specs.Machine.{ready, readyFor, readyPlain, fire, unfired, tryRegion, settle, takeMessage, opening}
+use Rattle.rounds.specs.Machine.{full, prechartDone, goOn, keepRound, dropRound, breakRound, conclude, offer, missed}
+use Rattle.rounds.specs.Machine.{fitsOpening, reopened, accept, feed, after}
 use Rattle.monitor.specs.Fit.{closedUpward, restsUnlessBroken, momentsFit, causeFits, breakFits, countsFit, placeFits}
 use Rattle.monitor.specs.Fit.{fits}
 use Rattle.monitor.specs.Feed.{feedOf}
@@ -28,11 +29,12 @@ use Rattle.witnesses.specs.Each.{Each}
 use Rattle.witnesses.specs.Charts.{refusals, limits}
 use Rattle.witnesses.specs.Rounds.{conditions, clocks, causes, orders, logs}
 use Rattle.witnesses.specs.Feeds.{Answers, feeds, fitness, Stores, breaks}
+use Rattle.witnesses.specs.Offers.{offers, offered, counts, Leads, leads}
 use Rattle.witnesses.specs.Formats.{Prints, texts, LastRecord, Formats}
 
 -- every definition that the lines look into
 computed : Unit {0}
-unfolding contains single inserted union isSubset within isOver gathered aboveSets readChart readFrom advanceOf isZeroTerm termPlaced termsFit regionFits isZeroRegion touchedBefore regionPlaced wellFormed conditionOf chartMessage plain values opened ready readyFor readyPlain fire unfired tryRegion settle offer opening full prechartDone goOn keepRound dropRound breakRound conclude accept feed after closedUpward restsUnlessBroken momentsFit causeFits breakFits countsFit placeFits fits feedOf recordsFrom recordsIn stepAt checkFrom checkLog standingOf judgeOf bytesOf digitsOf verdictLines refusalLine partsReport reportOf
+unfolding contains single inserted union isSubset within isOver gathered aboveSets readChart readFrom advanceOf isZeroTerm termPlaced termsFit regionFits isZeroRegion touchedBefore regionPlaced wellFormed conditionOf chartMessage plain values opened ready readyFor readyPlain fire unfired tryRegion settle takeMessage opening full prechartDone goOn keepRound dropRound breakRound conclude offer missed fitsOpening reopened accept feed after closedUpward restsUnlessBroken momentsFit causeFits breakFits countsFit placeFits fits feedOf recordsFrom recordsIn stepAt checkFrom checkLog standingOf judgeOf bytesOf digitsOf verdictLines refusalLine partsReport reportOf
 computed = tt
 
 refusals-said : Each Says refusals
@@ -214,6 +216,22 @@ breaks-stored : Each Stores breaks
 unfolding computed
 breaks-stored = (refl, (refl, (refl, (refl, (refl, tt)))))
 
+offers-said : Each Says offers
+unfolding computed
+offers-said = (refl, (refl, (refl, (refl, (refl, (refl, (refl, (refl, (refl, (refl, tt))))))))))
+
+offers-answered : Each Answers offered
+unfolding computed
+offers-answered = ((refl, refl), ((refl, refl), ((refl, refl), ((refl, refl), ((refl, refl), ((refl, refl), tt))))))
+
+counts-answered : Each Answers counts
+unfolding computed
+counts-answered = ((refl, refl), ((refl, refl), ((refl, refl), ((refl, refl), ((refl, refl), ((refl, refl), ((refl, refl), ((refl, refl), ((refl, refl), ((refl, refl), tt))))))))))
+
+offers-lead : Each Leads leads
+unfolding computed
+offers-lead = ((refl, refl, refl), ((refl, refl, refl), ((refl, refl, refl), ((refl, refl, refl), ((refl, refl, refl), ((refl, refl, refl), tt))))))
+
 texts-printed : Each Prints texts
 unfolding computed
 texts-printed = (refl, (refl, (refl, (refl, (refl, (refl, (refl, (refl, (refl, (refl, tt))))))))))
@@ -243,6 +261,10 @@ formats-hold =
       feeds-answered = feeds-answered;
       fitness-answered = fitness-answered;
       breaks-stored = breaks-stored;
+      offers-said = offers-said;
+      offers-answered = offers-answered;
+      counts-answered = counts-answered;
+      offers-lead = offers-lead;
       texts-printed = texts-printed;
       last-record = last-record;
       input-40 = input-40;

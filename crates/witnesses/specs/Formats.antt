@@ -19,6 +19,7 @@ use Rattle.witnesses.specs.Each.{Each}
 use Rattle.witnesses.specs.Charts.{refusals, limits}
 use Rattle.witnesses.specs.Rounds.{conditions, clocks, causes, orders, logs}
 use Rattle.witnesses.specs.Feeds.{Answers, feeds, fitness, Stores, breaks}
+use Rattle.witnesses.specs.Offers.{offers, offered, counts, Leads, leads}
 
 -- an input, and the text that is printed for it
 pub record Print : Type 0 where
@@ -79,6 +80,10 @@ pub record Formats : Type 0 where
   pub feeds-answered : Each Answers feeds
   pub fitness-answered : Each Answers fitness
   pub breaks-stored : Each Stores breaks
+  pub offers-said : Each Says offers
+  pub offers-answered : Each Answers offered
+  pub counts-answered : Each Answers counts
+  pub offers-lead : Each Leads leads
   pub texts-printed : Each Prints texts
   pub last-record : LastRecord
   -- an input of over 65,536 bytes is 40; of 65,536 bytes, with a length of 65,535, it is 41

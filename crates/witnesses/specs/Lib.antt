@@ -3,4 +3,5 @@ pub mod Each
 pub mod Charts
 pub mod Rounds
 pub mod Feeds
+pub mod Offers
 pub mod Formats

@@ -199,8 +199,8 @@ logs =
     ∷ judged chartP (sentBoth "00 00 00 05" "00 00 00 05") 2 0 0 2 0 0 0 0
     ∷ judged chartP (sentBoth "00 00 00 05" "00 00 00 05" ++ hex "01 01 00 00 03 00 00 00 06") 0 1 0 3 0 0 0 0
     ∷ judged chartP (sentBoth "00 00 00 05" "00 00 00 05" ++ hex "01 00 01 00 02 00 00 00 06") 3 0 0 3 3 1 0 0
-    -- X17: the second label 1 drops the round and is used up; label 2 drops the next
-    ∷ judged chartP (sentAt "00 00 00 05" ++ sentBoth "00 00 00 06" "00 00 00 07") 0 0 2 3 0 0 0 0
+    -- X17: the second label 1 drops the round and starts the next; label 2 completes its prechart
+    ∷ judged chartP (sentAt "00 00 00 05" ++ sentBoth "00 00 00 06" "00 00 00 07") 2 0 1 3 0 0 0 0
     -- times, and label 256, are counted and do nothing more; equal times are taken, and the last moment
     ∷ judged chartP (hex "02 00 00 00 05 02 00 00 00 05 01 00 01 00 01 00 00 00 05") 1 0 0 3 0 0 0 0
     ∷ judged chartP (hex "01 00 01 01 00 00 00 00 05 02 FF FF FF FF") 0 0 0 2 0 0 0 0

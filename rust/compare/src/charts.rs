@@ -1,8 +1,9 @@
 //! Fixed charts, and long logs that mostly keep their rounds.
 
 use crate::fast::{Plan, State};
-use crate::random::{log_pieces, Rng};
+use crate::random::{self, log_pieces, Rng, Size};
 use lsc_reference::examples::CHART_U;
+use lsc_reference::reader::read_chart;
 use lsc_reference::value::*;
 
 /// After m1 with x at least 3: m2 with x at least 2, and m3, in any order.
@@ -12,7 +13,7 @@ const EITHER_ORDER: [u8; 35] = [
 ];
 
 /// The chart of X17.
-const TWO_THEN_ONE: [u8; 20] = [
+pub const TWO_THEN_ONE: [u8; 20] = [
     0x10, 2, 0, 0x20, 0, 1, 0, 1, 0x20, 0, 1, 0, 2, 0x50, 0x20, 1, 0, 0, 3, 0x7F,
 ];
 
@@ -28,14 +29,32 @@ const THROUGH_A_THIRD: [u8; 20] = [
     0x10, 4, 0, 0x50, 0x20, 0, 1, 0, 1, 0x20, 1, 2, 0, 2, 0x20, 2, 3, 0, 3, 0x7F,
 ];
 
+/// Two messages open the prechart: x restarts when the first is sent again, so that it moves; the
+/// second is followed by a plain region with x at least 2, which then fails. A third is below all.
+pub const TWO_OPENINGS: [u8; 42] = [
+    0x10, 4, 1, 0x20, 0, 1, 0, 1, 0x30, 0, 1, 0, 0, 0, 30, 0x20, 2, 3, 0, 2, 0x21, 0, 4, 0x30, 0,
+    3, 0, 0, 0, 2, 0x20, 1, 2, 0, 3, 0x50, 0x20, 1, 0, 0, 4, 0x7F,
+];
+
 /// Small charts for trying every row.
-pub const SMALL: [&[u8]; 5] = [
+pub const SMALL: [&[u8]; 6] = [
     &CHART_U,
     &EITHER_ORDER,
     &TWO_THEN_ONE,
     &SENT_AGAIN,
     &THROUGH_A_THIRD,
+    &TWO_OPENINGS,
 ];
+
+/// One of these, or a random one as small: its bytes and its value.
+pub fn some_small(rng: &mut Rng) -> (Vec<u8>, ChartValue) {
+    if rng.chance(70) {
+        return random::chart(rng, Size::Tiny);
+    }
+    let bytes = rng.pick(&SMALL).to_vec();
+    let chart = read_chart(&bytes).expect("every small chart is read");
+    (bytes, chart)
+}
 
 /// What [`large`] makes, in words.
 pub const LARGE: &str = "32 regions (8 in the prechart, 24 in the main chart; every fourth is \
@@ -155,7 +174,6 @@ fn message(region: &RegionValue, time: u32) -> RecordValue {
 mod tests {
     use super::*;
     use crate::fast::judge;
-    use lsc_reference::reader::read_chart;
 
     #[test]
     fn small_charts_are_read() {

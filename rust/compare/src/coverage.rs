@@ -1,6 +1,7 @@
 //! Counts of what a run of tests has reached.
 
-use lsc_reference::monitor::is_fit;
+use crate::fitness::{self, FIT, UNFIT};
+use lsc_reference::monitor::{feed_fit, Order};
 use lsc_reference::value::*;
 use std::collections::BTreeMap;
 
@@ -9,16 +10,23 @@ pub const REFUSALS: [u8; 19] = [
     1, 2, 3, 4, 5, 6, 7, 8, 9, 10, 11, 20, 21, 22, 23, 30, 31, 40, 41,
 ];
 
-/// How often each refusal, answer and standing was seen.
+/// How often each name was seen.
+pub type Counts<K> = BTreeMap<K, u64>;
+
+/// How often each of what tests must reach was seen.
 #[derive(Clone, Debug, Default)]
 pub struct Coverage {
-    pub refusals: BTreeMap<u8, u64>,
-    pub answers: BTreeMap<&'static str, u64>,
-    pub standings: BTreeMap<u8, u64>,
+    pub refusals: Counts<u8>,
+    pub answers: Counts<&'static str>,
+    pub standings: Counts<u8>,
     /// What ended a round and the term that decided, 0 where no condition did.
-    pub terms: BTreeMap<(&'static str, u8), u64>,
-    /// Regions and terms that alone made a monitor unfit.
-    pub unfit: BTreeMap<&'static str, u64>,
+    pub terms: Counts<(&'static str, u8)>,
+    /// Kinds of comparison, and what second offers came to in them.
+    pub offers: Counts<(&'static str, &'static str)>,
+    /// Counts above the records in fit monitors.
+    pub fit: Counts<&'static str>,
+    /// What alone made a monitor unfit.
+    pub unfit: Counts<&'static str>,
 }
 
 /// The answers' names, broken once for each reason.
@@ -35,67 +43,101 @@ const TERMS: std::ops::RangeInclusive<u8> = 0..=MAX_TERMS as u8;
 /// How many pairs of the two there are.
 pub const DECIDED_TERMS: usize = DECIDED.len() * (MAX_TERMS + 1);
 
-/// Regions and terms that M10 does not allow.
-pub const UNFIT: [&str; 12] = [
-    "zeros with reason 2",
-    "region 0",
-    "region beyond the chart",
-    "region beyond 32",
-    "term 0",
-    "term beyond the region",
-    "region without a break",
-    "term without a break",
-    "both without a break",
-    "region with reason 1",
-    "term with reason 1",
-    "both with reason 1",
+/// What a second offer comes to (T33, T34).
+pub const OFFERS: [&str; 4] = [
+    "moves",
+    "drops twice by a message region",
+    "drops twice by a plain region",
+    "does not fit",
 ];
 
-/// What is wrong with the monitor's region and term, if nothing else of it is unfit.
-fn unfit_cause(chart: &ChartValue, monitor: &MonitorValue) -> Option<&'static str> {
-    let Cause { region, term } = monitor.cause;
-    let name = match (monitor.reason, region, term) {
-        (2, 0, 0) => "zeros with reason 2",
-        (2, 0, _) => "region 0",
-        (2, 33.., _) => "region beyond 32",
-        (2, ..) if region > chart.count => "region beyond the chart",
-        (2, _, 0) => "term 0",
-        (2, ..) => "term beyond the region",
-        (0, _, 0) => "region without a break",
-        (0, 0, _) => "term without a break",
-        (0, ..) => "both without a break",
-        (1, _, 0) => "region with reason 1",
-        (1, 0, _) => "term with reason 1",
-        (1, ..) => "both with reason 1",
-        _ => return None,
-    };
-    let cause = match monitor.reason {
-        2 => {
-            let with_term = chart.regions.iter().position(|of| of.term_count > 0)?;
-            Cause::at(with_term, 0)
+/// What the second offer came to of a record that led from one monitor to the other; none if it
+/// was offered once. Only a second offer leaves a dropped round behind it and moves, or drops a
+/// round more; and a drop without a cause, where something was fired, had one that did not fit.
+fn second_offer(
+    chart: &ChartValue,
+    before: &MonitorValue,
+    answer: &Answer,
+    after: &MonitorValue,
+) -> Option<&'static str> {
+    match (answer, after.dropped - before.dropped) {
+        (Answer::Moved, 1) => Some("moves"),
+        (Answer::Dropped(cause), 2) => {
+            let failed = &chart.regions[usize::from(cause.region) - 1];
+            Some(match failed.message() {
+                Some(_) => "drops twice by a message region",
+                None => "drops twice by a plain region",
+            })
         }
-        _ => Cause::NONE,
-    };
-    is_fit(chart, &MonitorValue { cause, ..*monitor }).then_some(name)
+        (Answer::Dropped(Cause::NONE), 1) if before.fired != 0 => Some("does not fit"),
+        _ => None,
+    }
+}
+
+/// Counts a name, if there is one.
+fn count<K: Ord>(counts: &mut Counts<K>, name: Option<K>) {
+    if let Some(name) = name {
+        *counts.entry(name).or_default() += 1;
+    }
+}
+
+/// Adds counts to others.
+fn add<K: Ord + Copy>(counts: &mut Counts<K>, more: &Counts<K>) {
+    for (name, times) in more {
+        *counts.entry(*name).or_default() += times;
+    }
+}
+
+/// The names that were not counted, after a word for what they are.
+fn uncounted(what: &str, counts: &Counts<&'static str>, names: &[&'static str]) -> Vec<String> {
+    names
+        .iter()
+        .filter(|name| !counts.contains_key(*name))
+        .map(|name| format!("{what} {name}"))
+        .collect()
 }
 
 impl Coverage {
     pub fn refusal(&mut self, code: u8) {
-        *self.refusals.entry(code).or_default() += 1;
+        count(&mut self.refusals, Some(code));
     }
 
     pub fn standing(&mut self, standing: u8) {
-        *self.standings.entry(standing).or_default() += 1;
+        count(&mut self.standings, Some(standing));
     }
 
-    /// The answer to a record that a monitor of the chart was fed.
-    pub fn fed(&mut self, chart: &ChartValue, before: &MonitorValue, answer: &Answer) {
+    /// The answer to a record that a monitor of the chart was fed, and the monitor after it, in a
+    /// comparison of this kind.
+    pub fn fed(
+        &mut self,
+        kind: &'static str,
+        chart: &ChartValue,
+        before: &MonitorValue,
+        answer: &Answer,
+        after: &MonitorValue,
+    ) {
         self.told(before.broken().is_some(), answer);
-        if *answer == Answer::Refused(21) {
-            if let Some(name) = unfit_cause(chart, before) {
-                *self.unfit.entry(name).or_default() += 1;
-            }
+        self.offered(kind, second_offer(chart, before, answer, after));
+        match answer {
+            Answer::Refused(20) => {}
+            Answer::Refused(21) => count(&mut self.unfit, fitness::unfit(chart, before)),
+            _ => count(&mut self.fit, fitness::fit(before)),
         }
+    }
+
+    /// The second offers of records that a fresh monitor takes, in a comparison of this kind.
+    pub fn taken(&mut self, kind: &'static str, chart: &ChartValue, records: &[RecordValue]) {
+        let order = Order::of(chart);
+        let mut before = MonitorValue::ZERO;
+        for record in records {
+            let (answer, after) = feed_fit(chart, &order, before, *record);
+            self.offered(kind, second_offer(chart, &before, &answer, &after));
+            before = after;
+        }
+    }
+
+    fn offered(&mut self, kind: &'static str, offer: Option<&'static str>) {
+        count(&mut self.offers, offer.map(|offer| (kind, offer)));
     }
 
     /// An answer, to a round that was broken before or not.
@@ -107,8 +149,7 @@ impl Coverage {
             Answer::Dropped(_) => "drop",
             _ => return,
         };
-        let term = answer.cause().term;
-        *self.terms.entry((name, term)).or_default() += 1;
+        count(&mut self.terms, Some((name, answer.cause().term)));
     }
 
     fn answer(&mut self, answer: &Answer) {
@@ -124,7 +165,7 @@ impl Coverage {
             Answer::Moved => "moved",
             Answer::Quiet => "quiet",
         };
-        *self.answers.entry(name).or_default() += 1;
+        count(&mut self.answers, Some(name));
     }
 
     /// A printed text: its refusal, or its standing.
@@ -141,24 +182,16 @@ impl Coverage {
 
     /// Adds another count to this one.
     pub fn add(&mut self, other: &Coverage) {
-        for (code, times) in &other.refusals {
-            *self.refusals.entry(*code).or_default() += times;
-        }
-        for (name, times) in &other.answers {
-            *self.answers.entry(name).or_default() += times;
-        }
-        for (standing, times) in &other.standings {
-            *self.standings.entry(*standing).or_default() += times;
-        }
-        for (term, times) in &other.terms {
-            *self.terms.entry(*term).or_default() += times;
-        }
-        for (name, times) in &other.unfit {
-            *self.unfit.entry(name).or_default() += times;
-        }
+        add(&mut self.refusals, &other.refusals);
+        add(&mut self.answers, &other.answers);
+        add(&mut self.standings, &other.standings);
+        add(&mut self.terms, &other.terms);
+        add(&mut self.offers, &other.offers);
+        add(&mut self.fit, &other.fit);
+        add(&mut self.unfit, &other.unfit);
     }
 
-    /// What was never reached.
+    /// What was never reached, second offers aside.
     pub fn missing(&self) -> Vec<String> {
         let mut missing = Vec::new();
         for code in REFUSALS {
@@ -166,22 +199,15 @@ impl Coverage {
                 missing.push(format!("refusal {code}"));
             }
         }
-        for name in ANSWERS {
-            if !self.answers.contains_key(name) {
-                missing.push(format!("answer {name}"));
-            }
-        }
+        missing.extend(uncounted("answer", &self.answers, &ANSWERS));
         for standing in 0..=3 {
             if !self.standings.contains_key(&standing) {
                 missing.push(format!("standing {standing}"));
             }
         }
         missing.extend(self.missing_terms());
-        for name in UNFIT {
-            if !self.unfit.contains_key(name) {
-                missing.push(format!("unfit: {name}"));
-            }
-        }
+        missing.extend(uncounted("fit:", &self.fit, &FIT));
+        missing.extend(uncounted("unfit:", &self.unfit, &UNFIT));
         missing
     }
 
@@ -192,6 +218,16 @@ impl Coverage {
             .flat_map(|name| TERMS.map(move |term| (name, term)));
         all.filter(|decided| !self.terms.contains_key(decided))
             .map(|(name, term)| format!("{name} by term {term}"))
+            .collect()
+    }
+
+    /// What no second offer came to, in these kinds of comparison.
+    pub fn missing_offers(&self, kinds: &[&'static str]) -> Vec<String> {
+        let all = kinds
+            .iter()
+            .flat_map(|kind| OFFERS.map(|offer| (*kind, offer)));
+        all.filter(|name| !self.offers.contains_key(name))
+            .map(|(kind, offer)| format!("second offer {offer}: {kind}"))
             .collect()
     }
 }

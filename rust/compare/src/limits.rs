@@ -1,4 +1,5 @@
-//! Fixed inputs at the limits: 1,000,000 records, the longest input, sizes that overflow.
+//! Fixed inputs at the limits: 1,000,000 records, twice as many rounds, the longest input, sizes
+//! that overflow.
 
 use crate::charts;
 use crate::difference::{same, Both, Difference};
@@ -6,7 +7,7 @@ use crate::image::{live_bytes, Image, LIVE_HEAD};
 use crate::kinds::{compare_bytes, compare_judge, compare_print, compare_values, Compare};
 use crate::seen::Seen;
 use lsc::call;
-use lsc_reference::examples::{undo, CHART_U};
+use lsc_reference::examples::{message, undo, CHART_U};
 use lsc_reference::print::input_of;
 use lsc_reference::reader::read_chart;
 use lsc_reference::value::*;
@@ -19,6 +20,7 @@ pub fn run(seen: &mut Seen) -> Result<(), Box<Difference>> {
     let mut cases = judged();
     cases.extend(printed());
     cases.extend(fed());
+    cases.extend(fed_twice());
     cases.push(("live sizes", live_sizes, Vec::new(), Vec::new()));
     for (name, compare, first, second) in cases {
         compare(&first, &second, seen).map_err(|both| {
@@ -34,7 +36,8 @@ pub fn run(seen: &mut Seen) -> Result<(), Box<Difference>> {
     Ok(())
 }
 
-/// Logs of 1,000,000 and of 1,000,001 records, with a falling time before and after.
+/// Logs of 1,000,000 and of 1,000,001 records, with a falling time before and after; and one in
+/// which all but the first are offered twice.
 fn judged() -> Vec<Case> {
     let chart = read_chart(&CHART_U).expect("chart U is read");
     let full = charts::keeping_log(&chart, MAX_RECORDS as usize, 3);
@@ -52,7 +55,11 @@ fn judged() -> Vec<Case> {
         ("the latest time", last),
     ];
     let case = |(name, log)| -> Case { (name, compare_judge, CHART_U.to_vec(), log) };
-    logs.map(case).into()
+    let mut cases: Vec<Case> = logs.map(case).into();
+    let again = message(0, 1, 1, 7).to_bytes().repeat(MAX_RECORDS as usize);
+    let chart = charts::TWO_THEN_ONE.to_vec();
+    cases.push(("999,999 second offers", compare_judge, chart, again));
+    cases
 }
 
 /// Inputs about 65,536 bytes long, and short ones.
@@ -74,9 +81,25 @@ fn printed() -> Vec<Case> {
     cases
 }
 
-/// Monitors with 999,999, 1,000,000 and 1,000,001 records, fed as images and as live bytes.
+/// A record fed to a monitor of a chart, as images and as live bytes.
+fn both_ways(chart: &[u8], monitor: &MonitorValue, record: &RecordValue) -> [Case; 2] {
+    let value = read_chart(chart).expect("the chart is read");
+    let second = [&monitor.to_image()[..], &record.to_bytes()].concat();
+    let image = value.to_image().to_vec();
+    let live = live_bytes(chart, monitor);
+    [
+        ("an image at a limit", compare_values, image, second),
+        (
+            "live bytes at a limit",
+            compare_bytes,
+            live,
+            record.to_bytes(),
+        ),
+    ]
+}
+
+/// Monitors with 999,999, 1,000,000 and 1,000,001 records.
 fn fed() -> Vec<Case> {
-    let chart = read_chart(&CHART_U).expect("chart U is read");
     let mut cases: Vec<Case> = Vec::new();
     for records in [999_999, 1_000_000, 1_000_001] {
         let monitor = MonitorValue {
@@ -85,11 +108,39 @@ fn fed() -> Vec<Case> {
             ..MonitorValue::ZERO
         };
         for record in [undo(10), RecordValue::Time(11), RecordValue::Time(9)] {
-            let second = [&monitor.to_image()[..], &record.to_bytes()].concat();
-            let first = chart.to_image().to_vec();
-            cases.push(("a full image", compare_values, first, second));
-            let live = live_bytes(&CHART_U, &monitor);
-            cases.push(("full live bytes", compare_bytes, live, record.to_bytes()));
+            cases.extend(both_ways(&CHART_U, &monitor, &record));
+        }
+    }
+    cases
+}
+
+/// Monitors with up to twice as many rounds as records, and with more, in an unfinished prechart:
+/// the record drops and moves, drops twice, or drops and fits nothing.
+fn fed_twice() -> Vec<Case> {
+    let mut cases: Vec<Case> = Vec::new();
+    for (kept, dropped) in [
+        (0, 0),
+        (999_999, 999_998),
+        (999_999, 999_999),
+        (1_000_000, 999_999),
+        (0, 1_999_999),
+        (u32::MAX, 1),
+        (1 << 31, 1 << 31),
+        (2, u32::MAX),
+    ] {
+        let monitor = MonitorValue {
+            records: 999_999,
+            kept,
+            dropped,
+            ..MonitorValue::ZERO
+        };
+        for (fired, record) in [
+            (0b001, message(0, 1, 1, 7)),
+            (0b110, message(2, 3, 2, 7)),
+            (0b110, message(1, 2, 3, 7)),
+        ] {
+            let monitor = MonitorValue { fired, ..monitor };
+            cases.extend(both_ways(&charts::TWO_OPENINGS, &monitor, &record));
         }
     }
     cases

@@ -1,8 +1,10 @@
-//! What a run has reached: refusals, answers, standings and terms that the library gave.
+//! What a run has reached: refusals, answers, standings and terms that the library gave, second
+//! offers in each kind of comparison, and monitors at the limits of M10.
 
-use crate::coverage::{Coverage, ANSWERS, DECIDED_TERMS, REFUSALS, UNFIT};
-use lsc_reference::value::{Answer, ChartValue, MonitorValue};
-use std::collections::BTreeMap;
+use crate::coverage::{Counts, Coverage, ANSWERS, DECIDED_TERMS, OFFERS, REFUSALS};
+use crate::fitness::{FIT, UNFIT};
+use crate::kinds::KINDS;
+use lsc_reference::value::{Answer, ChartValue, MonitorValue, RecordValue};
 use std::fmt;
 
 /// A buffer too short (N9); `REFUSALS` has all the others.
@@ -12,7 +14,7 @@ pub const SHORT: u8 = 12;
 #[derive(Clone, Debug, Default)]
 pub struct Seen {
     coverage: Coverage,
-    inputs: BTreeMap<&'static str, u64>,
+    inputs: Counts<&'static str>,
 }
 
 impl Seen {
@@ -29,8 +31,19 @@ impl Seen {
         self.coverage.standing(standing as u8);
     }
 
-    pub fn fed(&mut self, chart: &ChartValue, before: &MonitorValue, answer: &Answer) {
-        self.coverage.fed(chart, before, answer);
+    pub fn fed(
+        &mut self,
+        kind: &'static str,
+        chart: &ChartValue,
+        before: &MonitorValue,
+        answer: &Answer,
+        after: &MonitorValue,
+    ) {
+        self.coverage.fed(kind, chart, before, answer, after);
+    }
+
+    pub fn taken(&mut self, kind: &'static str, chart: &ChartValue, records: &[RecordValue]) {
+        self.coverage.taken(kind, chart, records);
     }
 
     pub fn told(&mut self, again: bool, answer: &Answer) {
@@ -52,12 +65,21 @@ impl Seen {
         if !self.coverage.refusals.contains_key(&SHORT) {
             missing.push(format!("refusal {SHORT}"));
         }
+        let kinds: Vec<&'static str> = KINDS.iter().map(|kind| kind.name).collect();
+        missing.extend(self.coverage.missing_offers(&kinds));
         missing
     }
 
     /// How much of what must be reached was reached, and how much there is.
     pub fn reached(&self) -> (usize, usize) {
-        let all = REFUSALS.len() + 1 + ANSWERS.len() + 4 + DECIDED_TERMS + UNFIT.len();
+        let all = REFUSALS.len()
+            + 1
+            + ANSWERS.len()
+            + 4
+            + DECIDED_TERMS
+            + KINDS.len() * OFFERS.len()
+            + FIT.len()
+            + UNFIT.len();
         (all - self.missing().len(), all)
     }
 }
@@ -80,6 +102,12 @@ impl fmt::Display for Seen {
         }
         for ((decided, term), times) in &self.coverage.terms {
             writeln!(f, "| {decided} by term {term} | {times} |")?;
+        }
+        for ((kind, offer), times) in &self.coverage.offers {
+            writeln!(f, "| second offer {offer}: {kind} | {times} |")?;
+        }
+        for (name, times) in &self.coverage.fit {
+            writeln!(f, "| fit: {name} | {times} |")?;
         }
         for (name, times) in &self.coverage.unfit {
             writeln!(f, "| unfit: {name} | {times} |")?;

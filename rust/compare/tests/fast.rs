@@ -1,7 +1,8 @@
 //! The fast judge on the examples of the rules (X) and at its limits.
 
+use lsc_compare::charts::TWO_THEN_ONE;
 use lsc_compare::fast;
-use lsc_reference::examples::{undo, CHART_U, OVER_CHART_U, WIDEST};
+use lsc_reference::examples::{message, undo, CHART_U, OVER_CHART_U, WIDEST};
 use lsc_reference::log::{judge, write_log};
 use lsc_reference::monitor;
 use lsc_reference::reader::read_chart;
@@ -15,6 +16,23 @@ fn chart_u() {
         let verdict = fast::judge(&chart, &log);
         assert_eq!(verdict, judge(&chart, &log), "{expected}");
     }
+}
+
+#[test]
+fn a_second_a_starts_a_round() {
+    // X17, and the same with c at its end.
+    let chart = read_chart(&TWO_THEN_ONE).unwrap();
+    let [a, b, c] = [
+        message(0, 1, 1, 1),
+        message(0, 1, 2, 2),
+        message(1, 0, 3, 3),
+    ];
+    let numbers = |records: &[RecordValue]| {
+        let verdict = fast::judge(&chart, &write_log(records)).unwrap();
+        verdict.numbers()
+    };
+    assert_eq!(numbers(&[a, a, b]), [2, 0, 1, 3, 0, 0, 0, 0]);
+    assert_eq!(numbers(&[a, a, b, c]), [0, 1, 1, 4, 0, 0, 0, 0]);
 }
 
 #[test]

@@ -1,6 +1,7 @@
 //! The reference's modules against each other and against the fast judge, on seeded random
 //! inputs, with counts of what was reached.
 
+use lsc_compare::charts;
 use lsc_compare::coverage::{Coverage, ANSWERS};
 use lsc_compare::fast;
 use lsc_compare::image::Image;
@@ -23,9 +24,9 @@ fn reached(seed: u64, turns: usize, check: fn(&mut Rng, &mut Coverage)) -> Cover
     seen
 }
 
-/// Lists of feeds over a tiny chart: the steps against all rows.
+/// Lists of feeds over a small chart: the steps against all rows.
 fn steps_against_rows(rng: &mut Rng, seen: &mut Coverage) {
-    let (bytes, chart) = random::chart(rng, Size::Tiny);
+    let (bytes, chart) = charts::some_small(rng);
     let rows = Rows::of(&chart);
     for _ in 0..4 {
         let count = rng.below(11);
@@ -38,7 +39,7 @@ fn steps_against_rows(rng: &mut Rng, seen: &mut Coverage) {
             if matches!(answer, Answer::Refused(_)) {
                 assert_eq!(after, monitor);
             }
-            seen.fed(&chart, &monitor, &answer);
+            seen.fed("rows", &chart, &monitor, &answer, &after);
             monitor = after;
         }
         assert_eq!(meaning.answers.len(), feeds.len());
@@ -64,7 +65,10 @@ fn judges(rng: &mut Rng, seen: &mut Coverage) {
         let verdict = judge(&chart, &log);
         assert_eq!(verdict, plan.judge(&log), "{bytes:02X?} {log:02X?}");
         match verdict {
-            Ok(verdict) => seen.standing(verdict.standing),
+            Ok(verdict) => {
+                seen.standing(verdict.standing);
+                seen.taken("judge", &chart, &read_log(&log).unwrap());
+            }
             Err((code, _)) => seen.refusal(code),
         }
         check_scan(&log);
@@ -119,7 +123,7 @@ fn feeds_of_values(rng: &mut Rng, seen: &mut Coverage) {
             Answer::Refused(_) => assert_eq!(after, monitor),
             _ => assert!(monitor::is_fit(&chart, &after)),
         }
-        seen.fed(&chart, &monitor, &answer);
+        seen.fed("values", &chart, &monitor, &answer, &after);
     }
 }
 
@@ -183,10 +187,11 @@ fn fast_text(input: &[u8]) -> String {
 
 #[test]
 fn steps_and_rows_agree() {
-    let seen = reached(1, 1_500, steps_against_rows);
+    let seen = reached(1, 2_500, steps_against_rows);
     println!("steps against rows: {seen:?}");
     assert!(ANSWERS.iter().all(|name| seen.answers.contains_key(name)));
     assert_eq!(seen.missing_terms(), Vec::<String>::new());
+    assert_eq!(seen.missing_offers(&["rows"]), Vec::<String>::new());
 }
 
 #[test]
@@ -194,7 +199,7 @@ fn everything_is_reached() {
     let mut seen = reached(2, 3_000, judges);
     println!("judges: {seen:?}");
     for more in [
-        reached(3, 6_000, feeds_of_values),
+        reached(3, 12_000, feeds_of_values),
         reached(4, 100_000, hostile_charts),
         reached(5, 20_000, programs),
     ] {
@@ -203,6 +208,8 @@ fn everything_is_reached() {
     }
     println!("all: {seen:?}");
     assert_eq!(seen.missing(), Vec::<String>::new());
+    let kinds = ["judge", "values"];
+    assert_eq!(seen.missing_offers(&kinds), Vec::<String>::new());
 }
 
 #[test]

@@ -49,6 +49,10 @@ impl LiveMonitor {
 
     /// Feeds a message. A refusal (22, 23) changes nothing, nor does feeding after a break: the
     /// answer is then [`Answer::Broken`] each time.
+    ///
+    /// A message out of order in an unfinished prechart drops the round. If a round can start
+    /// with it, it is offered once more, to the round that opens then with all clocks at zero,
+    /// and the answer is what it did there.
     pub fn feed_message(
         &mut self,
         source: u8,

@@ -97,7 +97,7 @@ pub struct Verdict {
     pub standing: Standing,
     /// Rounds kept.
     pub kept: u32,
-    /// Rounds dropped.
+    /// Rounds dropped; a record can drop two.
     pub dropped: u32,
     /// Records taken; one that broke the chart is the last of them.
     pub records: u32,
@@ -158,7 +158,7 @@ pub enum Answer {
     Dropped,
     /// The prechart is complete, the round runs on.
     Entered,
-    /// Something fired.
+    /// Something fired, perhaps after the message dropped a round and in the next one.
     Moved,
     /// Nothing fired.
     Quiet,

@@ -114,6 +114,36 @@ fn no_condition_decides() {
 }
 
 #[test]
+fn a_message_that_opens_the_next_round() {
+    // Go, then data, then an answer in the main chart. The second go is out of order: it drops
+    // the round and opens the next.
+    let go = [0x20, 0, 1, 0, 1];
+    let waits = [0x30, 0, 3, 0, 0, 0, 3];
+    let rest = [0x20, 0, 1, 0, 2, 0x50, 0x20, 1, 0, 0, 3, 0x7F];
+    let chart = [&[0x10, 2, 1], &go[..], &rest].concat();
+    let mut monitor = LiveMonitor::open(&chart).unwrap();
+    for (label, answer) in [(1, Answer::Moved), (1, Answer::Moved), (2, Answer::Entered)] {
+        let said = monitor.feed_message_why(0, 1, label, 7);
+        assert_eq!(said, Ok((answer, None)));
+    }
+    assert_eq!(monitor.standing().to_string(), "2 0 1 3 0 0 0 0");
+    // With clock 0 at least 3 in go's region, the next round is dropped too, by this term: its
+    // clock starts at the second go.
+    let chart = [&[0x10, 2, 1], &go[..], &waits, &rest].concat();
+    let mut monitor = LiveMonitor::open(&chart).unwrap();
+    assert_eq!(monitor.feed_message(0, 1, 1, 7), Ok(Answer::Moved));
+    let said = monitor.feed_message_why(0, 1, 1, 17);
+    let cause = Cause { region: 1, term: 1 };
+    assert_eq!(said, Ok((Answer::Dropped, Some(cause))));
+    assert_eq!(monitor.standing().to_string(), "0 0 2 2 0 0 0 0");
+    // A message that cannot open a round: dropped, by no condition.
+    assert_eq!(monitor.feed_message(0, 1, 1, 20), Ok(Answer::Moved));
+    let said = monitor.feed_message_why(1, 0, 3, 20);
+    assert_eq!(said, Ok((Answer::Dropped, None)));
+    assert_eq!(monitor.standing().to_string(), "0 0 3 4 0 0 0 0");
+}
+
+#[test]
 fn bytes_that_hold_no_monitor() {
     let no = |bytes: &[u8]| LiveMonitor::from_bytes(bytes.to_vec()).err();
     let good = LiveMonitor::open(&CHART_U).unwrap().into_bytes();
@@ -127,7 +157,14 @@ fn bytes_that_hold_no_monitor() {
     let mut unfit = good.clone();
     unfit[57..59].copy_from_slice(&[2, 1]);
     assert_eq!(no(&unfit), Some(FeedRefusal::Unfit));
-    // The count of records stands at 40 in the image.
+    // The count of records stands at 40 in the image, that of dropped rounds at 48: they may be
+    // twice as many.
+    let mut counts = good.clone();
+    counts[43] = 1;
+    counts[51] = 2;
+    assert_eq!(no(&counts), None);
+    counts[51] = 3;
+    assert_eq!(no(&counts), Some(FeedRefusal::Unfit));
     let mut full = good;
     full[40..44].copy_from_slice(&1_000_000u32.to_be_bytes());
     let mut monitor = LiveMonitor::from_bytes(full).unwrap();

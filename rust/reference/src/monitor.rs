@@ -1,5 +1,5 @@
-//! The monitor: which regions are above (O), what is fit (M10), feeding (M12) and steps 1 to 7
-//! of taking a record (T).
+//! The monitor: which regions are above (O), what is fit (M10), feeding (M12), steps 1 to 7 of
+//! taking a record (T), and its second offer (T33, T34).
 
 use crate::value::*;
 use crate::well_formed::is_given;
@@ -115,8 +115,8 @@ fn is_fit_under(chart: &ChartValue, order: &Order, monitor: &MonitorValue) -> bo
             moment == 0
         }
     });
-    let counts = monitor.records <= MAX_RECORDS
-        && u64::from(monitor.kept) + u64::from(monitor.dropped) <= u64::from(monitor.records);
+    let ended = u64::from(monitor.kept) + u64::from(monitor.dropped);
+    let counts = monitor.records <= MAX_RECORDS && ended <= 2 * u64::from(monitor.records);
     let break_fits = match monitor.broken() {
         Some(known) => (1..=monitor.records).contains(&known.record),
         None => monitor.break_record == 0 && monitor.reason == 0,
@@ -171,33 +171,66 @@ pub fn not_taken(monitor: &MonitorValue, record: &RecordValue) -> Option<Answer>
     }
 }
 
-/// Steps 1 to 7: T9 to T21.
+/// What a record finds among the regions, before any condition is tested. Regions count from 0.
+#[derive(Clone, Copy, Debug, PartialEq, Eq)]
+pub enum Found {
+    /// It is no chart message (T10).
+    Nothing,
+    /// This ready region has its message (T11).
+    Ready(usize),
+    /// No ready region has it, in the main chart (T19).
+    UnreadyInMain,
+    /// No ready region has it, in the prechart with nothing fired (T18).
+    UnreadyAtOpening,
+    /// No ready region has it, in the prechart with something fired, so it is offered once more
+    /// (T33): it fits if a region that is ready at the opening has it, which is then this one.
+    Missed(Option<usize>),
+}
+
+/// What the record finds with these regions fired.
+pub fn find(chart: &ChartValue, order: &Order, fired: u32, record: &RecordValue) -> Found {
+    let carried = regions_with(chart, record);
+    let ready_with = |fired: u32| {
+        let mut regions = carried.iter().copied();
+        regions.find(|&region| is_ready(chart, order, fired, region))
+    };
+    if carried.is_empty() {
+        Found::Nothing
+    } else if let Some(region) = ready_with(fired) {
+        Found::Ready(region)
+    } else if !in_prechart(chart, fired) {
+        Found::UnreadyInMain
+    } else if fired == 0 {
+        Found::UnreadyAtOpening
+    } else {
+        Found::Missed(ready_with(0))
+    }
+}
+
+/// Steps 1 to 7, T9 to T21, and the second offer.
 fn take(
     chart: &ChartValue,
     order: &Order,
     before: MonitorValue,
     record: RecordValue,
 ) -> (Answer, MonitorValue) {
-    // T9.
+    // T9. It is not done again for a second offer.
     let counted = MonitorValue {
         records: before.records + 1,
         now: record.time(),
         ..before
     };
-    // T10: not a chart message, so that was all.
-    let carried = regions_with(chart, &record);
-    if carried.is_empty() {
-        return (Answer::Quiet, counted);
-    }
-    // T11.
-    let ready = carried
-        .into_iter()
-        .find(|&region| is_ready(chart, order, before.fired, region));
-    match ready {
-        Some(region) => fire(chart, order, counted, region),
-        // T18 in phase prechart, T19 in phase main.
-        None if in_prechart(chart, before.fired) => drop_round(chart, counted, Cause::NONE),
-        None => break_round(counted, Reason::NoReadyRegion, Cause::NONE),
+    match find(chart, order, before.fired, &record) {
+        Found::Nothing => (Answer::Quiet, counted),
+        Found::Ready(region) => fire(chart, order, counted, region),
+        Found::UnreadyInMain => break_round(counted, Reason::NoReadyRegion, Cause::NONE),
+        Found::UnreadyAtOpening | Found::Missed(None) => drop_round(chart, counted, Cause::NONE),
+        // T34: the round is dropped, and the steps go on at the opening that this leaves, with
+        // every clock reset at the record's time.
+        Found::Missed(Some(region)) => {
+            let (_, opened) = drop_round(chart, counted, Cause::NONE);
+            fire(chart, order, opened, region)
+        }
     }
 }
 
@@ -211,7 +244,7 @@ fn regions_with(chart: &ChartValue, record: &RecordValue) -> Vec<usize> {
         .collect()
 }
 
-/// Steps 3, 4, 5 and 7, from the ready region of T11 on.
+/// Steps 3, 4, 5 and 7, from the ready region of T11 or T33 on.
 fn fire(
     chart: &ChartValue,
     order: &Order,

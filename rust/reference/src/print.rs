@@ -6,23 +6,31 @@ use crate::reader::read_chart;
 /// The first line of a verdict (P8, X12).
 pub const HEADER: &str = "STANDING KEPT DROPPED RECORDS BREAK REASON REGION TERM";
 
-/// The text for an input (P1). Refusals are tried in the order of P2.
-pub fn respond(input: &[u8]) -> String {
+/// The chart's bytes and the log's in an input (P1), or the input's refusal.
+pub fn parts(input: &[u8]) -> Result<(&[u8], &[u8]), u8> {
     // P3.
     if input.len() > 65_536 {
-        return refused("input", 40, 0);
+        return Err(40);
     }
     // P4.
     if input.len() < 2 {
-        return refused("input", 41, 0);
+        return Err(41);
     }
     let length = usize::from(u16::from_be_bytes([input[0], input[1]]));
     let rest = &input[2..];
     if length > rest.len() {
-        return refused("input", 41, 0);
+        return Err(41);
     }
+    Ok(rest.split_at(length))
+}
+
+/// The text for an input. Refusals are tried in the order of P2.
+pub fn respond(input: &[u8]) -> String {
     // P7: offsets count from the part's first byte.
-    let (chart, log) = rest.split_at(length);
+    let (chart, log) = match parts(input) {
+        Ok(parts) => parts,
+        Err(code) => return refused("input", code, 0),
+    };
     let chart = match read_chart(chart) {
         Ok(chart) => chart,
         Err((code, offset)) => return refused("chart", code, offset),

@@ -1,54 +1,16 @@
 //! The region and the term that decide: cases worked out by hand, by the steps and by the rows.
 
-use lsc_reference::declarative::Rows;
+mod common;
+
+use common::{broken, cause, clock, difference, fed, AT_LEAST, AT_MOST, EQUAL};
 use lsc_reference::examples::{headings, message, undo, CHART_U};
 use lsc_reference::log::verdict;
 use lsc_reference::monitor::{feed, is_fit};
 use lsc_reference::reader::read_chart;
 use lsc_reference::value::*;
 
-/// A term on one clock.
-fn clock(clock: u8, relation: u8, n: i32) -> Vec<u8> {
-    [&[0x30, clock, relation], &n.to_be_bytes()[..]].concat()
-}
-
-/// A term on the first clock less the second.
-fn difference(first: u8, second: u8, relation: u8, n: i32) -> Vec<u8> {
-    [&[0x31, first, second, relation], &n.to_be_bytes()[..]].concat()
-}
-
 const LESS: u8 = 0;
-const AT_MOST: u8 = 1;
-const EQUAL: u8 = 2;
-const AT_LEAST: u8 = 3;
 const MORE: u8 = 4;
-
-fn cause(region: u8, term: u8) -> Cause {
-    Cause { region, term }
-}
-
-fn broken(record: u32, reason: Reason, cause: Cause) -> Answer {
-    Answer::Broken(Break {
-        record,
-        reason,
-        cause,
-    })
-}
-
-/// Feeds the records to a fresh monitor: the answers and the monitor after them, which the rows
-/// give too.
-fn fed(chart: &ChartValue, records: &[RecordValue]) -> (Vec<Answer>, MonitorValue) {
-    let mut monitor = MonitorValue::ZERO;
-    let mut answers = Vec::new();
-    for record in records {
-        let (answer, after) = feed(chart, monitor, *record);
-        answers.push(answer);
-        monitor = after;
-    }
-    let meaning = Rows::of(chart).meaning(records);
-    assert_eq!((&meaning.answers, meaning.monitor()), (&answers, monitor));
-    (answers, monitor)
-}
 
 /// Region 1, prechart: go resets clock 1. Region 2, main: done, with four terms of both kinds.
 /// Go at g and done at d: clock 0 is d, clock 1 is d - g.

@@ -113,12 +113,13 @@ fn the_latest_time_is_taken() {
 
 #[test]
 fn a_then_b_then_c() {
-    // X17.
+    // X17: the second a finds no ready region and drops the round; offered once more, it starts
+    // the next one, and b completes that one's prechart.
     let chart = [
         0x10, 2, 0, 0x20, 0, 1, 0, 1, 0x20, 0, 1, 0, 2, 0x50, 0x20, 1, 0, 0, 3, 0x7F,
     ];
     let (a, b) = (message(0, 1, 1, 1), message(0, 1, 2, 2));
-    assert_eq!(numbers(&chart, &[a, a, b]), "0 0 2 3 0 0 0 0");
+    assert_eq!(numbers(&chart, &[a, a, b]), "2 0 1 3 0 0 0 0");
     assert_eq!(numbers(&chart, &[a]), "1 0 0 1 0 0 0 0");
     assert_eq!(numbers(&chart, &[a, b]), "2 0 0 2 0 0 0 0");
 }

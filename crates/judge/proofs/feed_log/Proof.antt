@@ -85,13 +85,14 @@ accept-requires c κs =
     let u = ap (λ (x : Moment). x .0) (c .time-of .ensures) in (
       K,
       (
-        (taken-few G f _ _ e, F .counts),
-        (
-          (λ x. omega (arith, F .moments x, taken-later G f _ _ e, u)),
-          rw (c .before .before .before .slot-of .ensures .0)
-              (slot-covers
-              (c .before .before .before .before .before .before .before .before .before .before .before .before .before .before .before .slots-of .ensures) (K .regions) (c .before .before .before .before .before .before .before .code-at .result)),
-        ),
+        record {
+          moments = λ x. omega (arith, F .moments x, taken-later G f _ _ e, u);
+          few = taken-few G f _ _ e;
+          counts = F .counts;
+        },
+        rw (c .before .before .before .slot-of .ensures .0)
+            (slot-covers
+            (c .before .before .before .before .before .before .before .before .before .before .before .before .before .before .before .slots-of .ensures) (K .regions) (c .before .before .before .before .before .before .before .code-at .result)),
       ),
     )
 

@@ -32,8 +32,12 @@ accept-requires c κs =
     let F = P .1 .0 in (
       P .0,
       (
-        (omega (arith, c .if3 .left), F .counts),
-        ((λ x. omega (arith, F .moments x, c .before .before .if2 .left)), P .1 .1),
+        record {
+          moments = λ x. omega (arith, F .moments x, c .before .before .if2 .left);
+          few = omega (arith, c .if3 .left);
+          counts = F .counts;
+        },
+        P .1 .1,
       ),
     )
 

@@ -5,6 +5,10 @@ use Rattle.witness_rounds.proofs.Ways.{unplaced-in-prechart, unplaced-i
 use Rattle.witness_rounds.proofs.Ways.{five-fed, delays-by, synchronizes-by, advances-by, terminates-by}
 use Rattle.witness_rounds.proofs.Ways.{run-goes, run-settles, run-over, turn-heard, turn-plain, passes-by}
 use Rattle.witness_rounds.proofs.Ways.{moves-by, enters-by, unmatched-in-prechart, unmatched-in-main}
+use Rattle.witness_rounds.proofs.Ways.{nothing-fired, prechart-done}
+use Rattle.witness_rounds.proofs.Shared.{shared-fed, dropped-twice, shared-judged, twice-judged, missed-starts}
+use Rattle.witness_rounds.proofs.Shared.{missed-fails, missed-ends, condition-failed, twice-moves}
+use Rattle.witness_rounds.proofs.Shared.{twice-fails, unmatched-once}
 use Rattle.witness_rounds.proofs.rounds.Statement.{statement}
 use Rattle.witness_rounds.proofs.rounds.Tie as tie
 
@@ -23,6 +27,16 @@ returns c = record {
   row-moved = row-moved;
   row-quiet = row-quiet;
   five-fed = five-fed;
+  shared-fed = shared-fed;
+  dropped-twice = dropped-twice;
+  shared-judged = shared-judged;
+  twice-judged = twice-judged;
+  missed-starts = missed-starts;
+  missed-fails = missed-fails;
+  missed-ends = missed-ends;
+  nothing-fired = nothing-fired;
+  condition-failed = condition-failed;
+  prechart-done = prechart-done;
   delays-by = delays-by;
   synchronizes-by = synchronizes-by;
   advances-by = advances-by;
@@ -38,6 +52,9 @@ returns c = record {
   enters-by = enters-by;
   unmatched-in-prechart = unmatched-in-prechart;
   unmatched-in-main = unmatched-in-main;
+  twice-moves = twice-moves;
+  twice-fails = twice-fails;
+  unmatched-once = unmatched-once;
 }
 
 pub rounds-spec : {M : Type 1} → statement M

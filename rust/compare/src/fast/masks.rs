@@ -202,10 +202,11 @@ impl Masks {
     /// Whether the counts and the break go together.
     fn break_fits(&self, monitor: &MonitorValue) -> bool {
         let (fired, records) = (monitor.fired, monitor.records);
-        if records > MAX_RECORDS
-            || monitor.kept > records
-            || monitor.dropped > records - monitor.kept
-        {
+        if records > MAX_RECORDS {
+            return false;
+        }
+        let most = 2 * records;
+        if monitor.kept > most || monitor.dropped > most - monitor.kept {
             return false;
         }
         match (monitor.broken(), monitor.break_record, monitor.reason) {

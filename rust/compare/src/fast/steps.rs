@@ -70,17 +70,32 @@ fn cause<R: Regions>(regions: &R, place: usize, moments: &Moments) -> Cause {
     Cause::at(place, regions.failing_term(place, moments))
 }
 
-/// Steps 3 to 7 for a counted chart message carried by `carriers`.
+/// Steps 3 to 7 for a counted chart message carried by `carriers`, and its second offer. Both
+/// offers end in one call, so that firing is compiled once into the loop over a log.
 #[inline]
 pub fn take<R: Regions>(regions: &R, masks: &Masks, state: &mut State, carriers: u32) -> Answer {
     let before = state.fired;
-    let Some(first) = masks.lowest_ready(before, carriers & !before) else {
-        return if masks.prechart & !before != 0 {
-            state.drop_round(masks, Cause::NONE)
-        } else {
-            state.break_round(Reason::NoReadyRegion, Cause::NONE)
-        };
+    let first = match masks.lowest_ready(before, carriers & !before) {
+        Some(first) => first,
+        None if masks.prechart & !before == 0 => {
+            return state.break_round(Reason::NoReadyRegion, Cause::NONE);
+        }
+        None => {
+            let dropped = state.drop_round(masks, Cause::NONE);
+            // T33: something was fired, and an opening region has the message.
+            match masks.lowest_ready(0, carriers) {
+                Some(first) if before != 0 => first,
+                _ => return dropped,
+            }
+        }
     };
+    fire(regions, masks, state, first)
+}
+
+/// Steps 3, 4, 5 and 7, from a ready region on that has the message.
+#[inline]
+fn fire<R: Regions>(regions: &R, masks: &Masks, state: &mut State, first: usize) -> Answer {
+    let before = state.fired;
     let mut place = first;
     let mut waiting = 0;
     loop {

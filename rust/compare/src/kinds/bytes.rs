@@ -11,6 +11,9 @@ use lsc_reference::monitor::{feed, is_fit};
 use lsc_reference::reader::read_chart;
 use lsc_reference::value::*;
 
+/// The kind's name.
+pub const NAME: &str = "live bytes";
+
 pub fn make(rng: &mut Rng) -> (Vec<u8>, Vec<u8>) {
     let size = random::some_size(rng);
     let (bytes, chart) = random::chart(rng, size);
@@ -67,12 +70,12 @@ pub fn compare(before: &[u8], record: &[u8], seen: &mut Seen) -> Result<(), Both
     same("taking up bytes", refused, standing.err())?;
 
     let mut wanted = before.to_vec();
-    let answer = match &held {
-        None => Answer::Refused(20),
+    let (answer, after) = match &held {
+        None => (Answer::Refused(20), None),
         Some((_, chart, monitor)) => {
             let (answer, after) = feed(chart, *monitor, record);
             wanted[..MONITOR_IMAGE].copy_from_slice(&after.to_image());
-            answer
+            (answer, Some(after))
         }
     };
     check_why(before, &record, &answer, &wanted)?;
@@ -80,9 +83,11 @@ pub fn compare(before: &[u8], record: &[u8], seen: &mut Seen) -> Result<(), Both
     let said = feed_live(&mut live, &record);
     let wanted = (number(&answer), Hex(&wanted));
     same("feeding", (said, Hex(&live)), wanted)?;
-    match &held {
-        None => seen.told(false, &answer),
-        Some((_, chart, monitor)) => seen.fed(chart, monitor, &answer),
+    match (&held, &after) {
+        (Some((_, chart, monitor)), Some(after)) => {
+            seen.fed(NAME, chart, monitor, &answer, after);
+        }
+        _ => seen.told(false, &answer),
     }
     Ok(())
 }

@@ -12,6 +12,9 @@ use lsc_reference::monitor::feed;
 use lsc_reference::reader::read_chart;
 use lsc_reference::value::*;
 
+/// The kind's name.
+pub const NAME: &str = "live";
+
 /// What the safe wrapper says to a record.
 type Told = Result<lsc::Answer, FeedRefusal>;
 
@@ -210,7 +213,7 @@ pub fn compare(chart: &[u8], log: &[u8], seen: &mut Seen) -> Result<(), Both> {
         same("feeding", (said, fields), (number(&answer), Some(after)))?;
         same("bytes after feeding", Hex(&live), Hex(&wanted))?;
         check_why(&before, &record, &answer, &wanted)?;
-        seen.fed(&value, &monitor, &answer);
+        seen.fed(NAME, &value, &monitor, &answer, &after);
         let numbers = standing_numbers(&value, &after);
         check_standing(&live, Ok(numbers), seen)?;
 

@@ -38,12 +38,12 @@ pub struct Kind {
 /// All kinds.
 #[rustfmt::skip]
 pub static KINDS: [Kind; 6] = [
-    kind("judge", 34, ["chart", "log"], whole::make, whole::compare),
-    kind("print", 14, ["nothing", "input"], printing::make, printing::compare),
-    kind("values", 30, ["chart image", "monitor image and record"], values::make, values::compare),
-    kind("live", 9, ["chart", "records"], live::make, live::compare),
-    kind("live bytes", 10, ["live bytes", "record"], bytes::make, bytes::compare),
-    kind("rows", 3, ["chart", "records"], rows::make, rows::compare),
+    kind(whole::NAME, 34, ["chart", "log"], whole::make, whole::compare),
+    kind(printing::NAME, 14, ["nothing", "input"], printing::make, printing::compare),
+    kind(values::NAME, 30, ["chart image", "monitor and record"], values::make, values::compare),
+    kind(live::NAME, 9, ["chart", "records"], live::make, live::compare),
+    kind(bytes::NAME, 10, ["live bytes", "record"], bytes::make, bytes::compare),
+    kind(rows::NAME, 3, ["chart", "records"], rows::make, rows::compare),
 ];
 
 const fn kind(

@@ -5,7 +5,12 @@ use crate::difference::{same, Both, Hex};
 use crate::random::{hostile_input, Rng};
 use crate::seen::Seen;
 use lsc::call;
-use lsc_reference::print::respond;
+use lsc_reference::log::read_log;
+use lsc_reference::print::{parts, respond};
+use lsc_reference::reader::read_chart;
+
+/// The kind's name.
+pub const NAME: &str = "print";
 
 /// The bytes that `lsc_print` wants for any text.
 pub const ROOM: usize = 223;
@@ -28,6 +33,11 @@ pub fn compare(_: &[u8], input: &[u8], seen: &mut Seen) -> Result<(), Both> {
         same("all bytes", Hex(&out), Hex(&after))?;
     }
     seen.printed(&text);
+    if let Ok((chart, log)) = parts(input) {
+        if let (Ok(chart), Ok(records)) = (read_chart(chart), read_log(log)) {
+            seen.taken(NAME, &chart, &records);
+        }
+    }
     for room in [0, 55, ROOM - 1] {
         let (mut out, mut written) = (filled(room), 77);
         let answer = call::print(input, &mut out, &mut written);

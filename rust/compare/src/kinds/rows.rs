@@ -6,7 +6,7 @@ use super::number;
 use crate::charts;
 use crate::difference::{same, Both, Hex};
 use crate::image::{live_bytes, Image, LIVE_HEAD, MONITOR_IMAGE};
-use crate::random::{self, Rng, Size};
+use crate::random::{self, Rng};
 use crate::seen::Seen;
 use lsc::call;
 use lsc_reference::declarative::Rows;
@@ -14,17 +14,14 @@ use lsc_reference::log::write_log;
 use lsc_reference::reader::read_chart;
 use lsc_reference::value::*;
 
+/// The kind's name.
+pub const NAME: &str = "rows";
+
 /// Charts with more regions have too many rows.
 const MOST_REGIONS: u8 = 5;
 
 pub fn make(rng: &mut Rng) -> (Vec<u8>, Vec<u8>) {
-    let (bytes, chart) = if rng.chance(30) {
-        let bytes = rng.pick(&charts::SMALL).to_vec();
-        let chart = read_chart(&bytes).unwrap_or(ChartValue::ZERO);
-        (bytes, chart)
-    } else {
-        random::chart(rng, Size::Tiny)
-    };
+    let (bytes, chart) = charts::some_small(rng);
     let count = rng.below(11);
     let feeds = random::feeds(rng, &chart, count);
     (bytes, write_log(&feeds))
@@ -54,6 +51,7 @@ pub fn compare(chart: &[u8], log: &[u8], seen: &mut Seen) -> Result<(), Both> {
         seen.told(again, answer);
         again |= matches!(answer, Answer::Broken(_));
     }
+    seen.taken(NAME, &value, &feeds);
     let monitor = MonitorValue::from_image(&live[..MONITOR_IMAGE]);
     same("the monitor after", monitor, Some(meaning.monitor()))?;
     let wanted = live_bytes(chart, &meaning.monitor());

@@ -10,6 +10,9 @@ use crate::testing;
 use lsc_reference::monitor::{feed, new};
 use lsc_reference::value::*;
 
+/// The kind's name.
+pub const NAME: &str = "values";
+
 pub fn make(rng: &mut Rng) -> (Vec<u8>, Vec<u8>) {
     let chart = if rng.chance(60) {
         let size = random::some_size(rng);
@@ -106,7 +109,7 @@ fn check_feed(
     same("bytes after feeding", Hex(&monitor), Hex(&wanted))?;
     match &chart {
         None => seen.told(false, &answer),
-        Some(chart) => seen.fed(chart, &value, &answer),
+        Some(chart) => seen.fed(NAME, chart, &value, &answer, &after),
     }
     Ok(())
 }

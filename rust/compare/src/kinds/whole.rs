@@ -10,6 +10,9 @@ use lsc_reference::log;
 use lsc_reference::reader::read_chart;
 use lsc_reference::value::{ChartValue, MAX_RECORDS};
 
+/// The kind's name.
+pub const NAME: &str = "judge";
+
 pub fn make(rng: &mut Rng) -> (Vec<u8>, Vec<u8>) {
     let size = random::some_size(rng);
     let (bytes, chart) = random::chart(rng, size);
@@ -53,12 +56,16 @@ pub fn compare(chart: &[u8], log: &[u8], seen: &mut Seen) -> Result<(), Both> {
     let mut out = filled_places(PLACES + BEYOND);
     let answer = call::judge(chart, log, &mut out);
     same("verdict and places", (answer, out), (number, after))?;
-    let records = log::read_log(log).map_or(MAX_RECORDS + 1, |records| records.len() as u32);
-    same("records checked", testing::check(log), records)?;
-    if number == 0 {
-        seen.standing(numbers[0]);
-    } else {
+    let records = log::read_log(log);
+    let checked = records
+        .as_ref()
+        .map_or(MAX_RECORDS + 1, |records| records.len() as u32);
+    same("records checked", testing::check(log), checked)?;
+    if number != 0 {
         seen.refusal(number);
+    } else if let (Ok(value), Ok(records)) = (read_chart(chart), records) {
+        seen.standing(numbers[0]);
+        seen.taken(NAME, &value, &records);
     }
     for places in [0, 6, PLACES - 1] {
         let mut out = filled_places(places);

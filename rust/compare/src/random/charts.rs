@@ -37,7 +37,11 @@ fn frame(rng: &mut Rng, size: Size) -> Frame {
     match size {
         Size::Tiny => {
             let total = rng.range(1, 5) as usize;
-            let prechart = if rng.chance(30) { 0 } else { rng.below(total) };
+            let prechart = match rng.below(10) {
+                0..=2 => 0,
+                3..=5 => total - 1,
+                _ => rng.below(total),
+            };
             Frame {
                 lines: rng.range(2, 4) as u8,
                 clocks: rng.range(0, 3) as u8,
@@ -162,24 +166,49 @@ fn telling_number(rng: &mut Rng, relation: u8, difference: bool) -> i32 {
     n as i32
 }
 
-/// A region's terms, heat and resets, in any order; so many of a hundred terms are easy.
-fn attributes(rng: &mut Rng, clocks: u8, main: bool, plain: bool, easy: usize) -> Vec<u8> {
+/// The command of a term that fails at an opening and holds some ticks later.
+fn waiting_command(rng: &mut Rng, clocks: u8) -> Vec<u8> {
+    let relation = rng.pick(&[3, 4]);
+    let n = rng.range(1, 3) as u8;
+    let clock = rng.below(usize::from(clocks)) as u8;
+    vec![0x30, clock, relation, 0, 0, 0, n]
+}
+
+/// What a region's terms, heat and resets depend on.
+struct Setting {
+    clocks: u8,
+    main: bool,
+    plain: bool,
+    /// It is in the prechart, plain or with none above it, so that a second offer may test it.
+    early: bool,
+    /// So many of a hundred terms are easy.
+    easy: usize,
+}
+
+/// A region's terms, heat and resets, in any order.
+fn attributes(rng: &mut Rng, setting: &Setting) -> Vec<u8> {
+    let clocks = setting.clocks;
     let mut commands: Vec<Vec<u8>> = Vec::new();
     if clocks > 0 {
         let terms = match rng.below(10) {
             0..=4 => 0,
-            5..=7 => 1,
-            8 => 2,
-            _ => 1 + rng.below(MAX_TERMS),
+            5..=6 => 1,
+            7 => 2,
+            _ => 2 + rng.below(MAX_TERMS - 1),
         };
         for _ in 0..terms {
-            let easy = rng.chance(easy);
-            commands.push(term_command(rng, clocks, easy));
+            let easy = rng.chance(setting.easy);
+            let waits = setting.early && rng.chance(40);
+            commands.push(if waits {
+                waiting_command(rng, clocks)
+            } else {
+                term_command(rng, clocks, easy)
+            });
         }
-        if terms > 0 && main && rng.chance(45) {
+        if terms > 0 && setting.main && rng.chance(45) {
             commands.push(vec![0x32]);
         }
-        if rng.chance(40) || (plain && terms == 0) {
+        if rng.chance(40) || (setting.plain && terms == 0) {
             commands.push(vec![0x40, some_set(rng, clocks) as u8]);
         }
     }
@@ -235,11 +264,16 @@ impl Maker {
             }
             let plain = event.is_some();
             let event = event.unwrap_or_else(|| self.message_event(rng));
+            let setting = Setting {
+                clocks: self.frame.clocks,
+                main,
+                plain,
+                early: !main && (plain || touched(&event) & lines_so_far == 0),
+                easy: self.easy_share,
+            };
             lines_so_far |= touched(&event);
             self.bytes.extend(event);
-            let clocks = self.frame.clocks;
-            let more = attributes(rng, clocks, main, plain, self.easy_share);
-            self.bytes.extend(more);
+            self.bytes.extend(attributes(rng, &setting));
         }
     }
 

@@ -2,6 +2,7 @@
 
 use super::Rng;
 use crate::fast::{Plan, State};
+use lsc_reference::monitor::in_prechart;
 use lsc_reference::value::*;
 
 /// A gap between two records; a wild one may be of any length.
@@ -63,6 +64,13 @@ pub(super) fn chart_message(rng: &mut Rng, chart: &ChartValue, time: u32) -> Rec
     }
 }
 
+/// The places of a set of regions.
+fn places(set: u32) -> Vec<usize> {
+    (0..MAX_REGIONS)
+        .filter(|place| (set >> place) & 1 == 1)
+        .collect()
+}
+
 /// A message that a ready region awaits, at a time that mostly suits its condition.
 fn awaited_message(
     rng: &mut Rng,
@@ -71,14 +79,13 @@ fn awaited_message(
     state: &State,
     wild: bool,
 ) -> Option<RecordValue> {
-    let ready = plan.ready_messages(state);
-    let places: Vec<usize> = (0..MAX_REGIONS).filter(|p| (ready >> p) & 1 == 1).collect();
-    if places.is_empty() {
+    let ready = places(plan.ready_messages(state));
+    if ready.is_empty() {
         return None;
     }
     let mut record = None;
     for _ in 0..8 {
-        let place = rng.pick(&places);
+        let place = rng.pick(&ready);
         let time = state.now().saturating_add(gap(rng, wild));
         record = message_of(&chart.regions[place], time);
         let mut tried = *state;
@@ -88,6 +95,25 @@ fn awaited_message(
         }
     }
     record
+}
+
+/// A message that a region fired with at the opening of an unfinished prechart, sent again:
+/// mostly no ready region has it.
+pub(super) fn opening_message(
+    rng: &mut Rng,
+    chart: &ChartValue,
+    plan: &Plan,
+    fired: u32,
+    time: u32,
+) -> Option<RecordValue> {
+    if !in_prechart(chart, fired) {
+        return None;
+    }
+    let fired = places(plan.ready_messages(&State::FRESH) & fired);
+    if fired.is_empty() {
+        return None;
+    }
+    message_of(&chart.regions[rng.pick(&fired)], time)
 }
 
 /// The time about which a log starts.
@@ -100,32 +126,59 @@ fn start(rng: &mut Rng) -> u32 {
     }
 }
 
+/// How the records of a log are chosen.
+struct Habits {
+    /// So many of a hundred are awaited, and so many start a prechart again.
+    care: usize,
+    again: usize,
+    /// Gaps may be of any length.
+    wild: bool,
+}
+
+/// A record for a monitor in this state, not before `now`.
+fn next_record(
+    rng: &mut Rng,
+    chart: &ChartValue,
+    plan: Option<&Plan>,
+    state: &State,
+    now: u32,
+    habits: &Habits,
+) -> RecordValue {
+    let time = now.saturating_add(gap(rng, habits.wild));
+    let mut record = None;
+    if let Some(plan) = plan {
+        if rng.chance(habits.again) {
+            record = opening_message(rng, chart, plan, state.fired, time);
+        }
+        if record.is_none() && rng.chance(habits.care) {
+            let mut later = *state;
+            if now > state.now() {
+                // Time passes up to the log's own start before the first record.
+                plan.take_record(&mut later, &RecordValue::Time(now));
+            }
+            record = awaited_message(rng, chart, plan, &later, habits.wild);
+        }
+    }
+    record.unwrap_or_else(|| match rng.below(10) {
+        0..=3 => RecordValue::Time(time),
+        4..=6 => chart_message(rng, chart, time),
+        _ => stray_message(rng, chart, time),
+    })
+}
+
 /// Random records over a chart, their times never falling.
 pub fn records(rng: &mut Rng, chart: &ChartValue, count: usize) -> Vec<RecordValue> {
     let plan = Plan::of(chart);
     let mut state = State::FRESH;
     let mut records = Vec::new();
-    let care = rng.pick(&[100, 98, 90, 70, 30]);
-    let wild = rng.chance(10);
+    let habits = Habits {
+        care: rng.pick(&[100, 98, 90, 70, 30]),
+        again: rng.pick(&[0, 0, 5, 20, 50]),
+        wild: rng.chance(10),
+    };
     let mut now = start(rng);
     for _ in 0..count {
-        let mut record = None;
-        if rng.chance(care) {
-            if let Some(plan) = &plan {
-                let mut later = state;
-                if now > state.now() {
-                    // Time passes up to the log's own start before the first record.
-                    plan.take_record(&mut later, &RecordValue::Time(now));
-                }
-                record = awaited_message(rng, chart, plan, &later, wild);
-            }
-        }
-        let time = now.saturating_add(gap(rng, wild));
-        let record = record.unwrap_or_else(|| match rng.below(10) {
-            0..=3 => RecordValue::Time(time),
-            4..=6 => chart_message(rng, chart, time),
-            _ => stray_message(rng, chart, time),
-        });
+        let record = next_record(rng, chart, plan.as_ref(), &state, now, &habits);
         now = record.time();
         if let Some(plan) = &plan {
             if state.broken.is_none() {

@@ -1,7 +1,7 @@
 //! Values of charts, monitors and records, fit and unfit.
 
 use super::charts::{chart, some_size};
-use super::logs::{chart_message, gap, message_of, records, stray_message};
+use super::logs::{chart_message, gap, message_of, opening_message, records, stray_message};
 use super::Rng;
 use crate::fast::{Plan, State};
 use lsc_reference::value::*;
@@ -166,9 +166,26 @@ fn change_reason(rng: &mut Rng, chart: &ChartValue, monitor: &mut MonitorValue) 
     };
 }
 
+/// Changes kept and dropped so that together they are about the records or twice as many, or so
+/// that their sum in 32 bits is.
+fn change_counts(rng: &mut Rng, monitor: &mut MonitorValue) {
+    let largest = u64::from(u32::MAX);
+    let about = u64::from(monitor.records) * rng.pick(&[1, 2, 2, 2]) + rng.pick(&[0, 0, 1 << 32]);
+    let sum = (about + rng.pick(&[0, 1, 1, 2])).saturating_sub(1);
+    let sum = sum.min(2 * largest);
+    let (least, most) = (sum.saturating_sub(largest), sum.min(largest));
+    let kept = match rng.below(3) {
+        0 => least,
+        1 => most,
+        _ => least + rng.draw() % (most - least + 1),
+    };
+    monitor.kept = kept as u32;
+    monitor.dropped = (sum - kept) as u32;
+}
+
 /// Changes one field of a monitor, or what goes together.
 fn change_monitor(rng: &mut Rng, chart: &ChartValue, monitor: &mut MonitorValue) {
-    match rng.below(19) {
+    match rng.below(21) {
         0 => monitor.fired ^= 1 << rng.below(32),
         1 => monitor.fired ^= 1 << rng.below(6),
         2 => monitor.fired = rng.draw() as u32 & rng.draw() as u32,
@@ -188,7 +205,8 @@ fn change_monitor(rng: &mut Rng, chart: &ChartValue, monitor: &mut MonitorValue)
         14 | 15 => change_reason(rng, chart, monitor),
         16 => monitor.cause = some_cause(rng, chart),
         17 => monitor.cause.region = some_cause(rng, chart).region,
-        _ => monitor.cause.term = some_cause(rng, chart).term,
+        18 => monitor.cause.term = some_cause(rng, chart).term,
+        _ => change_counts(rng, monitor),
     }
 }
 
@@ -202,25 +220,29 @@ pub fn monitor_value(rng: &mut Rng, chart: &ChartValue) -> MonitorValue {
     monitor
 }
 
-/// A record to feed: awaited, of the chart, stray, of time; its time about now.
+/// The message of the first region that is not fired.
+fn unfired_message(chart: &ChartValue, fired: u32, time: u32) -> Option<RecordValue> {
+    let count = usize::from(chart.count).min(MAX_REGIONS);
+    (0..count)
+        .filter(|place| (fired >> place) & 1 == 0)
+        .find_map(|place| message_of(&chart.regions[place], time))
+}
+
+/// A record to feed: awaited, of the chart, of its opening, stray, of time; its time about now.
 pub fn record_value(rng: &mut Rng, chart: &ChartValue, monitor: &MonitorValue) -> RecordValue {
     let time = match rng.below(12) {
         0 => rng.number(),
         1 => monitor.now.saturating_sub(1),
         _ => monitor.now.saturating_add(gap(rng, true)),
     };
-    match rng.below(10) {
-        0 => RecordValue::Time(time),
-        1 => stray_message(rng, chart, time),
-        2..=4 => chart_message(rng, chart, time),
-        _ => {
-            let count = usize::from(chart.count).min(MAX_REGIONS);
-            let unfired = (0..count).find(|place| {
-                (monitor.fired >> place) & 1 == 0 && message_of(&chart.regions[*place], 0).is_some()
-            });
-            unfired
-                .and_then(|place| message_of(&chart.regions[place], time))
-                .unwrap_or(RecordValue::Time(time))
-        }
-    }
+    let record = match rng.below(12) {
+        0 => None,
+        1 => Some(stray_message(rng, chart, time)),
+        2..=4 => Some(chart_message(rng, chart, time)),
+        5..=7 => Plan::of(chart)
+            .and_then(|plan| opening_message(rng, chart, &plan, monitor.fired, time))
+            .or_else(|| unfired_message(chart, monitor.fired, time)),
+        _ => unfired_message(chart, monitor.fired, time),
+    };
+    record.unwrap_or(RecordValue::Time(time))
 }

@@ -6,4 +6,4 @@ mod rows;
 mod stretches;
 
 pub use rows::Rows;
-pub use stretches::Meaning;
+pub use stretches::{Ended, Meaning};

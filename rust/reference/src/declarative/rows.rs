@@ -100,15 +100,20 @@ impl<'a> Rows<'a> {
         &self.chart.regions[place]
     }
 
-    /// The places in the stretch of its chart messages (T7).
+    /// Whether the record is a chart message (T7).
+    pub(super) fn is_chart_message(&self, record: &RecordValue) -> bool {
+        match record.message() {
+            None => false,
+            Some(sent) => {
+                (0..self.count()).any(|region| self.region(region).message() == Some(sent))
+            }
+        }
+    }
+
+    /// The places in the stretch of its chart messages.
     fn chart_messages(&self, records: &[RecordValue]) -> Vec<usize> {
         (0..records.len())
-            .filter(|&place| match records[place].message() {
-                None => false,
-                Some(sent) => {
-                    (0..self.count()).any(|region| self.region(region).message() == Some(sent))
-                }
-            })
+            .filter(|&place| self.is_chart_message(&records[place]))
             .collect()
     }
 

@@ -1,8 +1,19 @@
-//! A list of feeds (W10) as stretches: where each one ends (W14), and how (W17 to W20).
+//! A list of feeds (W10) as stretches: where each one ends (W14), how (W17 to W20), and which
+//! record two of them share (W31).
 
 use super::rows::{Rows, Stretch};
 use crate::value::*;
 use std::collections::BTreeSet;
+
+/// A stretch that ended.
+#[derive(Clone, Copy, Debug, PartialEq, Eq)]
+pub struct Ended {
+    pub opening: u32,
+    /// Its first and its last record, counted from 1 among the accepted ones.
+    pub records: (u32, u32),
+    /// Kept, dropped or broken.
+    pub how: Answer,
+}
 
 /// What a list of feeds means.
 #[derive(Clone, Debug, PartialEq, Eq)]
@@ -10,6 +21,9 @@ pub struct Meaning {
     /// The answer of every feed, refused ones included.
     pub answers: Vec<Answer>,
     pub accepted: u32,
+    /// The stretches that ended, from the left. Two may share a record (W31).
+    pub ended: Vec<Ended>,
+    /// How many of them were kept and dropped (W26).
     pub kept: u32,
     pub dropped: u32,
     pub broken: Option<Break>,
@@ -46,8 +60,7 @@ impl Meaning {
 struct Cutting<'a> {
     rows: &'a Rows<'a>,
     accepted: u32,
-    kept: u32,
-    dropped: u32,
+    ended: Vec<Ended>,
     broken: Option<Break>,
     now: u32,
     /// The last stretch: its opening, its records, and its row up to the last of them.
@@ -64,11 +77,12 @@ impl Rows<'_> {
         Meaning {
             answers,
             accepted: cutting.accepted,
-            kept: cutting.kept,
-            dropped: cutting.dropped,
+            kept: cutting.count(|how| *how == Answer::Kept),
+            dropped: cutting.count(|how| matches!(how, Answer::Dropped(_))),
             broken: cutting.broken,
             now: cutting.now,
             resets: cutting.resets(),
+            ended: cutting.ended,
             cut: cutting.row.into_iter().collect(),
         }
     }
@@ -80,8 +94,7 @@ impl<'a> Cutting<'a> {
         let cutting = Cutting {
             rows,
             accepted: 0,
-            kept: 0,
-            dropped: 0,
+            ended: Vec::new(),
             broken: None,
             now: 0,
             opening: 0,
@@ -114,13 +127,48 @@ impl<'a> Cutting<'a> {
         }
         self.accepted += 1;
         self.now = record.time();
+        // W31: the stretch ends dropped, and the next one starts with the same record.
+        if self.is_missed(record) && self.fits(record) {
+            self.records.push(record);
+            self.close(Answer::Dropped(Cause::NONE));
+        }
+        self.grow(record)
+    }
+
+    /// Whether the record finds no region in a prechart under way (W31): the row so far has some
+    /// region and lacks one of the prechart, and no row has the record too, even if conditions at
+    /// the record are waived.
+    fn is_missed(&self, record: RecordValue) -> bool {
+        let mut records = self.records.clone();
+        records.push(record);
+        let longer = Stretch {
+            records: &records,
+            opening: self.opening,
+        };
+        !self.row.is_empty()
+            && !self.rows.has_prechart(&self.row)
+            && self.rows.lawful_row(longer, true).is_none()
+    }
+
+    /// Whether a new stretch can start with the record (W31): for that record alone, opened at
+    /// its time, there is a row if its conditions are waived.
+    fn fits(&self, record: RecordValue) -> bool {
+        let alone = Stretch {
+            records: &[record],
+            opening: record.time(),
+        };
+        self.rows.is_chart_message(&record) && self.rows.lawful_row(alone, true).is_some()
+    }
+
+    /// The answer for an accepted record that the last stretch takes.
+    fn grow(&mut self, record: RecordValue) -> Answer {
         self.records.push(record);
         // W14.
         let rows = self.rows;
         match rows.lawful_row(self.stretch(), false) {
             Some(row) if row.len() < rows.count() => self.run_on(row),
             // W17.
-            Some(_) => self.keep(),
+            Some(_) => self.close(Answer::Kept),
             None => self.end_without_row(),
         }
     }
@@ -145,7 +193,7 @@ impl<'a> Cutting<'a> {
             return if rows.has_prechart(&self.row) {
                 self.break_off(self.row.clone(), Reason::NoReadyRegion, Cause::NONE)
             } else {
-                self.drop(Cause::NONE)
+                self.close(Answer::Dropped(Cause::NONE))
             };
         };
         // W20.
@@ -157,27 +205,32 @@ impl<'a> Cutting<'a> {
         if laid.region(failing).hot {
             self.break_off(row[..failing].to_vec(), Reason::ConditionFails, cause)
         } else {
-            self.drop(cause)
+            self.close(Answer::Dropped(cause))
         }
     }
 
-    fn keep(&mut self) -> Answer {
-        self.kept += 1;
-        self.open();
-        Answer::Kept
-    }
-
-    fn drop(&mut self, cause: Cause) -> Answer {
-        self.dropped += 1;
-        self.open();
-        Answer::Dropped(cause)
-    }
-
-    /// Opens another stretch (W15).
-    fn open(&mut self) {
+    /// The last stretch is kept or dropped, and another opens (W15).
+    fn close(&mut self, how: Answer) -> Answer {
+        self.end(how);
         self.opening = self.now;
         self.records.clear();
         self.row.clear();
+        how
+    }
+
+    /// The last stretch ends, with the record accepted last.
+    fn end(&mut self, how: Answer) {
+        let before = self.accepted - self.records.len() as u32;
+        self.ended.push(Ended {
+            opening: self.opening,
+            records: (before + 1, self.accepted),
+            how,
+        });
+    }
+
+    /// How many stretches ended in such a way.
+    fn count(&self, how: impl Fn(&Answer) -> bool) -> u32 {
+        self.ended.iter().filter(|ended| how(&ended.how)).count() as u32
     }
 
     /// W27. The row is what stays fired: T24 for reason 1, T25 for reason 2.
@@ -187,6 +240,7 @@ impl<'a> Cutting<'a> {
             reason,
             cause,
         };
+        self.end(Answer::Broken(known));
         self.broken = Some(known);
         self.row = row;
         Answer::Broken(known)
