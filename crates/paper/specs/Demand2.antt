@@ -15,8 +15,8 @@ use Rattle.rounds.specs.Demand3.{Agrees, Meaning}
 use Rattle.paper.specs.Runs.{Config, Letter, message, silent, delay, initial, _·_, strip, IsCut, shift, successor}
 use Rattle.paper.specs.Runs.{wait, Advance, by, Run, Maximal, Satisfies, Prompt, Over, configAt, configOf, lastOf}
 use Rattle.paper.specs.Runs.{Rising, spelled}
-use Rattle.paper.specs.Taken.{Status, Unmatched, Terminates, MissedIn, Starts, Taken, caseOf, statusOf, Acceptable}
-use Rattle.paper.specs.Taken.{Read}
+use Rattle.paper.specs.Taken.{Status, Unmatched, Terminates, MissedIn, Starts, Taken, caseOf, statusOf}
+use Rattle.paper.specs.Taken.{Acceptable, Read}
 
 module _ (C : Chart) where
   -- S19: the word w satisfies the prechart (n = `prechart`) or the whole chart (n = `regions`), and only silent letters
@@ -53,7 +53,7 @@ module _ (C : Chart) where
     -- dropped or broken exactly if no prompt run takes the word
     pub dropped-or-broken-exactly : SaysDroppedOrBroken a ↔ ((z : Config) → ¬ Reaches o (s ▸ e) z)
 
-  -- S17, S18 of a record that may be offered twice, by the configuration to which a prompt run takes the round before it
+  -- S17, S18 of a record that may be offered twice, by the configuration that a prompt run reaches before it
   pub record DecidedOffered (o : ℕ) (s : Snoc LogRecord) (e : LogRecord) (a : Answer) : Type 0 where
     pub once-decided : ((y : Config) → Reaches o s y → ¬ (MissedIn C y e × Starts C e)) → Decided o s e a
     -- no prompt run takes the word of the round that missed it; the round that starts with it decides

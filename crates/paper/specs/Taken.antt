@@ -73,8 +73,8 @@ module _ (C : Chart) where
   unfoldable pub Blocked : Config → ℕ → Type 0
   Blocked y i = (u : Letter) (z : Config) (a : Advance C y u z) → by C a ≢ some i
 
-  -- S20: from status x, without a break, one offer of a chart message e leads to this status with this answer. If x is at
-  -- rest, e is a chart message in every case: from `moves` to `fails-hot` this follows, since a region has the message.
+  -- S20: from status x, without a break, one offer of record e leads to this status with this answer. If x is at rest,
+  -- e is a chart message in every case: from `moves` to `fails-hot` this follows, since a region has the message.
   pub data Offered (x : Status) (e : LogRecord) : Status → Answer → Type 0 where
     -- a prompt run over the record's word, short of the maximal cut, that does not complete the prechart
     moves : (z : Config) → Over C (x .config) (wordOf x e) z
@@ -102,7 +102,8 @@ module _ (C : Chart) where
         → Offered x e (breaking x e noReadyRegion noCause (wait C (x .config) (ticks x e)))
         (brokenAt (suc (x .tally .records)) noReadyRegion noCause)
 
-  -- T33: a message that no following region has, in a prechart of which a region is in the cut,
+  -- T33: a message that no following region has, in a prechart of which a region is in the cut (that it is a chart
+  -- message, `Starts` implies),
   pub record MissedIn (c : Config) (e : LogRecord) : Type 0 where
     pub unmatched : Unmatched c e
     pub in-prechart : ¬ PrechartDone C (c .cut)
@@ -121,7 +122,8 @@ module _ (C : Chart) where
     -- a chart message is offered to the round,
     once : {y : Status} {a : Answer} → ¬ (MissedIn (x .config) e × Starts e) → Offered x e y a → Taken x e y a
     -- or to the round that opens where it is missed
-    twice : {y : Status} {a : Answer} → MissedIn (x .config) e → Starts e → Offered (reopening x e) e y a → Taken x e y a
+    twice : {y : Status} {a : Answer} → MissedIn (x .config) e → Starts e → Offered (reopening x e) e y a
+        → Taken x e y a
 
   -- which case it is: time passes, or a case in the order above, of the first offer or of the second
   abbrev pub caseOffered : {x : Status} {e : LogRecord} {y : Status} {a : Answer} → Offered x e y a → ℕ

@@ -1,7 +1,6 @@
 -- Every list of feeds has one meaning: it is cut into stretches in one way. Assumes nothing.
 use mathlib.Core.Path.{_≡_, refl, sym, ap, _∙_}
 use mathlib.Core.Logic.{inl, inr}
-use mathlib.Core.Option.{none}
 use mathlib.Core.Bool.{_&&_}
 use Prim.Native.Nat.{ℕ, suc}
 use Rattle.base.specs.Lists.{Snoc, ε, _▸_, size}

@@ -10,7 +10,7 @@ use Rattle.base.specs.Lists.{Snoc, ε, _▸_, size, onFound}
 use Rattle.model.specs.Answers.{mostRecords}
 use Rattle.model.specs.Monitor.{noCause}
 use Rattle.rounds.specs.Chart.{Chart, Accepted}
-use Rattle.rounds.specs.Rows.{LogRecord, Row, stands, chartMessages, opened, Lawful, Full}
+use Rattle.rounds.specs.Rows.{LogRecord, Row, stands, opened, Lawful, Full}
 use Rattle.rounds.specs.Feeds.{lastMoment, refusal, Outcome, kept, dropped, broken, Stretch, Last, unended}
 use Rattle.rounds.specs.Feeds.{afterBreak, lastAfter, Ends, Answer}
 use Rattle.rounds.specs.Feeds.{refused, brokenAt, ending, Onward, runs-on, ends, refuses, once, twice, again, Fed}

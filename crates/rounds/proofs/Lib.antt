@@ -12,5 +12,6 @@ pub mod Stretches
 pub mod Agreeing
 pub mod Exactly
 pub mod Fitness
+pub mod Counts
 pub mod Demand3
 pub mod Tested

@@ -12,23 +12,23 @@ use Rattle.base.specs.Lists.{Snoc, ε, _▸_, each, EachIn}
 use Rattle.model.specs.declared.Cause.{Cause}
 use Rattle.model.specs.Monitor.{causeOf}
 use Rattle.rounds.specs.Chart.{Chart, Accepted}
-use Rattle.rounds.specs.Rows.{LogRecord, Row, stands, chartMessage, chartMessages, plain, messageRegions, Ready}
+use Rattle.rounds.specs.Rows.{LogRecord, Row, stands, chartMessages, plain, messageRegions, Ready}
 use Rattle.rounds.specs.Rows.{clockTest, Placed, LawfulIf, Full, PrechartDone, LawfulBy, LawfulButLastBy}
 use Rattle.rounds.specs.Rows.{firstFailingBy, Lawful, LawfulButLast, firstFailing}
-use Rattle.rounds.specs.Feeds.{Outcome, kept, dropped, broken, Ends, complete, unplaced-main, unplaced-prechart}
-use Rattle.rounds.specs.Feeds.{fails-hot, fails-cold, Answer, droppedNow, moved, ending, Onward}
-use Rattle.rounds.specs.Feeds.{completes-prechart, fires, stays, isDropped, Missed, Fits}
+use Rattle.rounds.specs.Feeds.{Outcome, Ends, complete, unplaced-main, unplaced-prechart, fails-hot, fails-cold}
+use Rattle.rounds.specs.Feeds.{Answer, droppedNow, moved, Onward, completes-prechart, fires, stays, isDropped}
+use Rattle.rounds.specs.Feeds.{Missed, Fits}
 use Rattle.rounds.specs.Machine.{Monitor, Step, goOn, keepRound, dropRound, breakRound, reopened, accept}
 use Rattle.rounds.specs.Demand3.{Unbroken}
 use Rattle.base.proofs.Bools.{split, clash, or-left, or-right, either}
-use Rattle.base.proofs.Facts.{found, none-some, some-same, FailsFirst, pass-or-fail, snoc-same-init, snoc-same-last}
+use Rattle.base.proofs.Facts.{found, none-some, some-same, pass-or-fail, snoc-same-init, snoc-same-last}
 use Rattle.base.proofs.Facts.{empty-snoc}
 use Rattle.rounds.proofs.Machine.{opening-lacks, chart-nonzero, for-is}
 use Rattle.rounds.proofs.Moments.{holds, waived, messageRegions-take, messageRegions-skip}
-use Rattle.rounds.proofs.Rows.{lawful-empty, one-row}
+use Rattle.rounds.proofs.Rows.{lawful-empty}
 use Rattle.rounds.proofs.Rounds.{placeable}
 use Rattle.rounds.proofs.Endings.{Comes, on, keeps, drops, breaks}
-use Rattle.rounds.proofs.Offers.{opens, comes-unbroken, reopened-unbroken, accept-twice}
+use Rattle.rounds.proofs.Offers.{comes-unbroken, reopened-unbroken, accept-twice}
 
 module _ (C : Chart) where
   -- a message region of a row has one of the row's messages

@@ -2,7 +2,7 @@
 use mathlib.Core.Path.{_≡_}
 use mathlib.Core.Logic.{_⊎_}
 use mathlib.Core.Option.{none}
-use Prim.Native.Nat.{ℕ}
+use Prim.Native.Nat.{ℕ, _+_, _≤_}
 use Rattle.base.specs.Lists.{Snoc, _▸_, size, EachIn, Beginning}
 use Rattle.model.specs.declared.Cause.{Cause}
 use Rattle.model.specs.Monitor.{noCause}
@@ -107,3 +107,5 @@ pub record Demand3 (C : Chart) : Type 0 where
       → (m .tally ≡ after C fs .tally) × ((o : ℕ) (s : Snoc LogRecord) → M .last ≡ unended o s → m ≡ after C fs)
   -- W29: the monitor is always fit, so that refusal 21 never occurs
   pub stays-fit : (fs : Snoc LogRecord) → Fit C (after C fs)
+  -- W31: a record starts one stretch at most; so no more stretches have ended than records came
+  pub few-rounds : (fs : Snoc LogRecord) → let x = after C fs .tally in x .kept + x .dropped ≤ x .records

@@ -37,8 +37,8 @@ pub data Outcome : Type 0 where
   dropped : Cause → Outcome
   broken : ℕ → Cause → Outcome
 
--- A stretch that has ended: the moment of its opening, its records, its outcome. Its last record may be the first of the
--- next stretch too (W31).
+-- A stretch that has ended: the moment of its opening, its records, its outcome. Its last record may be the next
+-- stretch's first (W31).
 pub record Stretch : Type 0 where
   pub opening : ℕ
   pub records : Snoc LogRecord
@@ -115,7 +115,7 @@ module _ (C : Chart) (T : Test) where
     pub in-prechart : ¬ PrechartDone C (stands row)
     pub unplaced : (r : Row) → ¬ LawfulButLastBy C T o s e r
 
-  -- W31: a chart message that a stretch could start with: opened at its time, with its conditions waived, there is a row
+  -- W31: a chart message that could start a stretch: opened at its time, with its conditions waived, it has a row
   pub record FitsBy (e : LogRecord) : Type 0 where
     pub is-message : So (chartMessage C e)
     pub row : Row
@@ -197,7 +197,8 @@ pub record ExactlyBy (C : Chart) (T : Test) (o : ℕ) (s : Snoc LogRecord) (e : 
   pub dropped-or-broken-exactly : SaysDroppedOrBroken a ↔ NoRowBy C T o (s ▸ e)
 
 -- W24 and W31, of a record that two stretches may share
-pub record ExactlyOfferedBy (C : Chart) (T : Test) (o : ℕ) (s : Snoc LogRecord) (e : LogRecord) (a : Answer) : Type 0 where
+pub record ExactlyOfferedBy (C : Chart) (T : Test) (o : ℕ) (s : Snoc LogRecord) (e : LogRecord) (a : Answer)
+    : Type 0 where
   pub once-exactly : ¬ (MissedBy C T o s e × FitsBy C T e) → ExactlyBy C T o s e a
   -- the stretch before has no lawful row any more, and the answer is that of the stretch which starts with e
   pub twice-exactly : MissedBy C T o s e → FitsBy C T e → NoRowBy C T o (s ▸ e) × ExactlyBy C T (e .time) ε e a

@@ -15,13 +15,12 @@ use Rattle.base.specs.Lists.{first, someBelow}
 use Rattle.rounds.specs.Chart.{Chart}
 use Rattle.rounds.specs.Rows.{LogRecord, chartMessage, Ready}
 use Rattle.rounds.specs.Feeds.{quiet}
-use Rattle.rounds.specs.Machine.{Monitor as AbstractMonitor, Step, readyFor, takeMessage, goOn, conclude, accept}
+use Rattle.rounds.specs.Machine.{readyFor, takeMessage, goOn, conclude, accept}
 use Rattle.base.proofs.Bools.{split, and-left}
 use Rattle.base.proofs.Facts.{found, first-some}
 use Rattle.rounds.proofs.Machine.{for-some}
 use Rattle.rounds.proofs.Offers.{accept-quiet, accept-ready}
 use Rattle.layout.specs.declared.Head.{Head}
-use Rattle.firing.specs.declared.Sought.{Sought}
 use Rattle.firing.specs.declared.Sought.the-variants.{Ready as ReadyAt, Unready, Foreign}
 use Rattle.stepping.specs.Monitors.{monitorAt, recordOf}
 use Rattle.layout.specs.View.{planChart, Compiled}
