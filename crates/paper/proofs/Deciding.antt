@@ -9,13 +9,13 @@ use Rattle.base.specs.Lists.{Snoc, _▸_}
 use Rattle.rounds.specs.Chart.{Chart, Accepted}
 use Rattle.rounds.specs.Rows.{LogRecord, Row, stands, chartMessage, chartMessages, Lawful, Full, PrechartDone}
 use Rattle.rounds.specs.Rows.{NoRowBy, NoRow}
-use Rattle.rounds.specs.Feeds.{Answer, entered, Onward, completes-prechart, fires, stays, Exactly}
+use Rattle.rounds.specs.Feeds.{Answer, entered, Onward, completes-prechart, fires, stays}
 use Rattle.rounds.specs.Machine.{Place, Monitor, Step, goOn, keepRound, dropRound, breakRound}
 use Rattle.base.proofs.Bools.{split}
 use Rattle.rounds.proofs.Moments.{chartMessages-take, chartMessages-skip}
 use Rattle.rounds.proofs.Rows.{lawful-before, one-row}
 use Rattle.rounds.proofs.Rounds.{placeOf}
-use Rattle.rounds.proofs.Endings.{ended, Comes, on, keeps, drops, breaks}
+use Rattle.rounds.proofs.Endings.{Exactly, ended, Comes, on, keeps, drops, breaks}
 use Rattle.paper.specs.Runs.{Config, Letter, delay, message, initial, Maximal, Over, configAt, configOf, lastOf}
 use Rattle.paper.specs.Runs.{Rising, spelled}
 use Rattle.paper.specs.Demand2.{CompletedBy, Reaches, Decided}

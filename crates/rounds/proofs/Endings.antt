@@ -16,7 +16,8 @@ use Rattle.rounds.specs.Rows.{Full, LawfulButLast, firstFailing}
 use Rattle.rounds.specs.Rows.{clockTest, LawfulBy, NoRowBy}
 use Rattle.rounds.specs.Feeds.{noReadyRegion, conditionFails, Outcome, kept, dropped, broken, Ends, complete}
 use Rattle.rounds.specs.Feeds.{unplaced-main, unplaced-prechart, fails-hot, fails-cold, Answer, entered, moved}
-use Rattle.rounds.specs.Feeds.{Stretch, Last, GoesBy, FedOneBy, quiet, Onward, completes-prechart, fires, stays, isKept}
+use Rattle.rounds.specs.Feeds.{Stretch, Last, GoesBy, FedOneBy, ExactlyBy, quiet, Onward, completes-prechart}
+use Rattle.rounds.specs.Feeds.{fires, stays, isKept}
 use Rattle.rounds.specs.Machine.{Place, Move, takeMessage, Monitor, Step, prechartDone, full, goOn, keepRound}
 use Rattle.rounds.specs.Machine.{dropRound, breakRound, conclude, offer}
 use Rattle.base.proofs.Bools.{split}
@@ -35,6 +36,10 @@ FedOne C = FedOneBy C (clockTest C)
 abbrev pub Goes
     : Chart → ℕ → Snoc LogRecord → LogRecord → ℕ → Snoc Stretch → Answer → Snoc Stretch → Last → Type 0
 Goes C = GoesBy C (clockTest C)
+
+-- what an answer says of the rows, with the same tests
+abbrev pub Exactly : Chart → ℕ → Snoc LogRecord → LogRecord → Answer → Type 0
+Exactly C = ExactlyBy C (clockTest C)
 
 -- from one row to another there is one answer
 pub onward-same : {C : Chart} {q r : Row} {a b : Answer} → Onward C q r a → Onward C q r b → a ≡ b

@@ -12,11 +12,11 @@ use Rattle.rounds.specs.Rows.{LogRecord, Row, stands, Lawful, NoRow, Ful
 use Rattle.rounds.specs.Rows.{NoRowBy}
 use Rattle.rounds.specs.Feeds.{refusal, kept, unended, Ends, complete, Answer, refused, brokenAt, keptNow}
 use Rattle.rounds.specs.Feeds.{droppedNow, entered, moved, quiet, Onward, completes-prechart, fires, stays}
-use Rattle.rounds.specs.Feeds.{SaysRunsOn, SaysDroppedOrBroken, Missed, Fits, Exactly, ExactlyOffered}
+use Rattle.rounds.specs.Feeds.{SaysRunsOn, SaysDroppedOrBroken, Missed, Fits, ExactlyOffered}
 use Rattle.rounds.specs.Machine.{Monitor, Step, goOn, keepRound, dropRound, breakRound, reopened, feed, after}
 use Rattle.rounds.specs.Demand3.{Unbroken, AtLast, Agrees, Meaning}
 use Rattle.rounds.proofs.Rows.{one-row}
-use Rattle.rounds.proofs.Endings.{none-placed, unlawful, Comes, on, keeps, drops, breaks}
+use Rattle.rounds.proofs.Endings.{Exactly, none-placed, unlawful, Comes, on, keeps, drops, breaks}
 use Rattle.rounds.proofs.Offers.{comes-unbroken, reopened-unbroken, accept-once, accept-twice}
 use Rattle.rounds.proofs.Second.{second-answer}
 use Rattle.rounds.proofs.Feeds.{feed-unbroken, besides-opened, Besides, besides, agrees}

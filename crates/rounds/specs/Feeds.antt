@@ -67,7 +67,7 @@ module _ (C : Chart) (T : Test) where
     unplaced-prechart : (q : Row) → ((r : Row) → ¬ LawfulButLastBy C T o s e r)
         → LawfulBy C T o s q → ¬ PrechartDone C (stands q) → EndsBy o s e (dropped noCause)
     -- W20: there is a row with those waived, and the leftmost condition that fails in it is hot, or cold. In all four
-    -- cases no row is lawful: that follows, and `Exactly.dropped-or-broken-exactly` claims it.
+    -- cases no row is lawful: that follows, and `ExactlyBy.dropped-or-broken-exactly` claims it.
     fails-hot : (r : Row) (i term : ℕ) → LawfulButLastBy C T o s e r
         → firstFailingBy C T o (chartMessages C (s ▸ e)) r ≡ some (causeOf i term) → So (C .hot i)
         → EndsBy o s e (broken conditionFails (causeOf i term))
@@ -203,9 +203,5 @@ pub record ExactlyOfferedBy (C : Chart) (T : Test) (o : ℕ) (s : Snoc LogRecord
   -- the stretch before has no lawful row any more, and the answer is that of the stretch which starts with e
   pub twice-exactly : MissedBy C T o s e → FitsBy C T e → NoRowBy C T o (s ▸ e) × ExactlyBy C T (e .time) ε e a
 
-module _ (C : Chart) where
-  abbrev pub Exactly : ℕ → Snoc LogRecord → LogRecord → Answer → Type 0
-  Exactly = ExactlyBy C (clockTest C)
-
-  abbrev pub ExactlyOffered : ℕ → Snoc LogRecord → LogRecord → Answer → Type 0
-  ExactlyOffered = ExactlyOfferedBy C (clockTest C)
+abbrev pub ExactlyOffered : Chart → ℕ → Snoc LogRecord → LogRecord → Answer → Type 0
+ExactlyOffered C = ExactlyOfferedBy C (clockTest C)
