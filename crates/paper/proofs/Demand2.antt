@@ -7,7 +7,7 @@ use Rattle.paper.proofs.Unique.{one-prompt}
 use Rattle.paper.proofs.Words.{delay-shifts, no-delay, no-step, no-advancement, not-silent, no-message}
 use Rattle.paper.proofs.Words.{no-synchronization, step-follows, hot-stays, holding-stays, main-in-cut}
 use Rattle.paper.proofs.Satisfying.{satisfied-exactly, completed-whole, main-starts}
-use Rattle.paper.proofs.Taking.{same-monitor, given, only}
+use Rattle.paper.proofs.Taking.{same-monitor, given, only, second-answered}
 use Rattle.paper.proofs.Reading.{all-given, all-only, as-rows}
 use Rattle.paper.proofs.Chains.{row-is-prompt, prompt-is-row}
 use Rattle.paper.proofs.Wholes.{monitor-is-cut, round-is-prompt, kept-satisfies, entered-satisfies, decided}
@@ -18,6 +18,7 @@ demand-2 C A = record {
   given = given C A;
   stays-fit = λ m e P. feed-fit C A m e (P .fit);
   only = only C A;
+  second-offer = second-answered C A;
   faithful = same-monitor C;
   all-given = all-given C A;
   all-only = all-only C A;

@@ -1,22 +1,24 @@
 -- Feeding an acceptable record does just what the source's steps do (S20), and these give nothing else: it is offered
 -- once, or twice, just where `Taken` says so. And a fit monitor can be had back from its status. Assumes nothing.
 use mathlib.Core.Path.{_≡_, sym, ap, _∙_, subst, fun-ext}
-use mathlib.Core.Logic.{inl, inr}
+use mathlib.Core.Logic.{_⊎_, inl, inr}
 use mathlib.Core.Bool.{false, cond, So, _&&_}
 use Prim.Native.Nat.{ℕ, _+_, _-_}
 use native.Mathlib.Omega.{arith}
 use lib.Dec.{ltb}
 use borrow.Author.Tests.{eq-eqb, ltb-false, le-ltb, lt-leb}
+use Rattle.model.specs.declared.Cause.{Cause}
 use Rattle.model.specs.Answers.{mostRecords}
 use Rattle.rounds.specs.Chart.{Chart, Accepted}
 use Rattle.rounds.specs.Rows.{LogRecord, chartMessage, values, opened}
 use Rattle.rounds.specs.Tally.{reopenedTally}
-use Rattle.rounds.specs.Feeds.{Answer, quiet}
+use Rattle.rounds.specs.Feeds.{Answer, droppedNow, moved, quiet}
 use Rattle.rounds.specs.Machine.{takeMessage, opening, Monitor, Step, goOn, offer, missed, fitsOpening, reopened, accept, feed}
 use Rattle.rounds.specs.Machine.{Fit}
 use Rattle.base.proofs.Bools.{split, clash}
 use Rattle.rounds.proofs.Machine.{opening-settled}
 use Rattle.rounds.proofs.Offers.{accept-quiet}
+use Rattle.rounds.proofs.Second.{second-answer}
 use Rattle.paper.specs.Runs.{Config, AtRest, configAt}
 use Rattle.paper.specs.Taken.{Status, onward, reopening, Offered, caseOffered, MissedIn, Starts, Taken, passes}
 use Rattle.paper.specs.Taken.{once, twice, caseOf, statusOf, Acceptable}
@@ -159,3 +161,9 @@ module _ (C : Chart) (A : Accepted C) where
   only m e P y a T =
       let I : (y ≡ statusOf C (feed C m e .next)) × (a ≡ feed C m e .answer) = rw (accepts C m e P) (is m e P T) in
       (I .0, I .1, numbered m e P T ∙ ap (number C m e) (I .1) ∙ sym (numbered m e P (given m e P)))
+
+  pub second-answered : (m : Monitor) (e : LogRecord) → Acceptable C m e → MissedIn C (statusOf C m .config) e
+      → Starts C e
+      → let a = feed C m e .answer in (a ≡ moved) ⊎ ((x : Cause) × (a ≡ droppedNow x))
+  second-answered m e P M S =
+      rw (accepts C m e P) (second-answer C A m e (P .fit) (P .unbroken) (tests-twice m e P M S))

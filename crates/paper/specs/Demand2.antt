@@ -1,7 +1,7 @@
 -- The second demand, of one chart: feeding gives just what the source's steps give (S20), for one record and for every
 -- list of feeds; the rounds are its prompt runs, and these decide the answers (S16 to S19).
 use mathlib.Core.Path.{_≡_}
-use mathlib.Core.Logic.{_≢_, _↔_}
+use mathlib.Core.Logic.{_≢_, _↔_, _⊎_}
 use mathlib.Core.Bool.{Bool, false, So}
 use mathlib.Core.Option.{none, some}
 use Prim.Native.Nat.{ℕ, _≤_}
@@ -9,7 +9,8 @@ use Rattle.base.specs.Lists.{Snoc, ε, _▸_}
 use Rattle.model.specs.declared.Cause.{Cause}
 use Rattle.rounds.specs.Chart.{Chart, conditionOf}
 use Rattle.rounds.specs.Rows.{LogRecord, Row, plain, chartMessages, Ready, Full, PrechartDone, Lawful}
-use Rattle.rounds.specs.Feeds.{refusal, unended, Answer, keptNow, brokenAt, entered, SaysRunsOn, SaysDroppedOrBroken}
+use Rattle.rounds.specs.Feeds.{refusal, unended, Answer, keptNow, droppedNow, brokenAt, entered, moved, SaysRunsOn}
+use Rattle.rounds.specs.Feeds.{SaysDroppedOrBroken}
 use Rattle.rounds.specs.Machine.{Monitor, feed, after, answers, Fit}
 use Rattle.rounds.specs.Demand3.{Agrees, Meaning}
 use Rattle.paper.specs.Runs.{Config, Letter, message, silent, delay, initial, _·_, strip, IsCut, shift, successor}
@@ -108,6 +109,9 @@ pub record Demand2 (C : Chart) : Type 0 where
   pub only : (m : Monitor) (e : LogRecord) (P : Acceptable C m e) (y : Status) (a : Answer)
       (T : Taken C (statusOf C m) e y a)
       → (y ≡ statusOf C (feed C m e .next)) × (a ≡ feed C m e .answer) × (caseOf C T ≡ caseOf C (given m e P))
+  -- T34: the second offer of a record is answered moved or dropped, and nothing else
+  pub second-offer : (m : Monitor) (e : LogRecord) → Acceptable C m e → MissedIn C (statusOf C m .config) e → Starts C e
+      → let a = feed C m e .answer in (a ≡ moved) ⊎ ((x : Cause) × (a ≡ droppedNow x))
   -- a status fixes its fit monitor: no clock and no fired region is lost
   pub faithful : (m m′ : Monitor) → Fit C m → Fit C m′ → statusOf C m ≡ statusOf C m′ → m ≡ m′
   -- the same of whole lists, refused feeds included

@@ -17,7 +17,8 @@ use Rattle.rounds.specs.Machine.{Monitor, Step, goOn, keepRound, dropRou
 use Rattle.rounds.specs.Demand3.{Unbroken, AtLast, Agrees, Meaning}
 use Rattle.rounds.proofs.Rows.{one-row}
 use Rattle.rounds.proofs.Endings.{Exactly, none-placed, unlawful, Comes, on, keeps, drops, breaks}
-use Rattle.rounds.proofs.Offers.{comes-unbroken, reopened-unbroken, accept-once, accept-twice}
+use Rattle.rounds.proofs.Offers.{comes-unbroken, reopened-unbroken, both-are, accept-once, accept-twice}
+use Rattle.rounds.proofs.Fitness.{after-fit}
 use Rattle.rounds.proofs.Second.{second-answer}
 use Rattle.rounds.proofs.Feeds.{feed-unbroken, besides-opened, Besides, besides, agrees}
 
@@ -121,4 +122,4 @@ module _ (C : Chart) (A : Accepted C) where
       let m = after C fs in
       let G : Agrees C (M .accepted) (M .stretches) (unended o s) m = rw p at (agrees C A (M .fed) .1) in
       let T : Unbroken C o s m = G .at-last in
-      rw (feed-unbroken C m e G, h) (second-answer C A e m T D F)
+      rw (feed-unbroken C m e G, h) (second-answer C A m e (after-fit C A fs) (T .no-break) (both-are C A e m T D F))

@@ -2,33 +2,34 @@
 -- so does every row of the record alone: it completes neither half, and reaches no hot region. Assumes nothing.
 use mathlib.Core.Path.{_≡_, refl, sym, ap, _∙_}
 use mathlib.Core.Logic.{_≢_, _⊎_, inl, inr}
-use mathlib.Core.Bool.{Bool, false, So, false≢true}
+use mathlib.Core.Bool.{Bool, false, not, So, _&&_, false≢true}
 use mathlib.Core.Option.{some}
 use Prim.Native.Nat.{ℕ, _<_}
 use native.Mathlib.Omega.{arith}
 use lib.Dec.{eqb, ltb}
-use borrow.Author.Tests.{eqb-true, eq-eqb, ltb-true, ltb-false}
-use Rattle.base.specs.Lists.{Snoc, ε, _▸_, each, EachIn}
+use borrow.Author.Tests.{eqb-true, eq-eqb, ltb-true, ltb-false, not-true}
+use Rattle.base.specs.Lists.{Snoc, ε, _▸_, each, EachIn, someBelow, isFound}
 use Rattle.model.specs.declared.Cause.{Cause}
 use Rattle.model.specs.Monitor.{causeOf}
 use Rattle.rounds.specs.Chart.{Chart, Accepted}
-use Rattle.rounds.specs.Rows.{LogRecord, Row, stands, chartMessages, plain, messageRegions, Ready}
+use Rattle.rounds.specs.Rows.{LogRecord, Row, stands, chartMessage, chartMessages, plain, messageRegions, Ready}
 use Rattle.rounds.specs.Rows.{clockTest, Placed, LawfulIf, Full, PrechartDone, LawfulBy, LawfulButLastBy}
 use Rattle.rounds.specs.Rows.{firstFailingBy, Lawful, LawfulButLast, firstFailing}
 use Rattle.rounds.specs.Feeds.{Outcome, Ends, complete, unplaced-main, unplaced-prechart, fails-hot, fails-cold}
 use Rattle.rounds.specs.Feeds.{Answer, droppedNow, moved, Onward, completes-prechart, fires, stays, isDropped}
-use Rattle.rounds.specs.Feeds.{Missed, Fits}
-use Rattle.rounds.specs.Machine.{Monitor, Step, goOn, keepRound, dropRound, breakRound, reopened, accept}
+use Rattle.rounds.specs.Feeds.{Fits}
+use Rattle.rounds.specs.Tally.{noBreak}
+use Rattle.rounds.specs.Machine.{Monitor, Step, readyFor, opening, prechartDone, goOn, keepRound, dropRound}
+use Rattle.rounds.specs.Machine.{breakRound, missed, fitsOpening, reopened, accept, Fit}
 use Rattle.rounds.specs.Demand3.{Unbroken}
-use Rattle.base.proofs.Bools.{split, clash, or-left, or-right, either}
+use Rattle.base.proofs.Bools.{split, clash, and-left, and-right, or-left, or-right, either}
 use Rattle.base.proofs.Facts.{found, none-some, some-same, pass-or-fail, snoc-same-init, snoc-same-last}
 use Rattle.base.proofs.Facts.{empty-snoc}
-use Rattle.rounds.proofs.Machine.{opening-lacks, chart-nonzero, for-is}
+use Rattle.rounds.proofs.Machine.{opening-lacks, done-false, for-none}
 use Rattle.rounds.proofs.Moments.{holds, waived, messageRegions-take, messageRegions-skip}
 use Rattle.rounds.proofs.Rows.{lawful-empty}
-use Rattle.rounds.proofs.Rounds.{placeable}
 use Rattle.rounds.proofs.Endings.{Comes, on, keeps, drops, breaks}
-use Rattle.rounds.proofs.Offers.{comes-unbroken, reopened-unbroken, accept-twice}
+use Rattle.rounds.proofs.Offers.{found-none, opens-unbroken, comes-unbroken, fits-of}
 
 module _ (C : Chart) where
   -- a message region of a row has one of the row's messages
@@ -96,26 +97,29 @@ module _ (C : Chart) (A : Accepted C) where
     is-message : plain C region ≡ false
     of-another : C .key region ≢ e .code
 
-  lacking : (o : ℕ) (s : Snoc LogRecord) (e : LogRecord) → Missed C o s e → Fits C e → Lacking e
-  unfolding PrechartDone LawfulBy
-  lacking o s e M F = elim (pass-or-fail (C .prechart) (stands (M .row))) [
-    | inl d ↦ absurd (M .in-prechart d)
-    | inr (i, L) ↦
-        let R : Ready C (stands (M .row)) i = record {
-          region = omega (arith, L .below, A .has-main);
-          unfired = L .fails;
-          under = λ a b. L .before a (A .downward a i b);
-        } in
-        record {
-          region = i;
-          in-prechart = L .below;
-          is-message = elim (split (plain C i)) [ inl p ↦ absurd (M .lawful .settled i p R) | inr p ↦ p ];
-          of-another = λ k.
-              let W = placeable C A o s e (F .is-message) (M .row) (M .lawful) i
-              (for-is C A (stands (M .row)) e i R k (chart-nonzero C e (F .is-message))) in
-              M .unplaced (W .0) (W .1);
-        }
-  ]
+  lacking : (m : Monitor) (e : LogRecord) → Fit C m → m .tally .broken .at ≡ 0 → So (missed C m e) → Lacking e
+  unfolding PrechartDone missed
+  lacking m e F b h =
+      let h₁ = and-right (chartMessage C e) _ h in
+      let h₂ = and-right (not (prechartDone C (m .place .fired))) _ h₁ in
+      let h₃ = and-right (someBelow (C .regions) (m .place .fired)) _ h₂ in
+      let n = found-none (readyFor C (m .place .fired) e) (not-true (isFound (readyFor C (m .place .fired) e)) h₃) in
+      elim (pass-or-fail (C .prechart) (m .place .fired)) [
+        | inl d ↦ absurd (done-false C (m .place .fired) (not-true (prechartDone C (m .place .fired))
+            (and-left (not (prechartDone C (m .place .fired))) _ h₁)) d)
+        | inr (i, L) ↦
+            let R : Ready C (m .place .fired) i = record {
+              region = omega (arith, L .below, A .has-main);
+              unfired = L .fails;
+              under = λ a b. L .before a (A .downward a i b);
+            } in
+            record {
+              region = i;
+              in-prechart = L .below;
+              is-message = elim (split (plain C i)) [ inl p ↦ absurd (F .settled b i p R) | inr p ↦ p ];
+              of-another = for-none C A (m .place .fired) e i n R;
+            }
+      ]
 
   module _ (e : LogRecord) (F : Fits C e) (K : Lacking e) where
     lacks : (ok : Row → ℕ → Bool) (r : Row) → LawfulIf C ok (ε ▸ e) r → ¬ So (stands r (K .region))
@@ -170,19 +174,23 @@ module _ (C : Chart) (A : Accepted C) where
     comes-so (drops x E) = inr (x, refl)
     comes-so (breaks k x d E) = absurd (false≢true (ends-dropped E))
 
-  -- the stretch of a second offer has no row with every region or every prechart region
-  pub second-lacks : (o : ℕ) (s : Snoc LogRecord) (e : LogRecord) → Missed C o s e → Fits C e → (r : Row)
-      → Lawful C (e .time) (ε ▸ e) r
-      → (¬ Full C (stands r)) × (¬ PrechartDone C (stands r))
-  second-lacks o s e M F r L =
-      let K : Lacking e = lacking o s e M F in
-      (lacks-some e F K r L, lacks-prechart e F K r L)
+  -- a fit monitor without a break has no reason and no cause
+  unbroken-fit : (m : Monitor) → Fit C m → m .tally .broken .at ≡ 0 → m .tally .broken ≡ noBreak
+  unbroken-fit m F b = elim (F .break-fits) [
+    | inl (p, q, r) ↦ λ i. record { at = p i; reason = q i; cause = r i }
+    | inr (p, q, r) ↦ absurd (omega (arith, p, b))
+  ]
 
-  pub second-answer : {o : ℕ} {s : Snoc LogRecord} (e : LogRecord) (m : Monitor) → Unbroken C o s m → Missed C o s e
-      → Fits C e
+  pub second-answer : (m : Monitor) (e : LogRecord) → Fit C m → m .tally .broken .at ≡ 0
+      → So (missed C m e && fitsOpening C e)
       → (accept C m e .answer ≡ moved) ⊎ ((x : Cause) × (accept C m e .answer ≡ droppedNow x))
-  second-answer {o} {s} e m T M F =
-      let R : Unbroken C (e .time) ε (reopened C m e) = reopened-unbroken C A e m T in
+  unfolding accept missed reopened opening
+  second-answer m e F b t =
+      let h : So (missed C m e) = and-left (missed C m e) (fitsOpening C e) t in
+      let G : Fits C e = fits-of C A e (and-left (chartMessage C e) _ h)
+      (and-right (missed C m e) (fitsOpening C e) t) in
+      let R : Unbroken C (e .time) ε (reopened C m e) = opens-unbroken C A (e .time) (reopened C m e) refl refl
+      (unbroken-fit m F b) in
       let w : R .row ≡ ε = lawful-empty C A (e .time) (R .row) (R .lawful) in
-      rw (accept-twice C A e m T M F) (comes-so e F (lacking o s e M F)
+      rw t (comes-so e G (lacking m e F b h)
       (comes-unbroken C A e (reopened C m e) R (rw w (opening-lacks C A))))
