@@ -1,7 +1,7 @@
 -- Facts on searches, on the lowest number that passes a test, and on lists that grow at their end. Assumes nothing.
 use mathlib.Core.Path.{_≡_, refl, sym, ap, _∙_}
 use mathlib.Core.Logic.{_⊎_, inl, inr}
-use mathlib.Core.Bool.{Bool, false, not, So, _||_}
+use mathlib.Core.Bool.{Bool, false, not, So, _||_, true≢false, false≢true}
 use mathlib.Core.Option.{Option, none, some}
 use Prim.Native.Nat.{ℕ, zero, suc, _+_, _≤_, _<_}
 use native.Mathlib.Nat.{not-suc-le-zero}
@@ -10,7 +10,7 @@ use native.Mathlib.Decide.{decLt, ℕ-discrete}
 use lib.Dec.{eqb, ltb}
 use borrow.Author.Tests.{eq-eqb, ne-eqb, lt-ltb, le-ltb, not-true, not-false}
 use Rattle.base.proofs.Bools.{split, clash, and-both, and-left, and-right}
-use Rattle.base.specs.Lists.{Snoc, ε, _▸_, size, each, allBelow, countBelow, first, failsAt}
+use Rattle.base.specs.Lists.{Snoc, ε, _▸_, size, each, allBelow, countBelow, first, isFound, failsAt}
 
 -- a search's value, with the equation
 pub found : {A : Type 0} (o : Option A) → (o ≡ none) ⊎ ((a : A) × (o ≡ some a))
@@ -22,6 +22,14 @@ none-some p q = absurd (let z : _≡_ {A = ℕ} 0 1 = cc in omega arith)
 
 pub some-same : {A : Type 0} {o : Option A} {a b : A} → o ≡ some a → o ≡ some b → a ≡ b
 some-same p q = cc
+
+pub found-none : {A : Type 0} (o : Option A) → isFound o ≡ false → o ≡ none
+found-none none h = refl
+found-none (some a) h = absurd (true≢false h)
+
+pub found-some : {A : Type 0} (o : Option A) → So (isFound o) → (a : A) × (o ≡ some a)
+found-some none h = absurd (false≢true h)
+found-some (some a) h = (a, refl)
 
 -- i is the lowest number below k that passes
 pub record Lowest (k : ℕ) (t : ℕ → Bool) (i : ℕ) : Type 0 where

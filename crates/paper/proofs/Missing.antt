@@ -2,20 +2,16 @@
 -- `Starts`. Assumes nothing.
 use mathlib.Core.Path.{_≡_}
 use mathlib.Core.Logic.{inl, inr}
-use mathlib.Core.Bool.{Bool, false, not, So, _&&_}
-use mathlib.Core.Option.{none}
+use mathlib.Core.Bool.{Bool, false, So, _&&_}
 use Prim.Native.Nat.{ℕ, _<_}
-use borrow.Author.Tests.{not-true}
-use Rattle.base.specs.Lists.{someBelow, isFound}
 use Rattle.rounds.specs.Chart.{Chart, Accepted}
 use Rattle.rounds.specs.Rows.{LogRecord, chartMessage, plain}
-use Rattle.rounds.specs.Machine.{Monitor, readyFor, prechartDone, missed, fitsOpening}
+use Rattle.rounds.specs.Machine.{Monitor, readyFor, missed, fitsOpening}
 use Rattle.base.proofs.Bools.{split, and-both, and-left, and-right}
-use Rattle.base.proofs.Facts.{found}
+use Rattle.base.proofs.Facts.{found, found-some}
 use Rattle.base.proofs.Loops.{one-passes, some-at}
-use Rattle.rounds.proofs.Machine.{done-false, done-is-not, opening-settled, chart-nonzero, is-chart, for-some}
-use Rattle.rounds.proofs.Machine.{for-none, for-is}
-use Rattle.rounds.proofs.Offers.{found-none, found-some}
+use Rattle.rounds.proofs.Machine.{opening-settled, chart-nonzero, is-chart, for-some, for-none, for-is}
+use Rattle.rounds.proofs.Offers.{missed-parts, parts-missed}
 use Rattle.paper.specs.Runs.{configAt}
 use Rattle.paper.specs.Taken.{Unmatched, MissedIn, Starts}
 
@@ -44,27 +40,28 @@ module _ (C : Chart) (A : Accepted C) (e : LogRecord) where
     here = m .place .fired
 
     missed-of : So (missed C m e) → MissedIn C (configAt C t (m .place)) e
-    unfolding missed Unmatched configAt
+    unfolding Unmatched configAt
     missed-of h =
-        let h₁ = and-right (chartMessage C e) _ h in
-        let h₂ = and-right (not (prechartDone C here)) _ h₁ in
-        let h₃ = and-right (someBelow (C .regions) here) _ h₂ in
-        let n : readyFor C here e ≡ none = found-none (readyFor C here e) (not-true (isFound (readyFor C here e)) h₃) in
+        let P = missed-parts C m e h in
         record {
-          unmatched = λ s R. for-none C A here e s n R;
-          in-prechart = done-false C here
-              (not-true (prechartDone C here) (and-left (not (prechartDone C here)) _ h₁));
-          fired-before = some-at (C .regions) here (and-left (someBelow (C .regions) here) _ h₂);
+          unmatched = λ s R. for-none C A here e s (P .unready) R;
+          in-prechart = P .in-prechart;
+          fired-before = some-at (C .regions) here (P .started);
         }
 
     of-missed : ((i : ℕ) → So (here i) → i < C .regions) → So (chartMessage C e)
         → MissedIn C (configAt C t (m .place)) e → So (missed C m e)
-    unfolding missed Unmatched configAt
+    unfolding Unmatched configAt
     of-missed w c M = elim (found (readyFor C here e)) [
       | inl n ↦
           let i : ℕ = M .fired-before .0 in
           let b : So (here i) = M .fired-before .1 in
-          rw (c, done-is-not C here (M .in-prechart), one-passes here i (C .regions) (w i b) b, n)
+          parts-missed C m e (record {
+            message = c;
+            in-prechart = M .in-prechart;
+            started = one-passes here i (C .regions) (w i b) b;
+            unready = n;
+          })
       | inr f ↦
           let R = for-some C A here e (f .0) (f .1) in
           absurd (M .unmatched (f .0) (R .0) (R .1))

@@ -10,13 +10,13 @@ use borrow.Author.Tests.{eq-eqb, ltb-false, le-ltb, lt-leb}
 use Rattle.model.specs.declared.Cause.{Cause}
 use Rattle.model.specs.Answers.{mostRecords}
 use Rattle.rounds.specs.Chart.{Chart, Accepted}
-use Rattle.rounds.specs.Rows.{LogRecord, chartMessage, values, opened}
+use Rattle.rounds.specs.Rows.{LogRecord, chartMessage, values}
 use Rattle.rounds.specs.Tally.{reopenedTally}
 use Rattle.rounds.specs.Feeds.{Answer, droppedNow, moved, quiet}
 use Rattle.rounds.specs.Machine.{takeMessage, opening, Monitor, Step, goOn, offer, missed, fitsOpening, reopened, accept, feed}
 use Rattle.rounds.specs.Machine.{Fit}
 use Rattle.base.proofs.Bools.{split, clash}
-use Rattle.rounds.proofs.Machine.{opening-settled}
+use Rattle.rounds.proofs.Machine.{opened-late, opening-settled}
 use Rattle.rounds.proofs.Offers.{accept-quiet}
 use Rattle.rounds.proofs.Second.{second-answer}
 use Rattle.paper.specs.Runs.{Config, AtRest, configAt}
@@ -86,9 +86,9 @@ module _ (C : Chart) (A : Accepted C) where
     first-offer = record { moments = P .fit .moments; forward = P .forward; at-rest = P .fit .settled (P .unbroken) }
 
     second-offer : Offerable C (reopened C m e) e
-    unfolding reopened opening opened AtRest
+    unfolding reopened opening AtRest
     second-offer = record {
-      moments = λ c. elim (split (ltb c (C .clocks))) [ inl t ↦ rw t (omega arith) | inr t ↦ rw t (omega arith) ];
+      moments = opened-late C (e .time);
       forward = omega arith;
       at-rest = opening-settled C A;
     }

@@ -15,8 +15,9 @@ use Rattle.rounds.specs.Feeds.{Answer}
 use Rattle.rounds.specs.Machine.{Place, Monitor, fresh, Step, Move, stuck, fails, rests, takeMessage, opening, full}
 use Rattle.rounds.specs.Machine.{prechartDone, goOn, keepRound, dropRound, breakRound, conclude, offer, missed}
 use Rattle.rounds.specs.Machine.{fitsOpening, reopened, accept, feed, after}
-use Rattle.base.proofs.Bools.{split, clash, and-left, and-right}
+use Rattle.base.proofs.Bools.{split, clash, and-left}
 use Rattle.base.proofs.Loops.{some-at}
+use Rattle.rounds.proofs.Offers.{missed-parts}
 
 -- 1 while a region is fired
 started : Chart → Monitor → ℕ
@@ -78,12 +79,9 @@ module _ (C : Chart) where
   -- the round that missed a record was started, so the drop has a record to itself
   missed-within : (m : Monitor) (e : LogRecord) → Few C m → So (missed C m e)
       → suc (m .tally .kept + m .tally .dropped) ≤ m .tally .records
-  unfolding missed Few started
+  unfolding Few started
   missed-within m e F h =
-      let h₁ = and-right (chartMessage C e) _ h in
-      let h₂ = and-right (not (prechartDone C (m .place .fired))) _ h₁ in
-      let t = and-left (someBelow (C .regions) (m .place .fired)) _ h₂ in
-      let G : m .tally .kept + m .tally .dropped + 1 ≤ m .tally .records = rw t at F in
+      let G : m .tally .kept + m .tally .dropped + 1 ≤ m .tally .records = rw (missed-parts C m e h .started) at F in
       omega (arith, G)
 
   few-within : (m : Monitor) → Few C m → m .tally .kept + m .tally .dropped ≤ m .tally .records

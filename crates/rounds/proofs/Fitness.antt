@@ -20,7 +20,7 @@ use Rattle.rounds.specs.Machine.{tryRegion, breakRound, conclude, offer,
 use Rattle.rounds.specs.Machine.{CauseIn, Fit}
 use Rattle.base.proofs.Bools.{split, or-right, either}
 use Rattle.base.proofs.Facts.{found}
-use Rattle.rounds.proofs.Machine.{full-false, ready-lacks, unfired-falls, opening-lacks, opening-settled}
+use Rattle.rounds.proofs.Machine.{full-false, ready-lacks, unfired-falls, opened-late, opening-lacks, opening-settled}
 use Rattle.rounds.proofs.Machine.{plain-some, plain-none, for-some, message-stuck, message-fails, message-fires}
 
 module _ (C : Chart) (A : Accepted C) where
@@ -52,7 +52,7 @@ module _ (C : Chart) (A : Accepted C) where
   opening-fits t = record {
     closed = λ i a h b. h;
     within = λ i h. absurd (false≢true h);
-    moments = λ c. elim (split (ltb c (C .clocks))) [ inl q ↦ rw q (omega arith) | inr q ↦ rw q (omega arith) ];
+    moments = opened-late C t;
     unused = λ c h. elim
         (split (ltb c (C .clocks))) [ inl q ↦ absurd (omega (arith, ltb-true c (C .clocks) q)) | inr q ↦ rw q ];
   }

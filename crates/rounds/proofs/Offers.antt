@@ -2,8 +2,8 @@
 -- record, case by case. Assumes nothing.
 use mathlib.Core.Path.{_≡_, refl, ap}
 use mathlib.Core.Logic.{inl, inr}
-use mathlib.Core.Bool.{Bool, false, not, cond, So, _&&_, true≢false, false≢true}
-use mathlib.Core.Option.{Option, none, some}
+use mathlib.Core.Bool.{false, not, cond, So, _&&_, false≢true}
+use mathlib.Core.Option.{none, some}
 use Prim.Native.Nat.{ℕ, _<_}
 use native.Mathlib.Omega.{arith}
 use borrow.Author.Tests.{eq-eqb, not-true}
@@ -11,36 +11,52 @@ use Rattle.base.specs.Lists.{Snoc, ε, _▸_, size, someBelow, isFound}
 use Rattle.model.specs.Monitor.{noCause}
 use Rattle.rounds.specs.Chart.{Chart, Accepted}
 use Rattle.rounds.specs.Rows.{LogRecord, Row, stands, chartMessage, chartMessages, messageRegions, opened}
-use Rattle.rounds.specs.Rows.{resetMoment, LawfulBy, Lawful, LawfulButLast, Full}
+use Rattle.rounds.specs.Rows.{resetMoment, LawfulBy, Lawful, LawfulButLast, Full, PrechartDone}
 use Rattle.rounds.specs.Tally.{Break, noBreak}
 use Rattle.rounds.specs.Feeds.{noReadyRegion, quiet, Missed, Fits}
 use Rattle.rounds.specs.Machine.{Monitor, stuck, readyFor, takeMessage, opening, prechartDone, goOn, dropRound}
 use Rattle.rounds.specs.Machine.{breakRound, conclude, offer, missed, fitsOpening, reopened, accept}
 use Rattle.rounds.specs.Demand3.{Unbroken}
 use Rattle.base.proofs.Bools.{split, clash, and-both, and-left, and-right, or-left}
-use Rattle.base.proofs.Facts.{found}
+use Rattle.base.proofs.Facts.{found, found-none, found-some}
 use Rattle.base.proofs.Loops.{one-passes, some-at}
 use Rattle.rounds.proofs.Machine.{opening-settled, done-false, done-is-not, message-stuck, for-some, for-none}
 use Rattle.rounds.proofs.Rows.{one-row}
 use Rattle.rounds.proofs.Rounds.{unready, placeable}
 use Rattle.rounds.proofs.Endings.{Comes, comes}
 
--- what was found, and what was not
-pub found-none : {A : Type 0} (x : Option A) → isFound x ≡ false → x ≡ none
-found-none none h = refl
-found-none (some a) h = absurd (true≢false h)
-
-pub found-some : {A : Type 0} (x : Option A) → So (isFound x) → (a : A) × (x ≡ some a)
-found-some none h = absurd (false≢true h)
-found-some (some a) h = (a, refl)
-
 -- a row in which a region stands is not empty
 row-size : (r : Row) (i : ℕ) → So (stands r i) → 0 < size r
 row-size ε i h = absurd (false≢true h)
 row-size (p ▸ j) i h = omega arith
 
--- what the machine does with an accepted record, case by case
 module _ (C : Chart) (m : Monitor) (e : LogRecord) where
+  -- what the machine's test for a missed record says
+  pub record MissedParts : Type 0 where
+    pub message : So (chartMessage C e)
+    pub in-prechart : ¬ PrechartDone C (m .place .fired)
+    pub started : So (someBelow (C .regions) (m .place .fired))
+    pub unready : readyFor C (m .place .fired) e ≡ none
+
+  pub missed-parts : So (missed C m e) → MissedParts
+  unfolding missed
+  missed-parts h =
+      let f = m .place .fired in
+      let h₁ = and-right (chartMessage C e) _ h in
+      let h₂ = and-right (not (prechartDone C f)) _ h₁ in
+      record {
+        message = and-left (chartMessage C e) _ h;
+        in-prechart = done-false C f (not-true (prechartDone C f) (and-left (not (prechartDone C f)) _ h₁));
+        started = and-left (someBelow (C .regions) f) _ h₂;
+        unready = found-none (readyFor C f e)
+            (not-true (isFound (readyFor C f e)) (and-right (someBelow (C .regions) f) _ h₂));
+      }
+
+  pub parts-missed : MissedParts → So (missed C m e)
+  unfolding missed
+  parts-missed P = rw (P .message, done-is-not C (m .place .fired) (P .in-prechart), P .started, P .unready)
+
+  -- what the machine does with an accepted record, case by case
   pub accept-quiet : chartMessage C e ≡ false → accept C m e ≡ goOn C m e quiet (m .place)
   unfolding accept missed offer
   accept-quiet h = rw h
@@ -143,55 +159,40 @@ module _ (C : Chart) (A : Accepted C) where
     reopened-unbroken = opens-unbroken (e .time) (reopened C m e) refl refl
         (λ i. record { at = T .no-break i; reason = T .no-reason i; cause = T .no-cause i })
 
-    -- the machine's test, of the row
-    abbrev test : Row → Bool
-    test r = chartMessage C e && (not (prechartDone C (stands r))
-        && (someBelow (C .regions) (stands r) && not (isFound (readyFor C (stands r) e))))
-
-    missed-row : missed C m e ≡ test (T .row)
-    unfolding missed
-    missed-row = rw (T .has-fired)
-
-    pub missed-message : So (missed C m e) → So (chartMessage C e)
-    unfolding missed
-    missed-message h = and-left (chartMessage C e) _ h
-
-    pub missed-says : So (missed C m e) → Missed C o s e
+    missed-says : So (missed C m e) → Missed C o s e
     missed-says h =
+        let P = missed-parts C m e h in
+        let f = T .has-fired in
         let r : Row = T .row in
-        let h₀ : So (test r) = rw missed-row at h in
-        let h₁ = and-right (chartMessage C e) _ h₀ in
-        let h₂ = and-right (not (prechartDone C (stands r))) _ h₁ in
-        let h₃ = and-right (someBelow (C .regions) (stands r)) _ h₂ in
-        let n : readyFor C (stands r) e ≡ none = found-none (readyFor C (stands r) e)
-        (not-true (isFound (readyFor C (stands r) e)) h₃) in
-        let f = some-at (C .regions) (stands r) (and-left (someBelow (C .regions) (stands r)) _ h₂) in
+        let i = some-at (C .regions) (stands r) (rw f at (P .started)) in
         record {
           row = r;
           lawful = T .lawful;
-          fired-before = row-size r (f .0) (f .1);
-          in-prechart = done-false C (stands r)
-              (not-true (prechartDone C (stands r)) (and-left (not (prechartDone C (stands r))) _ h₁));
-          unplaced = unready C A o s e (and-left (chartMessage C e) _ h₀) r (T .lawful) n;
+          fired-before = row-size r (i .0) (i .1);
+          in-prechart = rw f at (P .in-prechart);
+          unplaced = unready C A o s e (P .message) r (T .lawful) (rw f at (P .unready));
         }
 
-    pub missed-is : So (chartMessage C e) → Missed C o s e → So (missed C m e)
+    missed-is : So (chartMessage C e) → Missed C o s e → So (missed C m e)
     missed-is c M =
         let r : Row = T .row in
         let w : M .row ≡ r = one-row C A o s (M .row) r (M .lawful) (T .lawful) in
-        let d : prechartDone C (stands r) ≡ false = done-is-not C (stands r) (rw w at (M .in-prechart)) in
         elim (found (readyFor C (stands r) e)) [
-          | inl n ↦ rw (missed-row, c, d, row-some C o s r (T .lawful) (rw w at (M .fired-before)), n)
+          | inl n ↦ parts-missed C m e (record {
+            message = c;
+            in-prechart = rw (T .has-fired) (rw w at (M .in-prechart));
+            started = rw (T .has-fired) (row-some C o s r (T .lawful) (rw w at (M .fired-before)));
+            unready = rw (T .has-fired) n;
+          })
           | inr f ↦
               let W = placeable C A o s e c r (T .lawful) (f .0) (f .1) in
               absurd (M .unplaced (W .0) (W .1))
         ]
 
     pub both-say : So (missed C m e && fitsOpening C e) → Missed C o s e × Fits C e
-    both-say h = (
-      missed-says (and-left (missed C m e) (fitsOpening C e) h),
-      fits-of e (missed-message (and-left (missed C m e) (fitsOpening C e) h)) (and-right (missed C m e) (fitsOpening C e) h),
-    )
+    both-say h =
+        let k : So (missed C m e) = and-left (missed C m e) (fitsOpening C e) h in
+        (missed-says k, fits-of e (missed-parts C m e k .message) (and-right (missed C m e) (fitsOpening C e) h))
 
     pub both-are : Missed C o s e → Fits C e → So (missed C m e && fitsOpening C e)
     both-are M F = and-both (missed-is (F .is-message) M) (of-fits e F)

@@ -2,34 +2,34 @@
 -- so does every row of the record alone: it completes neither half, and reaches no hot region. Assumes nothing.
 use mathlib.Core.Path.{_≡_, refl, sym, ap, _∙_}
 use mathlib.Core.Logic.{_≢_, _⊎_, inl, inr}
-use mathlib.Core.Bool.{Bool, false, not, So, _&&_, false≢true}
+use mathlib.Core.Bool.{Bool, false, So, _&&_, false≢true}
 use mathlib.Core.Option.{some}
 use Prim.Native.Nat.{ℕ, _<_}
 use native.Mathlib.Omega.{arith}
 use lib.Dec.{eqb, ltb}
-use borrow.Author.Tests.{eqb-true, eq-eqb, ltb-true, ltb-false, not-true}
-use Rattle.base.specs.Lists.{Snoc, ε, _▸_, each, EachIn, someBelow, isFound}
+use borrow.Author.Tests.{eqb-true, eq-eqb, ltb-true, ltb-false}
+use Rattle.base.specs.Lists.{Snoc, ε, _▸_, each, EachIn}
 use Rattle.model.specs.declared.Cause.{Cause}
 use Rattle.model.specs.Monitor.{causeOf}
 use Rattle.rounds.specs.Chart.{Chart, Accepted}
-use Rattle.rounds.specs.Rows.{LogRecord, Row, stands, chartMessage, chartMessages, plain, messageRegions, Ready}
+use Rattle.rounds.specs.Rows.{LogRecord, Row, stands, chartMessages, plain, messageRegions, Ready}
 use Rattle.rounds.specs.Rows.{clockTest, Placed, LawfulIf, Full, PrechartDone, LawfulBy, LawfulButLastBy}
 use Rattle.rounds.specs.Rows.{firstFailingBy, Lawful, LawfulButLast, firstFailing}
 use Rattle.rounds.specs.Feeds.{Outcome, Ends, complete, unplaced-main, unplaced-prechart, fails-hot, fails-cold}
 use Rattle.rounds.specs.Feeds.{Answer, droppedNow, moved, Onward, completes-prechart, fires, stays, isDropped}
 use Rattle.rounds.specs.Feeds.{Fits}
 use Rattle.rounds.specs.Tally.{noBreak}
-use Rattle.rounds.specs.Machine.{Monitor, Step, readyFor, opening, prechartDone, goOn, keepRound, dropRound}
+use Rattle.rounds.specs.Machine.{Monitor, Step, opening, goOn, keepRound, dropRound}
 use Rattle.rounds.specs.Machine.{breakRound, missed, fitsOpening, reopened, accept, Fit}
 use Rattle.rounds.specs.Demand3.{Unbroken}
 use Rattle.base.proofs.Bools.{split, clash, and-left, and-right, or-left, or-right, either}
 use Rattle.base.proofs.Facts.{found, none-some, some-same, pass-or-fail, snoc-same-init, snoc-same-last}
 use Rattle.base.proofs.Facts.{empty-snoc}
-use Rattle.rounds.proofs.Machine.{opening-lacks, done-false, for-none}
+use Rattle.rounds.proofs.Machine.{opening-lacks, for-none}
 use Rattle.rounds.proofs.Moments.{holds, waived, messageRegions-take, messageRegions-skip}
 use Rattle.rounds.proofs.Rows.{lawful-empty}
 use Rattle.rounds.proofs.Endings.{Comes, on, keeps, drops, breaks}
-use Rattle.rounds.proofs.Offers.{found-none, opens-unbroken, comes-unbroken, fits-of}
+use Rattle.rounds.proofs.Offers.{missed-parts, opens-unbroken, comes-unbroken, fits-of}
 
 module _ (C : Chart) where
   -- a message region of a row has one of the row's messages
@@ -98,15 +98,11 @@ module _ (C : Chart) (A : Accepted C) where
     of-another : C .key region ≢ e .code
 
   lacking : (m : Monitor) (e : LogRecord) → Fit C m → m .tally .broken .at ≡ 0 → So (missed C m e) → Lacking e
-  unfolding PrechartDone missed
+  unfolding PrechartDone
   lacking m e F b h =
-      let h₁ = and-right (chartMessage C e) _ h in
-      let h₂ = and-right (not (prechartDone C (m .place .fired))) _ h₁ in
-      let h₃ = and-right (someBelow (C .regions) (m .place .fired)) _ h₂ in
-      let n = found-none (readyFor C (m .place .fired) e) (not-true (isFound (readyFor C (m .place .fired) e)) h₃) in
+      let P = missed-parts C m e h in
       elim (pass-or-fail (C .prechart) (m .place .fired)) [
-        | inl d ↦ absurd (done-false C (m .place .fired) (not-true (prechartDone C (m .place .fired))
-            (and-left (not (prechartDone C (m .place .fired))) _ h₁)) d)
+        | inl d ↦ absurd (P .in-prechart d)
         | inr (i, L) ↦
             let R : Ready C (m .place .fired) i = record {
               region = omega (arith, L .below, A .has-main);
@@ -117,7 +113,7 @@ module _ (C : Chart) (A : Accepted C) where
               region = i;
               in-prechart = L .below;
               is-message = elim (split (plain C i)) [ inl p ↦ absurd (F .settled b i p R) | inr p ↦ p ];
-              of-another = for-none C A (m .place .fired) e i n R;
+              of-another = for-none C A (m .place .fired) e i (P .unready) R;
             }
       ]
 
@@ -184,10 +180,10 @@ module _ (C : Chart) (A : Accepted C) where
   pub second-answer : (m : Monitor) (e : LogRecord) → Fit C m → m .tally .broken .at ≡ 0
       → So (missed C m e && fitsOpening C e)
       → (accept C m e .answer ≡ moved) ⊎ ((x : Cause) × (accept C m e .answer ≡ droppedNow x))
-  unfolding accept missed reopened opening
+  unfolding accept reopened opening
   second-answer m e F b t =
       let h : So (missed C m e) = and-left (missed C m e) (fitsOpening C e) t in
-      let G : Fits C e = fits-of C A e (and-left (chartMessage C e) _ h)
+      let G : Fits C e = fits-of C A e (missed-parts C m e h .message)
       (and-right (missed C m e) (fitsOpening C e) t) in
       let R : Unbroken C (e .time) ε (reopened C m e) = opens-unbroken C A (e .time) (reopened C m e) refl refl
       (unbroken-fit m F b) in

@@ -5,15 +5,13 @@ use mathlib.Core.Bool.{Bool, true, false, So}
 use mathlib.Core.Option.{none, some}
 use Prim.Native.Nat.{ℕ, _+_, _*_, _≤_}
 use native.Mathlib.Omega.{arith}
-use lib.Dec.{ltb}
 use Rattle.bitset.specs.Set.{contains}
 use Rattle.model.specs.declared.Monitor.{Monitor}
-use Rattle.base.proofs.Bools.{split}
 use Rattle.rounds.specs.Chart.{Chart, Accepted}
 use Rattle.rounds.specs.Rows.{LogRecord, chartMessage, Ready, opened}
 use Rattle.rounds.specs.Machine.{Monitor as AbstractMonitor, stuck, readyFor, takeMessage, opening, prechartDone}
 use Rattle.rounds.specs.Machine.{conclude, fitsOpening, reopened, accept}
-use Rattle.rounds.proofs.Machine.{for-some}
+use Rattle.rounds.proofs.Machine.{opened-late, for-some}
 use Rattle.rounds.proofs.Offers.{accept-unready}
 use Rattle.firing.specs.declared.Sought.{Sought}
 use Rattle.firing.specs.declared.Sought.the-variants.{Ready as ReadyAt, Unready}
@@ -34,10 +32,6 @@ first-decides C m e H x s r = record {
   few = H .few;
   counts = omega (arith, H .counts);
 }
-
-opened-late : (C : Chart) (t c : ℕ) → opened C t c ≤ t
-unfolding opened
-opened-late C t c = elim (split (ltb c (C .clocks))) [ inl q ↦ rw q (omega arith) | inr q ↦ rw q (omega arith) ]
 
 -- no ready region has the chart message
 module _ (C : Chart) (A : Accepted C) (m : Monitor) (e : LogRecord) (chart : So (chartMessage C e))

@@ -4,7 +4,6 @@
 use crate::coverage::{Counts, Coverage, ANSWERS, DECIDED_TERMS, OFFERS, REFUSALS};
 use crate::fitness::{FIT, UNFIT};
 use crate::kinds::KINDS;
-use lsc_reference::value::{Answer, ChartValue, MonitorValue, RecordValue};
 use std::fmt;
 
 /// A buffer too short (N9); `REFUSALS` has all the others.
@@ -13,7 +12,7 @@ pub const SHORT: u8 = 12;
 /// Counts of what the library answered.
 #[derive(Clone, Debug, Default)]
 pub struct Seen {
-    coverage: Coverage,
+    pub coverage: Coverage,
     inputs: Counts<&'static str>,
 }
 
@@ -21,37 +20,6 @@ impl Seen {
     /// Counts an input of a kind.
     pub fn input(&mut self, kind: &'static str) {
         *self.inputs.entry(kind).or_default() += 1;
-    }
-
-    pub fn refusal(&mut self, number: u8) {
-        self.coverage.refusal(number);
-    }
-
-    pub fn standing(&mut self, standing: u64) {
-        self.coverage.standing(standing as u8);
-    }
-
-    pub fn fed(
-        &mut self,
-        kind: &'static str,
-        chart: &ChartValue,
-        before: &MonitorValue,
-        answer: &Answer,
-        after: &MonitorValue,
-    ) {
-        self.coverage.fed(kind, chart, before, answer, after);
-    }
-
-    pub fn taken(&mut self, kind: &'static str, chart: &ChartValue, records: &[RecordValue]) {
-        self.coverage.taken(kind, chart, records);
-    }
-
-    pub fn told(&mut self, again: bool, answer: &Answer) {
-        self.coverage.told(again, answer);
-    }
-
-    pub fn printed(&mut self, text: &str) {
-        self.coverage.printed(text);
     }
 
     /// How many inputs were compared.

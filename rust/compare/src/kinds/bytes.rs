@@ -85,9 +85,9 @@ pub fn compare(before: &[u8], record: &[u8], seen: &mut Seen) -> Result<(), Both
     same("feeding", (said, Hex(&live)), wanted)?;
     match (&held, &after) {
         (Some((_, chart, monitor)), Some(after)) => {
-            seen.fed(NAME, chart, monitor, &answer, after);
+            seen.coverage.fed(NAME, chart, monitor, &answer, after);
         }
-        _ => seen.told(false, &answer),
+        _ => seen.coverage.told(false, &answer),
     }
     Ok(())
 }

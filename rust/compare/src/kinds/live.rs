@@ -146,8 +146,8 @@ pub fn check_standing(
     let number = expected.err().unwrap_or(0);
     same("standing", (answer, out), (number, wanted))?;
     match expected {
-        Ok(numbers) => seen.standing(numbers[0]),
-        Err(number) => seen.refusal(number),
+        Ok(numbers) => seen.coverage.standing(numbers[0] as u8),
+        Err(number) => seen.coverage.refusal(number),
     }
     // The bytes are looked at first: 20 and 21 go before 12.
     let number = expected.err().unwrap_or(12);
@@ -156,7 +156,7 @@ pub fn check_standing(
         let answer = call::standing(live, &mut out);
         let wanted = filled_places(places);
         same("standing in a short out", (answer, out), (number, wanted))?;
-        seen.refusal(number);
+        seen.coverage.refusal(number);
     }
     Ok(())
 }
@@ -175,7 +175,7 @@ fn check_open(
         let (number, place) = read.err().unwrap_or((12, size));
         let wanted = (number, place as u64, Hex(&filled(room)));
         same("opening in a short live", (answer, at, Hex(&live)), wanted)?;
-        seen.refusal(number);
+        seen.coverage.refusal(number);
     }
     let (mut live, mut at) = (filled(size + BEYOND), 77);
     let answer = call::open(chart, &mut live, &mut at);
@@ -213,7 +213,7 @@ pub fn compare(chart: &[u8], log: &[u8], seen: &mut Seen) -> Result<(), Both> {
         same("feeding", (said, fields), (number(&answer), Some(after)))?;
         same("bytes after feeding", Hex(&live), Hex(&wanted))?;
         check_why(&before, &record, &answer, &wanted)?;
-        seen.fed(NAME, &value, &monitor, &answer, &after);
+        seen.coverage.fed(NAME, &value, &monitor, &answer, &after);
         let numbers = standing_numbers(&value, &after);
         check_standing(&live, Ok(numbers), seen)?;
 

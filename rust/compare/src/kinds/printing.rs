@@ -32,10 +32,10 @@ pub fn compare(_: &[u8], input: &[u8], seen: &mut Seen) -> Result<(), Both> {
         same("text and length", (answer, written, shown), wanted)?;
         same("all bytes", Hex(&out), Hex(&after))?;
     }
-    seen.printed(&text);
+    seen.coverage.printed(&text);
     if let Ok((chart, log)) = parts(input) {
         if let (Ok(chart), Ok(records)) = (read_chart(chart), read_log(log)) {
-            seen.taken(NAME, &chart, &records);
+            seen.coverage.taken(NAME, &chart, &records);
         }
     }
     for room in [0, 55, ROOM - 1] {
@@ -43,7 +43,7 @@ pub fn compare(_: &[u8], input: &[u8], seen: &mut Seen) -> Result<(), Both> {
         let answer = call::print(input, &mut out, &mut written);
         let wanted = (12, 0, Hex(&filled(room)));
         same("a short out", (answer, written, Hex(&out)), wanted)?;
-        seen.refusal(answer);
+        seen.coverage.refusal(answer);
     }
     same("the safe print", lsc::print(input), text)
 }

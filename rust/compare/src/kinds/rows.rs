@@ -48,10 +48,10 @@ pub fn compare(chart: &[u8], log: &[u8], seen: &mut Seen) -> Result<(), Both> {
                 same("an answer", said, number(answer))?;
             }
         }
-        seen.told(again, answer);
+        seen.coverage.told(again, answer);
         again |= matches!(answer, Answer::Broken(_));
     }
-    seen.taken(NAME, &value, &feeds);
+    seen.coverage.taken(NAME, &value, &feeds);
     let monitor = MonitorValue::from_image(&live[..MONITOR_IMAGE]);
     same("the monitor after", monitor, Some(meaning.monitor()))?;
     let wanted = live_bytes(chart, &meaning.monitor());

@@ -61,7 +61,7 @@ pub fn compare(image: &[u8], second: &[u8], seen: &mut Seen) -> Result<(), Both>
         let fed = feed_images(image, &mut short, &record);
         let wanted = (12, 12, Hex(&filled(length)));
         same("a short monitor", (said, fed, Hex(&short)), wanted)?;
-        seen.refusal(said);
+        seen.coverage.refusal(said);
     }
     Ok(())
 }
@@ -79,7 +79,7 @@ fn check_new(image: &[u8], seen: &mut Seen) -> Result<(), Both> {
     let wanted = (made, Hex(&wanted));
     same("making a monitor", (answer, Hex(&monitor)), wanted)?;
     if made != 0 {
-        seen.refusal(made);
+        seen.coverage.refusal(made);
     }
     Ok(())
 }
@@ -108,8 +108,8 @@ fn check_feed(
     same("feeding", (said, fields), (number(&answer), Some(after)))?;
     same("bytes after feeding", Hex(&monitor), Hex(&wanted))?;
     match &chart {
-        None => seen.told(false, &answer),
-        Some(chart) => seen.fed(NAME, chart, &value, &answer, &after),
+        None => seen.coverage.told(false, &answer),
+        Some(chart) => seen.coverage.fed(NAME, chart, &value, &answer, &after),
     }
     Ok(())
 }

@@ -62,16 +62,16 @@ pub fn compare(chart: &[u8], log: &[u8], seen: &mut Seen) -> Result<(), Both> {
         .map_or(MAX_RECORDS + 1, |records| records.len() as u32);
     same("records checked", testing::check(log), checked)?;
     if number != 0 {
-        seen.refusal(number);
+        seen.coverage.refusal(number);
     } else if let (Ok(value), Ok(records)) = (read_chart(chart), records) {
-        seen.standing(numbers[0]);
-        seen.taken(NAME, &value, &records);
+        seen.coverage.standing(numbers[0] as u8);
+        seen.coverage.taken(NAME, &value, &records);
     }
     for places in [0, 6, PLACES - 1] {
         let mut out = filled_places(places);
         let answer = call::judge(chart, log, &mut out);
         same("a short out", (answer, out), (12, filled_places(places)))?;
-        seen.refusal(answer);
+        seen.coverage.refusal(answer);
     }
     let safe = match lsc::judge(chart, log) {
         Ok(verdict) => format!("0 {verdict}"),
