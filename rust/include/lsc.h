@@ -1,17 +1,25 @@
 /*
  * lsc.h: Silunovam, which watches programs by live sequence charts; proved from bytes to bytes.
  *
- * Link with liblsc.a (whole logs) and liblsc_live.a (live monitors). The functions keep no
- * state and no pointer, allocate nothing, and may be called from several threads at once on
- * different bytes. Every content of the bytes is allowed; only the pointers and lengths must
- * be valid, and bytes written must not overlap bytes read. A pointer with length 0 must still
- * not be NULL.
+ * Link with liblsc.a (whole logs), liblsc_live.a (live monitors) and liblsc_more.a (one record of
+ * a log). The functions keep no state and no pointer, allocate nothing, and may be called from
+ * several threads at once on different bytes. Every content of the bytes is allowed; only the
+ * pointers and lengths must be valid, and bytes written must not overlap bytes read. A pointer
+ * with length 0 must still not be NULL.
  *
  * Numbers in charts, logs and live monitors stand most significant byte first.
  *
+ * A log is records one after the other. 01 source(1) destination(1) label(2) time(4) is a message,
+ * 02 time(4) is time alone; a time is a moment and never falls. 03 and 04 are shaped like 01 and
+ * 02, with a raw stamp instead of the time: what a 32-bit counter of milliseconds showed, which
+ * returns to 0 after 4,294,967,295. The first raw stamp of a log is moment 0; each later moment is
+ * that of the record before and the difference of the two stamps, taken round the wrap. While true
+ * gaps stay below 2,147,483,648, each moment is the true time since the first stamp.
+ *
  * Refusals: 1 to 11 a chart's fault; 12 a buffer too short; 20 no live monitor; 21 an unfit
- * monitor; 22 a time that falls; 23 more than 1,000,000 records; 30 a record cut short; 31 an
- * unknown record byte.
+ * monitor; 22 a time that falls, or stamps that differ by 2,147,483,648 or more; 23 more than
+ * 1,000,000 records; 24 a raw stamp's moment above 4,294,967,295; 30 a record cut short; 31 an
+ * unknown record byte; 32 raw and plain records in one log.
  */
 #ifndef LSC_H
 #define LSC_H
@@ -37,9 +45,17 @@ extern "C" {
 #define LSC_STANDS_OWED 2     /* the main chart is owed */
 #define LSC_STANDS_BROKEN 3   /* broken, for good */
 
-/* Places of a verdict, and the room that lsc_print wants. */
+/* Places of a verdict and of a record, and the room that lsc_print wants. */
 #define LSC_VERDICT_PLACES 8
+#define LSC_RECORD_PLACES 6
 #define LSC_TEXT_ROOM 223
+
+/* Kinds of a record, the first number of lsc_read_record. */
+#define LSC_RECORD_END 0         /* no record: the place is at the log's end or beyond */
+#define LSC_RECORD_MESSAGE 1     /* a message at a moment */
+#define LSC_RECORD_TIME 2        /* time alone, up to a moment */
+#define LSC_RECORD_RAW_MESSAGE 3 /* a message with a raw stamp */
+#define LSC_RECORD_RAW_TIME 4    /* time alone, with a raw stamp */
 
 /* The part at fault, after a refused lsc_judge. */
 #define LSC_PART_CHART 1
@@ -50,7 +66,7 @@ extern "C" {
  * then its records are taken up to the end or a break.
  *
  * Returns 0, and out[0..7] = standing, kept, dropped, records, break, reason, region, term; or
- * the refusal's number (chart 1 to 11; log 22, 23, 30, 31), and out[0..7] = part, number,
+ * the refusal's number (chart 1 to 11; log 22, 23, 24, 30, 31, 32), and out[0..7] = part, number,
  * offset within the part and five zeros; or 12 if out has fewer than 8 places, and out stays as
  * it was. Places of out beyond the eighth stay as they were.
  *
@@ -133,6 +149,22 @@ uint8_t lsc_feed_time(uint8_t *live, size_t live_length, uint32_t time);
  */
 uint8_t lsc_standing(const uint8_t *live, size_t live_length,
                      uint64_t *out, size_t out_length);
+
+/*
+ * Reads the record of a log at a place: any number, 0 for the first record, then each time the
+ * place that was handed out. Times, counts and the other records are not looked at.
+ *
+ * Returns 0, and out[0..5] = kind, source, destination, label, time, the place just behind the
+ * record. For the kinds without a message source, destination and label are 0. For the raw kinds
+ * the time is the raw stamp, which is no moment: do not feed it. At the log's end or beyond, the
+ * kind is 0, four zeros follow, and out[5] is the place as it came.
+ *
+ * Or 12 if out has fewer than 6 places, tested first; 31 for an unknown record byte; 30 for a
+ * record cut short. A refusal leaves out as it was. Places of out beyond the sixth stay as they
+ * were.
+ */
+uint8_t lsc_read_record(const uint8_t *log, size_t log_length, size_t place,
+                        uint64_t *out, size_t out_length);
 
 #ifdef __cplusplus
 }

@@ -1,10 +1,11 @@
-//! Links the static libraries: `lsc` for whole logs, `lsc_live` for live monitors.
+//! Links the static libraries: `lsc` for whole logs, `lsc_live` for live monitors, `lsc_more` for
+//! one record of a log.
 
 #[path = "../archives.rs"]
 mod archives;
 
 fn main() {
-    for name in ["lsc", "lsc_live"] {
+    for name in ["lsc", "lsc_live", "lsc_more"] {
         let archive = archives::link(name);
         // For the test that links the C example.
         println!(

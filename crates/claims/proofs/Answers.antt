@@ -12,6 +12,7 @@ use Rattle.stepping.proofs.Answers.{answer-told}
 use Rattle.log_reader.specs.declared.RecordRefusal.{RecordRefusal}
 use Rattle.log_reader.specs.declared.RecordRefusal.the-variants.{CutShort, UnknownByte}
 use Rattle.log_reader.proofs.Said.{said-tells}
+use Rattle.log_clock.specs.declared.MomentRefusal.the-variants.{Mixed, Falls, TooLate}
 use Rattle.judge.specs.declared.LogRefusal.the-variants as log
 use Rattle.judge.specs.declared.JudgeAnswer.{JudgeAnswer}
 use Rattle.judge.specs.declared.JudgeAnswer.the-variants as judged
@@ -38,8 +39,9 @@ recordRefusal n = cond (eqb n 30) CutShort UnknownByte
 -- the judge's answer with a number and an offset
 judgeAnswer : ℕ → ℕ → JudgeAnswer
 judgeAnswer n o =
-    cond (eqb n 0) judged.Judged (cond (eqb n 20) judged.NoChart (cond (eqb n 22) (judged.Refused log.TimeFalls o)
-    (cond (eqb n 23) (judged.Refused log.TooManyRecords o) (judged.Refused (log.NoRecord (recordRefusal n)) o))))
+    cond (eqb n 0) judged.Judged (cond (eqb n 20) judged.NoChart (cond (eqb n 23) (judged.Refused log.TooManyRecords o)
+    (cond (eqb n 22) (judged.Refused (log.NoMoment Falls) o) (cond (eqb n 24) (judged.Refused (log.NoMoment TooLate) o)
+    (cond (eqb n 32) (judged.Refused (log.NoMoment Mixed) o) (judged.Refused (log.NoRecord (recordRefusal n)) o))))))
 
 judge-answer : (a : JudgeAnswer) → judgeAnswer (judge.numberOf a) (judge.offsetOf a) ≡ a
 unfolding judgeAnswer recordRefusal
@@ -47,7 +49,9 @@ judge-answer judged.Judged = refl
 judge-answer judged.NoChart = refl
 judge-answer (judged.Refused (log.NoRecord CutShort) o) = refl
 judge-answer (judged.Refused (log.NoRecord UnknownByte) o) = refl
-judge-answer (judged.Refused log.TimeFalls o) = refl
+judge-answer (judged.Refused (log.NoMoment Mixed) o) = refl
+judge-answer (judged.Refused (log.NoMoment Falls) o) = refl
+judge-answer (judged.Refused (log.NoMoment TooLate) o) = refl
 judge-answer (judged.Refused log.TooManyRecords o) = refl
 
 judgements-tell : (x y : Judgement) → judge.said x ≡ judge.said y → x ≡ y

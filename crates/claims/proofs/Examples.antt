@@ -10,7 +10,8 @@ use Rattle.rounds.specs.Rows.{chartMessage, plain, values, opened}
 use Rattle.rounds.specs.Machine.{ready, readyFor, readyPlain, fire, unfired, tryRegion, settle, takeMessage, opening}
 use Rattle.rounds.specs.Machine.{full, prechartDone, goOn, keepRound, dropRound, breakRound, conclude, offer, missed}
 use Rattle.rounds.specs.Machine.{fitsOpening, reopened, accept, feed, after}
-use Rattle.log_reader.specs.Records.{recordsFrom, recordsIn}
+use Rattle.log_clock.specs.Dated.{datedAt}
+use Rattle.log_clock.specs.Records.{recordsFrom, recordsIn}
 use Rattle.judge.specs.Check.{stepAt, checkFrom, checkLog}
 use Rattle.judge.specs.Judge.{judgeOf}
 use Rattle.judge.specs.Verdict.{standingOf}
@@ -18,5 +19,5 @@ use Rattle.respond.specs.Respond.{partsReport}
 use Rattle.claims.specs.Examples.{examples, AllSaid}
 
 pub examples-said : AllSaid examples
-unfolding contains single inserted union isSubset within isOver gathered aboveSets readChart readFrom advanceOf isZeroTerm termPlaced termsFit regionFits isZeroRegion touchedBefore regionPlaced wellFormed conditionOf chartMessage plain values opened ready readyFor readyPlain fire unfired tryRegion settle takeMessage opening full prechartDone goOn keepRound dropRound breakRound conclude offer missed fitsOpening reopened accept feed after recordsFrom recordsIn stepAt checkFrom checkLog standingOf judgeOf partsReport
+unfolding contains single inserted union isSubset within isOver gathered aboveSets readChart readFrom advanceOf isZeroTerm termPlaced termsFit regionFits isZeroRegion touchedBefore regionPlaced wellFormed conditionOf chartMessage plain values opened ready readyFor readyPlain fire unfired tryRegion settle takeMessage opening full prechartDone goOn keepRound dropRound breakRound conclude offer missed fitsOpening reopened accept feed after datedAt recordsFrom recordsIn stepAt checkFrom checkLog standingOf judgeOf partsReport
 examples-said = (refl, (refl, (refl, (refl, (refl, (refl, (refl, (refl, (refl, (refl, (refl, (refl, tt))))))))))))

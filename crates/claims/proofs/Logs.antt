@@ -1,10 +1,10 @@
 -- One record at an offset, and a whole log, read case by case. The records walked without a fault decide where the
 -- check of the log stands, so two walks end alike. Assumes nothing.
 use mathlib.Core.Path.{_≡_, refl, sym, ap, subst, _∙_}
-use mathlib.Core.Logic.{inl, inr, _↔_}
+use mathlib.Core.Logic.{_⊎_, inl, inr, ⊎-elim, _↔_}
 use mathlib.Core.Bool.{Bool, true, false, cond}
 use mathlib.Core.List.{List}
-use Prim.Native.Nat.{ℕ, zero, suc, _+_, _-_, _≤_, _<_}
+use Prim.Native.Nat.{ℕ, zero, suc, _+_, _-_, _%_, _≤_, _<_}
 use native.Mathlib.Omega.{arith}
 use native.Mathlib.Numerals.{add-one}
 use borrow.Author.Tests.{ltb-true, ltb-false, leb-true, leb-false, lt-ltb, le-ltb, le-leb, lt-leb, eq-eqb, ne-eqb}
@@ -14,38 +14,56 @@ use lib.ListN.{length, getD}
 use Rattle.model.specs.declared.Chart.{Chart}
 use Rattle.model.specs.declared.Moment.{Moment}
 use Rattle.model.specs.declared.Record.{Record}
+use Rattle.model.specs.declared.RawRecord.{RawRecord}
+use Rattle.model.specs.declared.Stamp.{Stamp}
+use Rattle.model.specs.Answers.{mostRecords, timeFalls}
+use Rattle.model.specs.Monitor.{timeOf, stampOf, atMoment}
 use Rattle.base.proofs.Bounds.{inside}
-use Rattle.model.specs.Answers.{mostRecords}
+use Rattle.base.specs.Lists.{Snoc, ε, _▸_, size}
+use Rattle.base.proofs.Bools.{split}
 use Rattle.chart_value.specs.Given.{Given}
 use Rattle.chart_value.specs.View.{chartOf}
 use Rattle.chart_value.specs.WellFormed.{wellFormed}
-use Rattle.base.specs.Lists.{Snoc, ε, _▸_, size}
-use Rattle.rounds.specs.Machine.{after}
-use Rattle.base.proofs.Bools.{split}
 use Rattle.chart_value.specs.Records.{logged}
+use Rattle.rounds.specs.Machine.{after}
 use Rattle.log_reader.specs.declared.RecordRefusal.{RecordRefusal}
 use Rattle.log_reader.specs.declared.RecordRefusal.the-variants.{CutShort, UnknownByte}
 use Rattle.log_reader.specs.declared.Next.{Next}
 use Rattle.log_reader.specs.declared.Next.the-variants as next
 use Rattle.log_reader.specs.Record as found
-use Rattle.log_reader.specs.Record.{recordRefusalNumber, messageTag, timeTag, messageSize, timeSize, messageAt, timeAt}
-use Rattle.log_reader.specs.Record.{said}
+use Rattle.log_reader.specs.Record.{recordRefusalNumber, messageTag, timeTag, rawMessageTag, rawTimeTag}
+use Rattle.log_reader.specs.Record.{messageSize, timeSize, messageAt, timeAt, rawMessageAt, rawTimeAt, said}
 use Rattle.log_reader.specs.Next.{nextAt}
-use Rattle.log_reader.specs.Records.{recordsFrom, recordsIn}
-use Rattle.log_reader.proofs.Offsets.{taken-past}
-use Rattle.log_reader.proofs.Records.{one-record}
-use Rattle.judge.specs.declared.LogRefusal.the-variants.{NoRecord, TimeFalls, TooManyRecords}
+use Rattle.log_reader.proofs.Said.{said-tells}
+use Rattle.log_clock.specs.declared.Kind.{Kind}
+use Rattle.log_clock.specs.declared.Kind.the-variants.{Unset, Plain, Raw}
+use Rattle.log_clock.specs.declared.MomentRefusal.{MomentRefusal}
+use Rattle.log_clock.specs.declared.MomentRefusal.the-variants.{Mixed, Falls, TooLate}
+use Rattle.log_clock.specs.declared.Timed.the-variants as timed
+use Rattle.log_clock.specs.declared.Dated.{Dated}
+use Rattle.log_clock.specs.declared.Dated.the-variants as dated
+use Rattle.log_clock.specs.Clock.{range, halfRange, momentRefusalNumber, gapOf, laterMoment}
+use Rattle.log_clock.specs.Dated.{rawBy, datedBy, datedAt}
+use Rattle.log_clock.specs.Records.{recordsFrom, recordsIn}
+use Rattle.log_clock.specs.TrueTimes.{shownAt}
+use Rattle.log_clock.proofs.Records.{dated-next, dated-past, one-record}
+use Rattle.log_clock.proofs.Times.{time-at, gap-leads, gap-below, gap-only, later-at}
+use Rattle.judge.specs.declared.LogRefusal.{LogRefusal}
+use Rattle.judge.specs.declared.LogRefusal.the-variants.{NoRecord, NoMoment, TooManyRecords}
 use Rattle.judge.specs.declared.Checked.{Checked}
 use Rattle.judge.specs.declared.Checked.the-variants as checked
+use Rattle.judge.specs.declared.CheckStep.{CheckStep}
 use Rattle.judge.specs.declared.CheckStep.the-variants.{Over, Going}
 use Rattle.judge.specs.Check.{stepBy, stepAt, continueBy as checkOn, checkFrom, checkLog}
-use Rattle.model.specs.Monitor.{timeOf}
-use Rattle.judge.specs.Verdict.{verdictOf}
+use Rattle.judge.specs.Verdict.{logRefusalNumber, verdictOf}
 use Rattle.judge.specs.Verdict as judge
 use Rattle.judge.specs.Judge.{byCheck, judgeOf}
 use Rattle.judge.proofs.Laws.{Left, left-first, left-step, left-going}
-use Rattle.claims.specs.Demand1.{Just, FindsAs, ends, unknown, message-cut, time-cut, message, time, Walk, start}
-use Rattle.claims.specs.Demand1.{step, JudgesAs, not-given, no-record, falls, overflows, judges}
+use Rattle.claims.specs.Demand1.{Just, FindsAs, ends, unknown, message-cut, time-cut, raw-message-cut}
+use Rattle.claims.specs.Demand1.{raw-time-cut, message, time, raw-message, raw-time}
+use Rattle.claims.specs.Demand1.{ComesAs, first-plain, plain, first-raw, raw, Walk, start, step}
+use Rattle.claims.specs.Demand1.{FaultAt, no-record, raw-in-plain, plain-in-raw, falls, goes-back, too-late, overflows}
+use Rattle.claims.specs.Demand1.{TrueWalk, begins, goes-on, JudgesAs, not-given, refuses, judges}
 use Rattle.claims.proofs.Demand1.{given-not}
 
 -- one record at an offset
@@ -53,67 +71,106 @@ finds-as : (s : List ℕ) (at : ℕ) → FindsAs s at (said at (nextAt s at))
 finds-as s at = elim (split (leb (length s) at)) [
   | inl a ↦ rw a (ends (leb-true _ _ a))
   | inr a ↦ elim (split (eqb (getD s at 0) messageTag)) [
-    | inl b ↦ elim (split (ltb (length s - at) messageSize)) [
-      | inl k ↦
-          rw (a, b, k)
-          (message-cut (eqb-true _ _ b)
-          (omega (arith, leb-false (length s) at a, ltb-true (length s - at) messageSize k)))
-      | inr k ↦
-          rw (a, b, k)
-          (message (eqb-true _ _ b)
-          (omega (arith, leb-false (length s) at a, ltb-false (length s - at) messageSize k)))
+    | inl b ↦ elim (split (ltb (length s) (at + messageSize))) [
+      | inl k ↦ rw (a, b, k) (message-cut (eqb-true _ _ b) (ltb-true _ _ k))
+      | inr k ↦ rw (a, b, k) (message (eqb-true _ _ b) (ltb-false _ _ k))
     ]
-    | inr b ↦ elim (split (eqb (getD s at 0) timeTag)) [
-      | inl t ↦ elim (split (ltb (length s - at) timeSize)) [
-        | inl k ↦
-            rw (a, b, t, k)
-            (time-cut (eqb-true _ _ t)
-            (omega (arith, leb-false (length s) at a, ltb-true (length s - at) timeSize k)))
-        | inr k ↦
-            rw (a, b, t, k)
-            (time (eqb-true _ _ t) (omega (arith, leb-false (length s) at a, ltb-false (length s - at) timeSize k)))
+    | inr b ↦ elim (split (eqb (getD s at 0) rawMessageTag)) [
+      | inl d ↦ elim (split (ltb (length s) (at + messageSize))) [
+        | inl k ↦ rw (a, b, d, k) (raw-message-cut (eqb-true _ _ d) (ltb-true _ _ k))
+        | inr k ↦ rw (a, b, d, k) (raw-message (eqb-true _ _ d) (ltb-false _ _ k))
       ]
-      | inr t ↦ rw (a, b, t) (unknown (leb-false _ _ a) (eqb-false _ _ b) (eqb-false _ _ t))
+      | inr d ↦ elim (split (eqb (getD s at 0) timeTag)) [
+        | inl t ↦ elim (split (ltb (length s) (at + timeSize))) [
+          | inl k ↦ rw (a, b, d, t, k) (time-cut (eqb-true _ _ t) (ltb-true _ _ k))
+          | inr k ↦ rw (a, b, d, t, k) (time (eqb-true _ _ t) (ltb-false _ _ k))
+        ]
+        | inr t ↦ elim (split (eqb (getD s at 0) rawTimeTag)) [
+          | inl u ↦ elim (split (ltb (length s) (at + timeSize))) [
+            | inl k ↦ rw (a, b, d, t, u, k) (raw-time-cut (eqb-true _ _ u) (ltb-true _ _ k))
+            | inr k ↦ rw (a, b, d, t, u, k) (raw-time (eqb-true _ _ u) (ltb-false _ _ k))
+          ]
+          | inr u ↦
+              rw (a, b, d, t, u)
+              (unknown (leb-false _ _ a) (eqb-false _ _ b) (eqb-false _ _ t) (eqb-false _ _ d) (eqb-false _ _ u))
+        ]
+      ]
     ]
   ]
 ]
 
+-- a byte is not two tags
+module _ (s : List ℕ) (at : ℕ) where
+  other : (tag : ℕ) (k : ℕ) → getD s at 0 ≡ k → (k < tag) ⊎ (tag < k) → eqb (getD s at 0) tag ≡ false
+  other tag k e d = ne-eqb (getD s at 0) tag (λ z. ⊎-elim (λ l. omega (arith, z, e, l)) (λ l. omega (arith, z, e, l)) d)
+
+  within : (tag : ℕ) → 0 < tag → getD s at 0 ≡ tag → leb (length s) at ≡ false
+  within tag h e = lt-leb _ _ (inside s at (λ z. omega (arith, z, e, h)))
+
 finds-next : (s : List ℕ) (at : ℕ) (x : found.Said) → FindsAs s at x → (n : Next) × (nextAt s at ≡ n) × (x ≡ said at n)
 finds-next s at x (ends h) = (next.End, rw (le-leb _ _ h), refl)
-finds-next s at x (unknown h a b) = (next.Refused UnknownByte, rw (lt-leb _ _ h, ne-eqb _ _ a, ne-eqb _ _ b), refl)
+finds-next s at x (unknown h a b d u) =
+    (next.Refused UnknownByte, rw (lt-leb _ _ h, ne-eqb _ _ a, ne-eqb _ _ b, ne-eqb _ _ d, ne-eqb _ _ u), refl)
 finds-next s at x (message-cut a l) =
-    let h : at < length s = inside s at (λ z. omega (arith, z, a)) in (
-      next.Refused CutShort,
-      rw (lt-leb _ _ h, eq-eqb _ _ a, lt-ltb (length s - at) messageSize (omega (arith, h, l))),
-      refl,
-    )
-finds-next s at x (time-cut a l) =
-    let h : at < length s = inside s at (λ z. omega (arith, z, a)) in (
-      next.Refused CutShort,
-      rw (
-        lt-leb _ _ h,
-        ne-eqb (getD s at 0) messageTag (λ z. omega (arith, z, a)),
-        eq-eqb _ _ a,
-        lt-ltb (length s - at) timeSize (omega (arith, h, l)),
-      ),
-      refl,
-    )
+    (next.Refused CutShort, rw (within s at messageTag (omega arith) a, eq-eqb _ _ a, lt-ltb _ _ l), refl)
+finds-next s at x (raw-message-cut a l) = (
+  next.Refused CutShort,
+  rw (within s at rawMessageTag (omega arith) a, other s at messageTag _ a (inr (omega arith)), eq-eqb _ _ a, lt-ltb _ _ l),
+  refl,
+)
+finds-next s at x (time-cut a l) = (
+  next.Refused CutShort,
+  rw (
+    within s at timeTag (omega arith) a,
+    other s at messageTag _ a (inr (omega arith)),
+    other s at rawMessageTag _ a (inl (omega arith)),
+    eq-eqb _ _ a,
+    lt-ltb _ _ l,
+  ),
+  refl,
+)
+finds-next s at x (raw-time-cut a l) = (
+  next.Refused CutShort,
+  rw (
+    within s at rawTimeTag (omega arith) a,
+    other s at messageTag _ a (inr (omega arith)),
+    other s at rawMessageTag _ a (inr (omega arith)),
+    other s at timeTag _ a (inr (omega arith)),
+    eq-eqb _ _ a,
+    lt-ltb _ _ l,
+  ),
+  refl,
+)
 finds-next s at x (message a l) = (
   next.Handed (messageAt s at) (at + messageSize),
-  rw (
-    lt-leb (length s) at (omega (arith, l)),
-    eq-eqb _ _ a,
-    le-ltb (length s - at) messageSize (omega (arith, l)),
-  ),
+  rw (within s at messageTag (omega arith) a, eq-eqb _ _ a, le-ltb _ _ l),
+  refl,
+)
+finds-next s at x (raw-message a l) = (
+  next.Raw (rawMessageAt s at) (at + messageSize),
+  rw (within s at rawMessageTag (omega arith) a, other s at messageTag _ a (inr (omega arith)), eq-eqb _ _ a, le-ltb _ _ l),
   refl,
 )
 finds-next s at x (time a l) = (
   next.Handed (timeAt s at) (at + timeSize),
   rw (
-    lt-leb (length s) at (omega (arith, l)),
-    ne-eqb (getD s at 0) messageTag (λ z. omega (arith, z, a)),
+    within s at timeTag (omega arith) a,
+    other s at messageTag _ a (inr (omega arith)),
+    other s at rawMessageTag _ a (inl (omega arith)),
     eq-eqb _ _ a,
-    le-ltb (length s - at) timeSize (omega (arith, l)),
+    le-ltb _ _ l,
+  ),
+  refl,
+)
+finds-next s at x (raw-time a l) = (
+  next.Raw (rawTimeAt s at) (at + timeSize),
+  rw (
+    within s at rawTimeTag (omega arith) a,
+    other s at messageTag _ a (inr (omega arith)),
+    other s at rawMessageTag _ a (inr (omega arith)),
+    other s at timeTag _ a (inr (omega arith)),
+    eq-eqb _ _ a,
+    le-ltb _ _ l,
   ),
   refl,
 )
@@ -124,19 +181,12 @@ finds-just s at n e = record {
   only = λ x F. let N = finds-next s at x F in N .2 ∙ ap (said at) (sym (N .1) ∙ sym e);
 }
 
+finds-of : (s : List ℕ) (at : ℕ) (n : Next) → nextAt s at ≡ n → FindsAs s at (said at n)
+finds-of s at n q = subst (λ (x : Next). FindsAs s at (said at x)) q (finds-as s at)
+
 -- what was found is what the definition of reading finds
-found-end : (s : List ℕ) (at : ℕ) → FindsAs s at (found.end at) → nextAt s at ≡ next.End
-found-end s at F = by (nextAt s at) refl (finds-next s at (found.end at) F)
-  where
-    by : (x : Next) → nextAt s at ≡ x → (n : Next) × (nextAt s at ≡ n) × (found.end at ≡ said at n)
-        → nextAt s at ≡ next.End
-    by next.End q N = q
-    by (next.Refused k) q N =
-        absurd (let w : found.end at ≡ found.refused (recordRefusalNumber k) at = N .2
-        ∙ ap (said at) (sym (N .1) ∙ q) in let z : _≡_ {A = ℕ} 0 1 = cc in omega arith)
-    by (next.Handed e p) q N =
-        absurd (let w : found.end at ≡ found.handed e p = N .2
-        ∙ ap (said at) (sym (N .1) ∙ q) in let z : _≡_ {A = ℕ} 0 1 = cc in omega arith)
+found-as : (s : List ℕ) (at : ℕ) (n : Next) → FindsAs s at (said at n) → nextAt s at ≡ n
+found-as s at n F = let N = finds-next s at (said at n) F in N .1 ∙ sym (said-tells at n (N .0) (N .2))
 
 found-refused : (s : List ℕ) (at k : ℕ) → FindsAs s at (found.refused k at) → (f : RecordRefusal)
     × (nextAt s at ≡ next.Refused f) × (k ≡ recordRefusalNumber f)
@@ -153,131 +203,289 @@ found-refused s at k F = by (nextAt s at) refl (finds-next s at (found.refused k
     by (next.Handed e p) q N =
         absurd (let w : found.refused k at ≡ found.handed e p = N .2
         ∙ ap (said at) (sym (N .1) ∙ q) in let z : _≡_ {A = ℕ} 0 1 = cc in omega arith)
-
-found-handed : (s : List ℕ) (at : ℕ) (e : Record) (p : ℕ) → FindsAs s at (found.handed e p)
-    → nextAt s at ≡ next.Handed e p
-found-handed s at e p F = by (nextAt s at) refl (finds-next s at (found.handed e p) F)
-  where
-    by : (x : Next) → nextAt s at ≡ x → (n : Next) × (nextAt s at ≡ n) × (found.handed e p ≡ said at n)
-        → nextAt s at ≡ next.Handed e p
-    by next.End q N =
-        absurd (let w : found.handed e p ≡ found.end at = N .2
+    by (next.Raw e p) q N =
+        absurd (let w : found.refused k at ≡ found.handed-raw e p = N .2
         ∙ ap (said at) (sym (N .1) ∙ q) in let z : _≡_ {A = ℕ} 0 1 = cc in omega arith)
-    by (next.Refused f) q N =
-        absurd (let w : found.handed e p ≡ found.refused (recordRefusalNumber f) at = N .2
-        ∙ ap (said at) (sym (N .1) ∙ q) in let z : _≡_ {A = ℕ} 0 1 = cc in omega arith)
-    by (next.Handed f o) q N = let w : found.handed e p ≡ found.handed f o = N .2 ∙ ap (said at) (sym (N .1) ∙ q) in
-        q ∙ cc
 
-finds-of : (s : List ℕ) (at : ℕ) (n : Next) → nextAt s at ≡ n → FindsAs s at (said at n)
-finds-of s at n q = subst (λ (x : Next). FindsAs s at (said at x)) q (finds-as s at)
+abbrev moment : ℕ → Moment
+moment t = record { 0 = t }
 
--- where the records walked leave the check of the log, and the list of its records
-record Stands (s : List ℕ) (es : Snoc Record) (at last : ℕ) : Type 0 where
-  left : Left s at (record { 0 = last }) (size es)
-  more : ℕ
-  room : length s ≤ at + more
-  rest : recordsFrom more s at es ≡ recordsIn s
+-- before the first record the last moment is 0
+abbrev FirstAtZero : Kind → ℕ → Type 0
+FirstAtZero k last = k ≡ Unset → last ≡ 0
 
-module _ (s : List ℕ) where
-  -- what the check makes of a record found at an offset
-  took : (at : ℕ) (last : Moment) (n : ℕ) (e : Record) (p : ℕ) → nextAt s at ≡ next.Handed e p → (a b : Bool)
-      → ltb (timeOf e .0) (last .0) ≡ a
-      → leb mostRecords n ≡ b
-      → stepAt s at last n ≡ cond a (Over (checked.Refused TimeFalls at))
-      (cond b (Over (checked.Refused TooManyRecords at)) (Going p (timeOf e) (n + 1)))
-  unfolding stepAt
-  took at last n e p q a b x y = rw (q, x, y)
+-- a record that comes is what stands there with its moment, and does not fall
+module _ (s : List ℕ) (at last : ℕ) where
+  record Dates (k : Kind) (e : Record) (kind : Kind) (past : ℕ) : Type 0 where
+    dated-there : datedAt s at k (moment last) ≡ dated.At e kind past
+    later : last ≤ timeOf e .0
 
-  walked : {es : Snoc Record} {at last : ℕ} → Walk s es at last → Stands s es at last
-  unfolding recordsIn
-  walked start = record { left = left-first s; more = length s; room = omega arith; rest = refl }
-  walked (step {es} {at} {last} W e p F t k) =
-      let S = walked W in
-      let q = found-handed s at e p F in
-      let l = taken-past s at e p q in
-      let h : 0 < S .more = omega (arith, l, S .room) in
+  comes-dated : (k : Kind) (e : Record) (kind : Kind) (past : ℕ) → FirstAtZero k last → ComesAs s at last k e kind past
+      → Dates k e kind past
+  comes-dated k e kind past z (first-plain e′ past′ F) = record {
+    dated-there = dated-next s at Unset (moment last) _ (found-as s at (next.Handed e past) F);
+    later = omega (arith, z refl);
+  }
+  comes-dated k e kind past z (plain e′ past′ F l) =
+      record { dated-there = dated-next s at Plain (moment last) _ (found-as s at (next.Handed e past) F); later = l }
+  comes-dated k e kind past z (first-raw r past′ F) = record {
+    dated-there = dated-next s at Unset (moment last) _ (found-as s at (next.Raw r past) F);
+    later = omega (arith, z refl);
+  }
+  comes-dated k e kind past z (raw from r past′ F g t h l) =
+      let m : gapOf from (stampOf r) ≡ g = gap-only from (stampOf r) g t (omega arith) in
+      let u = ap (λ (x : Moment). x .0) (time-at r (moment (last + g))) in
       record {
-        left = subst (Left s p (timeOf e)) (add-one (size es))
-            (left-going s at (record { 0 = last }) (size es) (S .left) p (timeOf e) (size es + 1)
-            (took at (record { 0 = last }) (size es) e p q false false (le-ltb _ _ t) (lt-leb _ _ k)));
-        more = S .more - 1;
-        room = omega (arith, l, S .room);
-        rest = sym (one-record s at (S .more) h es (next.Handed e p) q) ∙ S .rest;
+        dated-there =
+            dated-next s at (Raw from) (moment last) _ (found-as s at (next.Raw r past) F)
+            ∙ ap (λ (x : ℕ). rawBy r past (laterMoment (moment last) x)) m
+            ∙ ap (rawBy r past) (later-at (moment last) g h l);
+        later = omega (arith, u);
       }
 
+-- what stands at an offset with its moment, by the cases of the claims
+module _ (s : List ℕ) (at last : ℕ) where
+  data Seen : Kind → Dated → Type 0 where
+    sees-end : {k : Kind} → FindsAs s at (found.end at) → Seen k dated.End
+    sees-none : {k : Kind} (f : RecordRefusal) → FindsAs s at (found.refused (recordRefusalNumber f) at)
+        → Seen k (dated.NoRecord f)
+    sees-fault : {k : Kind} (f : MomentRefusal) → ((es : Snoc Record) → FaultAt s es at last k (momentRefusalNumber f))
+        → Seen k (dated.NoMoment f)
+    sees-record : {k : Kind} (e : Record) (kind : Kind) (p : ℕ)
+        → (last ≤ timeOf e .0 → ComesAs s at last k e kind p)
+        → (timeOf e .0 < last → FirstAtZero k last → (es : Snoc Record) → FaultAt s es at last k timeFalls)
+        → Seen k (dated.At e kind p)
+
+  seen-plain : (e : Record) (p : ℕ) → FindsAs s at (found.handed e p) → (k : Kind)
+      → Seen k (datedBy k (moment last) (next.Handed e p))
+  seen-plain e p F Unset =
+      sees-record e Plain p (λ l. first-plain e p F) (λ l z es. absurd (omega (arith, l, z refl)))
+  seen-plain e p F Plain = sees-record e Plain p (λ l. plain e p F l) (λ l z es. falls e p F l)
+  seen-plain e p F (Raw from) = sees-fault Mixed (λ es. plain-in-raw from e p F)
+
+  seen-later : (from : Stamp) (e : RawRecord) (p : ℕ) → FindsAs s at (found.handed-raw e p) → (a b : Bool)
+      → leb halfRange (gapOf from (stampOf e)) ≡ a → leb range (last + gapOf from (stampOf e)) ≡ b
+      → Seen (Raw from) (rawBy e p (cond a (timed.Refused Falls)
+      (cond b (timed.Refused TooLate) (timed.At (moment (last + gapOf from (stampOf e)))))))
+  seen-later from e p F true b x y =
+      sees-fault Falls (λ es. goes-back from e p F (gapOf from (stampOf e)) (gap-leads from (stampOf e))
+      (leb-true _ _ x) (omega (arith, gap-below from (stampOf e))))
+  seen-later from e p F false true x y =
+      let h = leb-false halfRange (gapOf from (stampOf e)) x in
+      sees-fault TooLate (λ es. too-late from e p F (gapOf from (stampOf e)) (gap-leads from (stampOf e))
+      (omega (arith, h)) (leb-true _ _ y))
+  seen-later from e p F false false x y =
+      let u = ap (λ (m : Moment). m .0) (time-at e (moment (last + gapOf from (stampOf e)))) in
+      let h = leb-false halfRange (gapOf from (stampOf e)) x in
+      let r = leb-false range (last + gapOf from (stampOf e)) y in
+      sees-record _ _ p
+      (λ l. raw from e p F (gapOf from (stampOf e)) (gap-leads from (stampOf e)) (omega (arith, h)) (omega (arith, r)))
+      (λ l z es. absurd (omega (arith, l, u)))
+
+  seen-raw : (e : RawRecord) (p : ℕ) → FindsAs s at (found.handed-raw e p) → (k : Kind)
+      → Seen k (datedBy k (moment last) (next.Raw e p))
+  seen-raw e p F Unset =
+      sees-record _ _ p (λ l. first-raw e p F) (λ l z es. absurd (omega (arith, l, z refl)))
+  seen-raw e p F Plain = sees-fault Mixed (λ es. raw-in-plain e p F)
+  seen-raw e p F (Raw from) =
+      seen-later from e p F (leb halfRange (gapOf from (stampOf e))) (leb range (last + gapOf from (stampOf e))) refl refl
+
+  seen : (k : Kind) → Seen k (datedAt s at k (moment last))
+  seen k = by (nextAt s at) refl
+    where
+      is : (x : Next) → nextAt s at ≡ x → Seen k (datedBy k (moment last) x) → Seen k (datedAt s at k (moment last))
+      is x q S = subst (Seen k) (sym (dated-next s at k (moment last) x q)) S
+
+      by : (x : Next) → nextAt s at ≡ x → Seen k (datedAt s at k (moment last))
+      by next.End q = is _ q (sees-end (finds-of s at _ q))
+      by (next.Refused f) q = is _ q (sees-none f (finds-of s at _ q))
+      by (next.Handed e p) q = is _ q (seen-plain e p (finds-of s at _ q) k)
+      by (next.Raw e p) q = is _ q (seen-raw e p (finds-of s at _ q) k)
+
+-- where the records walked leave the check of the log, and the list of its records
+record Stands (s : List ℕ) (es : Snoc Record) (k : Kind) (at last : ℕ) : Type 0 where
+  first : FirstAtZero k last
+  left : Left s at k (moment last) (size es)
+  more : ℕ
+  room : length s ≤ at + more
+  rest : recordsFrom more s at k (moment last) es ≡ recordsIn s
+
+comes-set : {s : List ℕ} {at last : ℕ} {k : Kind} {e : Record} {kind : Kind} {p : ℕ} → ComesAs s at last k e kind p
+    → ¬ (kind ≡ Unset)
+comes-set (first-plain e p F) z = let w : _≡_ {A = ℕ} 0 1 = cc in omega arith
+comes-set (plain e p F l) z = let w : _≡_ {A = ℕ} 0 1 = cc in omega arith
+comes-set (first-raw e p F) z = let w : _≡_ {A = ℕ} 0 1 = cc in omega arith
+comes-set (raw from e p F g t h l) z = let w : _≡_ {A = ℕ} 0 1 = cc in omega arith
+
+module _ (s : List ℕ) where
+  -- what the check makes of what stands at an offset
+  came-to : (at : ℕ) (k : Kind) (last : Moment) (n : ℕ) (d : Dated) → datedAt s at k last ≡ d
+      → stepAt s at k last n ≡ stepBy at last n d
+  unfolding stepAt
+  came-to at k last n d q = ap (stepBy at last n) q
+
+  took : (at : ℕ) (k : Kind) (last : Moment) (n : ℕ) (e : Record) (kind : Kind) (p : ℕ)
+      → datedAt s at k last ≡ dated.At e kind p → (a b : Bool)
+      → ltb (timeOf e .0) (last .0) ≡ a
+      → leb mostRecords n ≡ b
+      → stepAt s at k last n ≡ cond a (Over (checked.Refused (NoMoment Falls) at))
+      (cond b (Over (checked.Refused TooManyRecords at)) (Going p kind (timeOf e) (n + 1)))
+  took at k last n e kind p q a b x y = came-to at k last n _ q ∙ rw (x, y)
+
+  walked : {es : Snoc Record} {k : Kind} {at last : ℕ} → Walk s es k at last → Stands s es k at last
+  unfolding recordsIn
+  walked start =
+      record { first = λ z. refl; left = left-first s; more = length s; room = omega arith; rest = refl }
+  walked (step {es} {k} {at} {last} W e kind p C n) =
+      let S = walked W in
+      let D = comes-dated s at last k e kind p (S .first) C in
+      let l = dated-past s at k (moment last) e kind p (D .dated-there) in
+      let h : 0 < S .more = omega (arith, l, S .room) in
+      record {
+        first = λ z. absurd (comes-set C z);
+        left = subst (Left s p kind (timeOf e)) (add-one (size es))
+            (left-going s at k (moment last) (size es) (S .left) p kind (timeOf e) (size es + 1)
+            (took at k (moment last) (size es) e kind p (D .dated-there) false false (le-ltb _ _ (D .later))
+            (lt-leb _ _ n)));
+        more = S .more - 1;
+        room = omega (arith, l, S .room);
+        rest = sym (one-record s at (S .more) h k (moment last) es (dated.At e kind p) (D .dated-there)) ∙ S .rest;
+      }
+
+  ended : (at : ℕ) (k : Kind) (last : Moment) → FindsAs s at (found.end at) → datedAt s at k last ≡ dated.End
+  ended at k last F = dated-next s at k last _ (found-as s at next.End F)
+
   -- the records of a log without a fault
-  pub walk-records : {es : Snoc Record} {at last : ℕ} → Walk s es at last → FindsAs s at (found.end at)
+  pub walk-records : {es : Snoc Record} {k : Kind} {at last : ℕ} → Walk s es k at last → FindsAs s at (found.end at)
       → recordsIn s ≡ es
   unfolding recordsFrom
-  walk-records {es} {at} W F = let S = walked W in sym (S .rest) ∙ by (S .more) refl
+  walk-records {es} {k} {at} {last} W F = let S = walked W in sym (S .rest) ∙ by (S .more) refl
     where
-      by : (n : ℕ) → walked W .more ≡ n → recordsFrom (walked W .more) s at es ≡ es
-      by zero q = ap (λ (j : ℕ). recordsFrom j s at es) q
-      by (suc n) q = one-record s at (walked W .more) (omega (arith, q)) es next.End (found-end s at F)
+      by : (n : ℕ) → walked W .more ≡ n → recordsFrom (walked W .more) s at k (moment last) es ≡ es
+      by zero q = ap (λ (j : ℕ). recordsFrom j s at k (moment last) es) q
+      by (suc n) q =
+          one-record s at (walked W .more) (omega (arith, q)) k (moment last) es dated.End (ended at k (moment last) F)
 
-  pub walk-fine : {es : Snoc Record} {at last : ℕ} → Walk s es at last → FindsAs s at (found.end at)
+  pub walk-fine : {es : Snoc Record} {k : Kind} {at last : ℕ} → Walk s es k at last → FindsAs s at (found.end at)
       → checkLog s ≡ checked.Fine (size es)
-  unfolding stepAt
-  walk-fine {es} {at} {last} W F =
-      sym (left-step s at (record { 0 = last }) (size es) (walked W .left) (Over (checked.Fine (size es)))
-      (rw (found-end s at F)))
+  walk-fine {es} {k} {at} {last} W F =
+      sym (left-step s at k (moment last) (size es) (walked W .left) (Over (checked.Fine (size es)))
+      (came-to at k (moment last) (size es) dated.End (ended at k (moment last) F)))
+
+  -- a fault is what the check ends with
+  record Ends (es : Snoc Record) (k : Kind) (at last f : ℕ) : Type 0 where
+    why : LogRefusal
+    ends-there : stepAt s at k (moment last) (size es) ≡ Over (checked.Refused why at)
+    told : f ≡ logRefusalNumber why
+
+  fault-ends : {es : Snoc Record} {at last : ℕ} (k : Kind) (f : ℕ) → FirstAtZero k last → FaultAt s es at last k f
+      → Ends es k at last f
+  fault-ends {es} {at} {last} k f z (no-record k′ f′ F) =
+      let R = found-refused s at f F in
+      record {
+        why = NoRecord (R .0);
+        ends-there = came-to at k (moment last) (size es) _ (dated-next s at k (moment last) _ (R .1));
+        told = R .2;
+      }
+  fault-ends {es} {at} {last} k f z (raw-in-plain e p F) = record {
+    why = NoMoment Mixed;
+    ends-there =
+        came-to at Plain (moment last) (size es) _
+        (dated-next s at Plain (moment last) _ (found-as s at (next.Raw e p) F));
+    told = refl;
+  }
+  fault-ends {es} {at} {last} k f z (plain-in-raw from e p F) = record {
+    why = NoMoment Mixed;
+    ends-there =
+        came-to at (Raw from) (moment last) (size es) _
+        (dated-next s at (Raw from) (moment last) _ (found-as s at (next.Handed e p) F));
+    told = refl;
+  }
+  fault-ends {es} {at} {last} k f z (falls e p F l) = record {
+    why = NoMoment Falls;
+    ends-there =
+        took at Plain (moment last) (size es) e Plain p
+        (dated-next s at Plain (moment last) _ (found-as s at (next.Handed e p) F)) true (leb mostRecords (size es))
+        (lt-ltb _ _ l) refl;
+    told = refl;
+  }
+  fault-ends {es} {at} {last} k f z (goes-back from e p F g t h r) =
+      let m = gap-only from (stampOf e) g t r in
+      record {
+        why = NoMoment Falls;
+        ends-there =
+            came-to at (Raw from) (moment last) (size es) (dated.NoMoment Falls)
+            (dated-next s at (Raw from) (moment last) _ (found-as s at (next.Raw e p) F)
+            ∙ ap (λ (x : ℕ). rawBy e p (laterMoment (moment last) x)) m
+            ∙ rw (le-leb _ _ h));
+        told = refl;
+      }
+  fault-ends {es} {at} {last} k f z (too-late from e p F g t h r) =
+      let m = gap-only from (stampOf e) g t (omega arith) in
+      record {
+        why = NoMoment TooLate;
+        ends-there =
+            came-to at (Raw from) (moment last) (size es) (dated.NoMoment TooLate)
+            (dated-next s at (Raw from) (moment last) _ (found-as s at (next.Raw e p) F)
+            ∙ ap (λ (x : ℕ). rawBy e p (laterMoment (moment last) x)) m
+            ∙ rw (lt-leb _ _ h, le-leb _ _ r));
+        told = refl;
+      }
+  fault-ends {es} {at} {last} k f z (overflows k′ e kind p C n) =
+      let D = comes-dated s at last k e kind p z C in
+      record {
+        why = TooManyRecords;
+        ends-there =
+            took at k (moment last) (size es) e kind p (D .dated-there) false true (le-ltb _ _ (D .later)) (le-leb _ _ n);
+        told = refl;
+      }
 
 -- what checking a log comes to, by the records before it
 data Checks (s : List ℕ) : Checked → Type 0 where
-  fine : {es : Snoc Record} {at last : ℕ} → Walk s es at last → FindsAs s at (found.end at)
+  fine : {es : Snoc Record} {k : Kind} {at last : ℕ} → Walk s es k at last → FindsAs s at (found.end at)
       → Checks s (checked.Fine (size es))
-  bad-bytes : {es : Snoc Record} {at last : ℕ} → Walk s es at last → (k : RecordRefusal)
-      → FindsAs s at (found.refused (recordRefusalNumber k) at)
-      → Checks s (checked.Refused (NoRecord k) at)
-  bad-time : {es : Snoc Record} {at last : ℕ} → Walk s es at last → (e : Record) (past : ℕ)
-      → FindsAs s at (found.handed e past) → timeOf e .0 < last
-      → Checks s (checked.Refused TimeFalls at)
-  bad-count : {es : Snoc Record} {at last : ℕ} → Walk s es at last → (e : Record) (past : ℕ)
-      → FindsAs s at (found.handed e past) → last ≤ timeOf e .0
-      → mostRecords ≤ size es → Checks s (checked.Refused TooManyRecords at)
+  bad : {es : Snoc Record} {k : Kind} {at last : ℕ} → Walk s es k at last → (f : LogRefusal)
+      → FaultAt s es at last k (logRefusalNumber f) → Checks s (checked.Refused f at)
 
 module _ (s : List ℕ) where
-  checks : (f : ℕ) (es : Snoc Record) (at : ℕ) (last : Moment) → Walk s es at (last .0) → length s < at + f
-      → Checks s (checkFrom f s at last (size es))
+  checks : (f : ℕ) (es : Snoc Record) (at : ℕ) (k : Kind) (last : Moment) → Walk s es k at (last .0) → length s < at + f
+      → Checks s (checkFrom f s at k last (size es))
   unfolding checkFrom stepAt
-  checks zero es at last W h = fine W (ends (omega arith))
-  checks (suc f) es at last W h = by (nextAt s at) refl (λ ds p t X l. checks f ds p t X l)
+  checks zero es at k last W h = fine W (ends (omega arith))
+  checks (suc f) es at k last W h =
+      by (datedAt s at k last) refl (seen s at (last .0) k) (λ ds p j t X l. checks f ds p j t X l)
     where
-      taken : (e : Record) (p : ℕ) → nextAt s at ≡ next.Handed e p
-          → ((ds : Snoc Record) (q : ℕ) (t : Moment) → Walk s ds q (t .0) → length s < q + f
-          → Checks s (checkFrom f s q t (size ds)))
-          → (a b : Bool) → ltb (timeOf e .0) (last .0) ≡ a → leb mostRecords (size es) ≡ b
-          → Checks s
-          (checkOn (checkFrom f s)
-          (cond a (Over (checked.Refused TimeFalls at))
-          (cond b (Over (checked.Refused TooManyRecords at)) (Going p (timeOf e) (size es + 1)))))
-      taken e p q i true b x y = bad-time W e p (finds-of s at _ q) (ltb-true _ _ x)
-      taken e p q i false true x y = bad-count W e p (finds-of s at _ q) (ltb-false _ _ x) (leb-true _ _ y)
-      taken e p q i false false x y =
-          subst (λ (k : ℕ). Checks s (checkFrom f s p (timeOf e) k)) (sym (add-one (size es)))
-          (i (es ▸ e) p (timeOf e) (step W e p (finds-of s at _ q) (ltb-false _ _ x) (leb-false _ _ y))
-          (omega (arith, taken-past s at e p q)))
-
-      by : (x : Next) → nextAt s at ≡ x
-          → ((ds : Snoc Record) (q : ℕ) (t : Moment) → Walk s ds q (t .0) → length s < q + f
-          → Checks s (checkFrom f s q t (size ds)))
-          → Checks s (checkOn (checkFrom f s) (stepBy at last (size es) x))
-      by next.End q i = fine W (finds-of s at _ q)
-      by (next.Refused k) q i = bad-bytes W k (finds-of s at _ q)
-      by (next.Handed e p) q i = taken e p q i (ltb (timeOf e .0) (last .0)) (leb mostRecords (size es)) refl refl
+      by : (d : Dated) → datedAt s at k last ≡ d → Seen s at (last .0) k d
+          → ((ds : Snoc Record) (q : ℕ) (j : Kind) (t : Moment) → Walk s ds j q (t .0) → length s < q + f
+          → Checks s (checkFrom f s q j t (size ds)))
+          → Checks s (checkOn (checkFrom f s) (stepBy at last (size es) d))
+      by d q (sees-end F) i = fine W F
+      by d q (sees-none g F) i = bad W (NoRecord g) (no-record k _ F)
+      by d q (sees-fault g F) i = bad W (NoMoment g) (F es)
+      by d q (sees-record e kind p C N) i =
+          tests (ltb (timeOf e .0) (last .0)) (leb mostRecords (size es)) refl refl
+        where
+          tests : (a b : Bool) → ltb (timeOf e .0) (last .0) ≡ a → leb mostRecords (size es) ≡ b
+              → Checks s (checkOn (checkFrom f s)
+              (cond a (Over (checked.Refused (NoMoment Falls) at))
+              (cond b (Over (checked.Refused TooManyRecords at)) (Going p kind (timeOf e) (size es + 1)))))
+          tests true b x y = bad W (NoMoment Falls) (N (ltb-true _ _ x) (walked s W .first) es)
+          tests false true x y =
+              bad W TooManyRecords (overflows k e kind p (C (ltb-false _ _ x)) (leb-true _ _ y))
+          tests false false x y =
+              subst (λ (n : ℕ). Checks s (checkFrom f s p kind (timeOf e) n)) (sym (add-one (size es)))
+              (i (es ▸ e) p kind (timeOf e) (step W e kind p (C (ltb-false _ _ x)) (leb-false _ _ y))
+              (omega (arith, dated-past s at k last e kind p q)))
 
   log-checks : Checks s (checkLog s)
   unfolding checkLog
-  log-checks = checks (length s + 1) ε 0 (record { 0 = 0 }) start (omega arith)
+  log-checks = checks (length s + 1) ε 0 Unset (moment 0) start (omega arith)
 
 -- 20 at 0, the first fault of the log, or the verdict
 module _ (c : Chart) (G : (wellFormed c ≡ true) ↔ Given c) (s : List ℕ) where
   by-checks : Given c → (x : Checked) → Checks s x → JudgesAs c s (byCheck c s x)
   by-checks g x (fine W F) = rw (walk-records s W F) (judges g W F)
-  by-checks g x (bad-bytes W k F) = no-record g W _ F
-  by-checks g x (bad-time W e p F t) = falls g W e p F t
-  by-checks g x (bad-count W e p F t n) = overflows g W e p F t n
+  by-checks g x (bad W f F) = refuses g W _ F
 
   judges-as : JudgesAs c s (judgeOf c s)
   unfolding judgeOf
@@ -286,31 +494,19 @@ module _ (c : Chart) (G : (wellFormed c ≡ true) ↔ Given c) (s : List ℕ) wh
     | inr w ↦ rw w (not-given (given-not c G w))
   ]
 
-  -- the check ends at the offset to which the records walked lead
-  checked-at : {es : Snoc Record} {at last : ℕ} → Walk s es at last → (x : Checked)
-      → stepAt s at (record { 0 = last }) (size es) ≡ Over x → x ≡ checkLog s
-  checked-at {es} {at} {last} W x q = left-step s at (record { 0 = last }) (size es) (walked s W .left) (Over x) q
-
   judged-by : Given c → (x : Checked) → x ≡ checkLog s → byCheck c s x ≡ judgeOf c s
   unfolding judgeOf
   judged-by g x e = rw (G .1 g, sym e)
 
   judges-only : (x : judge.Said) → JudgesAs c s x → x ≡ judgeOf c s
-  unfolding judgeOf stepAt
+  unfolding judgeOf
   judges-only x (not-given n) = elim (split (wellFormed c)) [ inl w ↦ absurd (n (G .0 w)) | inr w ↦ rw w ]
-  judges-only x (no-record g {es} {at} {last} W k F) =
-      let R = found-refused s at k F in
-      rw (R .2) (judged-by g (checked.Refused (NoRecord (R .0)) at) (checked-at W _ (rw (R .1))))
-  judges-only x (falls g {es} {at} {last} W e p F t) =
-      judged-by g (checked.Refused TimeFalls at)
-      (checked-at W _
-      (took s at (record { 0 = last }) (size es) e p (found-handed s at e p F) true (leb mostRecords (size es))
-      (lt-ltb _ _ t) refl))
-  judges-only x (overflows g {es} {at} {last} W e p F t n) =
-      judged-by g (checked.Refused TooManyRecords at)
-      (checked-at W _
-      (took s at (record { 0 = last }) (size es) e p (found-handed s at e p F) false true (le-ltb _ _ t)
-      (le-leb _ _ n)))
+  judges-only x (refuses g {es} {k} {at} {last} W f F) =
+      let S = walked s W in
+      let E = fault-ends s k f (S .first) F in
+      rw (E .told)
+      (judged-by g (checked.Refused (E .why) at)
+      (left-step s at k (moment last) (size es) (S .left) (Over (checked.Refused (E .why) at)) (E .ends-there)))
   judges-only x (judges g {es} W F) =
       ap {B = judge.Said}
       (λ (l : Snoc Record). record {
@@ -322,3 +518,31 @@ module _ (c : Chart) (G : (wellFormed c ≡ true) ↔ Given c) (s : List ℕ) wh
 
   pub judges-just : (r : judge.Said) → r ≡ judgeOf c s → Just (JudgesAs c s) r
   judges-just r e = record { holds = subst (JudgesAs c s) (sym e) judges-as; only = λ x J. judges-only x J ∙ sym e }
+
+-- raw records with true times are walked
+module _ (s : List ℕ) (first : ℕ) where
+  not-before : {es : Snoc Record} {at t : ℕ} → TrueWalk s first es at t → first ≤ t
+  not-before (begins e p F q) = omega arith
+  not-before (goes-on T e p F u q l h r n) = omega (arith, not-before T)
+
+  pub true-walk : {es : Snoc Record} {at t : ℕ} → TrueWalk s first es at t → Walk s es (Raw (shownAt t)) at (t - first)
+  true-walk (begins e p F q) =
+      let u : timeOf (atMoment e (moment 0)) .0 ≡ first - first = ap (λ (x : Moment). x .0) (time-at e (moment 0))
+      ∙ omega arith in
+      subst (λ (l : ℕ). Walk s (ε ▸ atMoment e (moment 0)) (Raw (shownAt first)) p l) u
+      (subst (λ (x : Stamp). Walk s (ε ▸ atMoment e (moment 0)) (Raw x) p (timeOf (atMoment e (moment 0)) .0)) q
+      (step start _ _ p (first-raw e p F) (omega arith)))
+  true-walk (goes-on {es} {at} {t} T e p F u q l h r n) =
+      let f = not-before T in
+      let g : t - first + (u - t) ≡ u - first = omega (arith, f) in
+      let C : ComesAs s at (t - first) (Raw (shownAt t)) (atMoment e (moment (t - first + (u - t)))) (Raw (stampOf e)) p
+      = raw (shownAt t) e p F (u - t) (true-ticks t u l ∙ ap (λ (x : Stamp). x .0 % range) (sym q)) h (omega (arith, f, r)) in
+      let D : ComesAs s at (t - first) (Raw (shownAt t)) (atMoment e (moment (u - first))) (Raw (shownAt u)) p
+      = subst (λ (x : Stamp). ComesAs s at (t - first) (Raw (shownAt t)) (atMoment e (moment (u - first))) (Raw x) p) q
+      (subst (λ (x : ℕ). ComesAs s at (t - first) (Raw (shownAt t)) (atMoment e (moment x)) (Raw (stampOf e)) p) g C) in
+      subst (λ (x : ℕ). Walk s (es ▸ atMoment e (moment (u - first))) (Raw (shownAt u)) p x)
+      (ap (λ (x : Moment). x .0) (time-at e (moment (u - first))))
+      (step (true-walk T) _ _ p D n)
+    where
+      true-ticks : (t u : ℕ) → t ≤ u → (t % range + (u - t)) % range ≡ u % range % range
+      true-ticks t u l = omega arith

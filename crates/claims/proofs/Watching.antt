@@ -7,18 +7,22 @@ use lib.ListN.{length}
 use borrow.Author.Tests.{ne-eqb}
 use Rattle.model.specs.declared.Chart.{Chart}
 use Rattle.model.specs.declared.Cause.{Cause}
+use Rattle.model.specs.declared.Moment.{Moment}
 use Rattle.model.specs.declared.Monitor.{Monitor}
 use Rattle.model.specs.declared.Record.{Record}
 use Rattle.model.specs.declared.Verdict.{Verdict}
-use Rattle.model.specs.Monitor.{zeroMonitor}
+use Rattle.model.specs.Monitor.{zeroMonitor, timeOf}
 use Rattle.chart_reader.specs.declared.ChartRead.{ChartRead}
 use Rattle.chart_reader.specs.Read.{readChart}
 use Rattle.chart_reader.specs.Said.{Said, said, acceptedAs, numberOf, offsetOf}
 use Rattle.chart_value.proofs.Shown.{shown-of, shown}
 use Rattle.chart_value.proofs.Sound.{sound}
 use Rattle.log_reader.specs.declared.RecordRefusal.{RecordRefusal}
-use Rattle.log_reader.specs.declared.Next.the-variants.{End, Refused, Handed}
-use Rattle.log_reader.specs.Next.{nextAt}
+use Rattle.log_clock.specs.declared.Kind.{Kind}
+use Rattle.log_clock.specs.declared.Kind.the-variants.{Unset}
+use Rattle.log_clock.specs.declared.MomentRefusal.{MomentRefusal}
+use Rattle.log_clock.specs.declared.Dated.the-variants.{End, NoRecord, NoMoment, At}
+use Rattle.log_clock.specs.Dated.{datedAt}
 use Rattle.base.specs.Lists.{Snoc, ε, _▸_}
 use Rattle.rounds.specs.Chart.{Chart as Abstract, Accepted}
 use Rattle.rounds.specs.Rows.{LogRecord}
@@ -44,8 +48,8 @@ use Rattle.monitor.proofs.History.{feeding}
 use Rattle.claims.specs.declared.Watched.{Watched}
 use Rattle.claims.specs.Watch.{FedAll, Watches}
 use Rattle.claims.specs.Claims.{Demands}
-use Rattle.log_reader.specs.Records.{recordsFrom, recordsIn}
-use Rattle.log_reader.proofs.Records.{one-record}
+use Rattle.log_clock.specs.Records.{recordsFrom, recordsIn}
+use Rattle.log_clock.proofs.Records.{one-record}
 
 -- the demands, of every chart that is read
 pub demands-read : (bytes : List ℕ) (c : Chart) → readChart bytes ≡ acceptedAs c → Demands c
@@ -57,41 +61,48 @@ demands-read bytes c e =
       feeding = feeding c (sound bytes c e .fine) A;
     }
 
--- the records fed before an offset; they and those left are the log's
-pub record SoFar (c : Chart) (s : List ℕ) (m : Monitor) (at left : ℕ) : Type 0 where
+-- the records fed before an offset, of a kind, the last at the moment `last`; they and those left are the log's
+pub record SoFar (c : Chart) (s : List ℕ) (m : Monitor) (at left : ℕ) (k : Kind) (last : Moment) : Type 0 where
   pub before : Snoc Record
   pub ans : Snoc AbstractAnswer
   pub history : History c before ans m
-  pub rest : recordsFrom left s at before ≡ recordsIn s
+  pub rest : recordsFrom left s at k last before ≡ recordsIn s
 
-pub at-start : {c : Chart} {s : List ℕ} (m : Monitor) → m ≡ zeroMonitor → SoFar c s m 0 (length s)
+pub at-start : {c : Chart} {s : List ℕ} (m : Monitor) → m ≡ zeroMonitor
+    → SoFar c s m 0 (length s) Unset (record { 0 = 0 })
 unfolding recordsIn
 at-start {c} m e =
     record { before = ε; ans = ε; history = subst (λ (x : Monitor). History c ε ε x) (sym e) none-yet; rest = refl }
 
-module _ {c : Chart} {s : List ℕ} {m : Monitor} {at left : ℕ} (S : SoFar c s m at left) where
-  pub fed-one : 0 < left → (e : Record) (past : ℕ) → nextAt s at ≡ Handed e past → (r : Step) → stepOf r ≡ feedOf c m e
-      → SoFar c s (r .next) past (left - 1)
-  fed-one h e past q r f = record {
+module _ {c : Chart} {s : List ℕ} {m : Monitor} {at left : ℕ} {k : Kind} {last : Moment}
+    (S : SoFar c s m at left k last) where
+  pub fed-one : 0 < left → (e : Record) (kind : Kind) (past : ℕ) → datedAt s at k last ≡ At e kind past → (r : Step)
+      → stepOf r ≡ feedOf c m e → (t : Moment) → t ≡ timeOf e → SoFar c s (r .next) past (left - 1) kind t
+  fed-one h e kind past q r f t z = record {
     before = S .before ▸ e;
     ans = _;
     history = one-more e r (S .history) f;
-    rest = sym (one-record s at left h (S .before) (Handed e past) q) ∙ S .rest;
+    rest =
+        ap (λ (x : Moment). recordsFrom (left - 1) s past kind x (S .before ▸ e)) z
+        ∙ sym (one-record s at left h k last (S .before) (At e kind past) q) ∙ S .rest;
   }
 
   done : S .before ≡ recordsIn s → FedAll c (recordsIn s) m
   done e = record { ans = S .ans; history = subst (λ (es : Snoc Record). History c es (S .ans) m) e (S .history) }
 
-  -- no record stands at the offset
-  pub fed-none : 0 < left → nextAt s at ≡ End → FedAll c (recordsIn s) m
-  fed-none h q = done (sym (one-record s at left h (S .before) End q) ∙ S .rest)
+  -- no record with a moment stands at the offset
+  pub fed-none : 0 < left → datedAt s at k last ≡ End → FedAll c (recordsIn s) m
+  fed-none h q = done (sym (one-record s at left h k last (S .before) End q) ∙ S .rest)
 
-  pub fed-bad : 0 < left → (f : RecordRefusal) → nextAt s at ≡ Refused f → FedAll c (recordsIn s) m
-  fed-bad h f q = done (sym (one-record s at left h (S .before) (Refused f) q) ∙ S .rest)
+  pub fed-bad : 0 < left → (f : RecordRefusal) → datedAt s at k last ≡ NoRecord f → FedAll c (recordsIn s) m
+  fed-bad h f q = done (sym (one-record s at left h k last (S .before) (NoRecord f) q) ∙ S .rest)
+
+  pub fed-untimed : 0 < left → (f : MomentRefusal) → datedAt s at k last ≡ NoMoment f → FedAll c (recordsIn s) m
+  fed-untimed h f q = done (sym (one-record s at left h k last (S .before) (NoMoment f) q) ∙ S .rest)
 
   pub fed-end : left ≡ 0 → FedAll c (recordsIn s) m
   unfolding recordsFrom
-  fed-end z = done (sym (ap (λ (j : ℕ). recordsFrom j s at (S .before)) z) ∙ S .rest)
+  fed-end z = done (sym (ap (λ (j : ℕ). recordsFrom j s at k last (S .before)) z) ∙ S .rest)
 
 -- what `watch` promises of a chart that is read
 pub watched : (chart log : List ℕ) (x : ChartRead) (r : Watched) → said x ≡ readChart chart → r .answer ≡ x .answer
@@ -138,8 +149,8 @@ module _ (C : Abstract) (A : Accepted C) {fs : Snoc LogRecord} (M : Meaning C fs
   same-verdict (afterBreak k x) q = same-broken q
 
 -- the verdict, by the stretches
-pub judged-walk : (c : Chart) → Given c → (log : List ℕ) {es : Snoc Record} {at last : ℕ} → Walk log es at last
-    → FindsAs log at (found.end at)
+pub judged-walk : (c : Chart) → Given c → (log : List ℕ) {es : Snoc Record} {k : Kind} {at last : ℕ}
+    → Walk log es k at last → FindsAs log at (found.end at)
     → (M : Meaning (chartOf c) (logged es)) (m : AbstractMonitor)
     → Agrees (chartOf c) (M .accepted) (M .stretches) (M .last) m
     → JudgesAs c log (judgedLog (verdictOf (chartOf c) m))

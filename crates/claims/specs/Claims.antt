@@ -2,7 +2,7 @@
 use mathlib.Core.Path.{_≡_}
 use mathlib.Core.Logic.{_↔_}
 use mathlib.Core.List.{List}
-use Prim.Native.Nat.{ℕ}
+use Prim.Native.Nat.{ℕ, _-_}
 use lib.ListN.{getD}
 use Rattle.bitset.specs.Set.{contains}
 use Rattle.model.specs.declared.Chart.{Chart}
@@ -28,13 +28,16 @@ use Rattle.stepping.specs.declared.Step.{Step}
 use Rattle.stepping.specs.Monitors.{monitorAt, stepOf}
 use Rattle.log_reader.specs.declared.Next.{Next}
 use Rattle.log_reader.specs.Record as found
-use Rattle.log_reader.specs.Records.{recordsIn}
+use Rattle.log_clock.specs.declared.Kind.{Kind}
+use Rattle.log_clock.specs.declared.Kind.the-variants.{Raw}
+use Rattle.log_clock.specs.Records.{recordsIn}
+use Rattle.log_clock.specs.TrueTimes.{shownAt, TrueTimes}
 use Rattle.monitor.specs.History.{Feeding, ViewTells}
 use Rattle.chart_value.specs.Records.{logged}
 use Rattle.judge.specs.declared.Judgement.{Judgement}
 use Rattle.judge.specs.Verdict as judge
 use Rattle.judge.specs.Verdict.{verdictOf}
-use Rattle.claims.specs.Demand1.{FindsAs, Walk, JudgesAs, judgedLog}
+use Rattle.claims.specs.Demand1.{FindsAs, Walk, TrueWalk, JudgesAs, judgedLog}
 use Rattle.claims.specs.Examples.{examples, AllSaid}
 
 -- what is said of an answer fixes it: two answers of which the same is said are the same value
@@ -85,14 +88,19 @@ pub record Claims : Type 0 where
   pub demands : (bytes : List ℕ) (c : Chart) → readChart bytes ≡ acceptedAs c → Demands c
   -- the verdict over a log without a fault is what the stretches of its records give: that of each monitor that agrees
   -- with them
-  pub judged : (c : Chart) → Given c → (log : List ℕ) {es : Snoc Record} {at last : ℕ} → Walk log es at last
-      → FindsAs log at (found.end at)
+  pub judged : (c : Chart) → Given c → (log : List ℕ) {es : Snoc Record} {k : Kind} {at last : ℕ}
+      → Walk log es k at last → FindsAs log at (found.end at)
       → (M : Meaning (chartOf c) (logged es)) (m : AbstractMonitor)
       → Agrees (chartOf c) (M .accepted) (M .stretches) (M .last) m
       → JudgesAs c log (judgedLog (verdictOf (chartOf c) m))
   -- and these are the records that are fed from its bytes
-  pub walked : (log : List ℕ) {es : Snoc Record} {at last : ℕ} → Walk log es at last → FindsAs log at (found.end at)
-      → recordsIn log ≡ es
+  pub walked : (log : List ℕ) {es : Snoc Record} {k : Kind} {at last : ℕ} → Walk log es k at last
+      → FindsAs log at (found.end at) → recordsIn log ≡ es
+  -- L13: the moments of raw stamps are the true times since the first; of stamps, and of a log's raw records, which are
+  -- walked without a fault
+  pub true-times : TrueTimes
+  pub true-walk : (log : List ℕ) (first : ℕ) {es : Snoc Record} {at t : ℕ} → TrueWalk log first es at t
+      → Walk log es (Raw (shownAt t)) at (t - first)
   -- the view in which feeding's contract is stated shows every field of a monitor, and fixes the monitor; a step's
   -- answer and monitor are shown likewise
   pub views : (m : Monitor) → Views m

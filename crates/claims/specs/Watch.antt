@@ -9,7 +9,7 @@ use Rattle.model.specs.declared.Record.{Record}
 use Rattle.model.specs.Monitor.{zeroMonitor}
 use Rattle.chart_reader.specs.Read.{readChart}
 use Rattle.chart_reader.specs.Said.{acceptedAs, numberOf, offsetOf}
-use Rattle.log_reader.specs.Records.{recordsIn}
+use Rattle.log_clock.specs.Records.{recordsIn}
 use Rattle.base.specs.Lists.{Snoc}
 use Rattle.rounds.specs.Feeds.{Answer as AbstractAnswer}
 use Rattle.rounds.specs.Demand3.{Meaning, Agrees}

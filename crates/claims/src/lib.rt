@@ -4,8 +4,11 @@
 use chart_reader::ChartAnswer;
 use chart_reader::ChartRead;
 use judge::Judgement;
+use log_clock::Dated;
+use log_clock::Kind;
 use log_reader::Next;
 use model::Chart;
+use model::Moment;
 use model::Monitor;
 use model::Record;
 use monitor::Made;
@@ -18,7 +21,7 @@ ghost use Rattle.log_reader.specs.Record.{said as recordSaid};
 ghost use Rattle.judge.specs.Verdict.{said as judgeSaid};
 ghost use Rattle.claims.specs.Claims.{Claims};
 ghost use Rattle.claims.specs.Demand1.{Just, ReadsAs, MakesAs, FeedsJust, FindsAs, JudgesAs};
-ghost use Rattle.log_reader.specs.Records.{recordsIn};
+ghost use Rattle.log_clock.specs.Records.{recordsIn};
 ghost use Rattle.claims.specs.Watch.{FedAll, Watches};
 
 // Reading a chart: every byte string.
@@ -65,27 +68,34 @@ pub struct Watched {
     pub monitor: Monitor,
 }
 
-// Feeds the log's records from the left, whatever each feed answers.
+// Feeds the log's records from the left, each at its moment, whatever each feed answers.
 fn feed_all(chart: Chart, log: &[u8], fresh: Monitor) -> Monitor
     requires { ⌜ fresh ≡ zeroMonitor ⌝ }
     ensures { λ r. ⌜ FedAll chart (recordsIn (now (log .entry))) r ⌝ }
 {
     let mut m = fresh;
     let mut at: usize = 0;
+    let mut kind = Kind::Unset;
+    let mut last = Moment(0);
     let mut left = log.len();
     while 0 < left {
-        let n = log_reader::read_record(log, at);
-        match n {
-            Next::End => {
+        let d = log_clock::record_at(log, at, kind, last);
+        match d {
+            Dated::End => {
                 return m;
             }
-            Next::Refused(_) => {
+            Dated::NoRecord(_) => {
                 return m;
             }
-            Next::Handed(e, past) => {
+            Dated::NoMoment(_) => {
+                return m;
+            }
+            Dated::At(e, then, past) => {
                 let s = monitor::feed(chart, m, e);
                 m = s.next;
                 at = past;
+                kind = then;
+                last = model::time_of(e);
                 left -= 1;
             }
         }

@@ -6,7 +6,8 @@ use hex::COLON;
 use hex::LINE_FEED;
 use libc::STDIN_FILENO;
 use libc::STDOUT_FILENO;
-use log_reader::Next;
+use log_clock::Dated;
+use log_clock::Kind;
 use model::CLOCK_PLACES;
 use model::Cause;
 use model::Moment;
@@ -62,23 +63,27 @@ fn put_step(s: Step) {
     put(b"\n");
 }
 
-// Feeds the log's records from the left, as far as its bytes are records.
+// Feeds the log's records from the left, each at its moment, as far as there are records with moments.
 fn put_feeds(chart: &[u8], log: &[u8]) {
     let read = chart_reader::read(chart);
     let c = read.chart;
     let made = monitor::new(c);
     let mut m = made.monitor;
     let mut at: usize = 0;
+    let mut kind = Kind::Unset;
+    let mut last = Moment(0);
     let mut left = log.len();
     while 0 < left {
-        let next = log_reader::read_record(log, at);
-        let Next::Handed(e, past) = next else {
+        let dated = log_clock::record_at(log, at, kind, last);
+        let Dated::At(e, then, past) = dated else {
             return;
         };
         let s = monitor::feed(c, m, e);
         put_step(s);
         m = s.next;
         at = past;
+        kind = then;
+        last = model::time_of(e);
         left -= 1;
     }
 }

@@ -3,7 +3,7 @@
 use mathlib.Core.Path.{_≡_, refl, sym, ap, subst, _∙_}
 use mathlib.Core.Bool.{Bool, true, false, cond, not, So, _&&_}
 use mathlib.Core.List.{List}
-use Prim.Native.Nat.{ℕ, suc, _+_, _-_, _≤_, _<_}
+use Prim.Native.Nat.{ℕ, suc, _+_, _-_, _%_, _≤_, _<_}
 use native.Mathlib.Decide.{ℕ-discrete}
 use native.Mathlib.Omega.{arith}
 use lib.Dec.{leb, ltb}
@@ -24,23 +24,24 @@ use Rattle.rounds.specs.Machine.{Monitor as AbstractMonitor, Step as AbstractSt
 use Rattle.rounds.specs.Machine.{takeMessage, full, prechartDone, goOn, keepRound, dropRound, breakRound, conclude}
 use Rattle.rounds.specs.Machine.{missed, fitsOpening, reopened, accept, feed, after}
 use Rattle.base.proofs.Bools.{clash}
-use Rattle.log_reader.specs.declared.Next.the-variants.{Handed}
 use Rattle.log_reader.specs.Next.{nextAt}
-use Rattle.log_reader.specs.Records.{recordsIn}
-use Rattle.log_reader.proofs.Offsets.{at-end, taken-past}
+use Rattle.log_clock.specs.declared.Kind.{Kind}
+use Rattle.log_clock.specs.declared.Kind.the-variants.{Unset}
+use Rattle.log_clock.specs.Clock.{range}
+use Rattle.log_clock.specs.Records.{recordsIn}
+use Rattle.log_clock.proofs.Records.{dated-end, dated-past}
 use Rattle.stepping.specs.declared.Step.{Step}
 use Rattle.stepping.specs.Monitors.{monitorAt, stepOf, recordOf}
 use Rattle.layout.specs.View.{Covers}
 use Rattle.plan.specs.Slots.{slotOf, Slotted}
 use Rattle.chart_value.specs.Records.{logged}
-use Rattle.judge.specs.declared.LogRefusal.the-variants.{TimeFalls, TooManyRecords}
-use Rattle.judge.specs.declared.Checked.the-variants.{Refused}
-use Rattle.judge.specs.declared.CheckStep.the-variants.{Over}
-use Rattle.judge.specs.Check.{checkLog, stepAt, stepBy, takeRecord}
 use Rattle.model.specs.Monitor.{timeOf}
-use Rattle.judge.specs.Parts.{isFine, codeAt}
-use Rattle.judge.proofs.Laws.{Left, left-first, left-step, left-going}
-use Rattle.judge.proofs.Fed.{SoFar, at-start, code-of, fed-one, fed-none, fed-end}
+use Rattle.judge.specs.declared.Taken.{Taken}
+use Rattle.judge.specs.Check.{checkLog}
+use Rattle.judge.specs.Parts.{isFine, originOf, sizeAt, takenAt}
+use Rattle.judge.proofs.Laws.{Left, left-first}
+use Rattle.judge.proofs.Fed.{SoFar, at-start, fed-one, fed-none, fed-end}
+use Rattle.judge.proofs.Moments.{Passed, passed, Clocked, at-first, Came, came}
 
 -- every region that has a message is in its code's slot
 pub slot-covers : {count : ℕ} {keys slots : List ℕ} → Slotted count keys slots → count ≤ mostRegions → (code : ℕ)
@@ -49,28 +50,6 @@ slot-covers {slots = slots} S n code = record {
   within = record { few = n; own = λ i m. S .own i (slotOf code) m };
   has = λ i l e. subst (λ (k : ℕ). So (contains (getD slots (slotOf k) 0) i)) e (S .has i l);
 }
-
--- a record that the check lets pass
-record Passed (s : List ℕ) (last : Moment) (n : ℕ) (e : Record) (past : ℕ) : Type 0 where
-  later : ltb (timeOf e .0) (last .0) ≡ false
-  few : leb mostRecords n ≡ false
-  rest : Left s past (timeOf e) (n + 1)
-
-passed : (s : List ℕ) (at : ℕ) (last : Moment) (n : ℕ) → Left s at last n → So (isFine (checkLog s))
-    → (e : Record) (past : ℕ) → nextAt s at ≡ Handed e past
-    → Passed s last n e past
-unfolding stepAt
-passed s at last n l f e past q = by (ltb (timeOf e .0) (last .0)) (leb mostRecords n) refl refl
-  where
-    step : stepAt s at last n ≡ takeRecord (timeOf e) past at last n
-    step = ap (stepBy at last n) q
-
-    by : (a b : Bool) → ltb (timeOf e .0) (last .0) ≡ a → leb mostRecords n ≡ b → Passed s last n e past
-    by true b x y = clash f (sym (ap isFine (left-step s at last n l (Over (Refused TimeFalls at)) (step ∙ rw x))))
-    by false true x y =
-        clash f (sym (ap isFine (left-step s at last n l (Over (Refused TooManyRecords at)) (step ∙ rw (x, y)))))
-    by false false x y =
-        record { later = x; few = y; rest = left-going s at last n l past (timeOf e) (n + 1) (step ∙ rw (x, y)) }
 
 -- the record is the first after n, and now is its time
 record Counted (e : LogRecord) (n : ℕ) (x : AbstractStep) : Type 0 where
@@ -115,68 +94,94 @@ module _ (C : Abstract) (m : AbstractMonitor) (e : LogRecord) where
   unfolding feed
   accept-fed b t n = rw (eq-eqb (m .tally .broken .at) 0 b, t, n)
 
--- the records taken before an offset, the check up to there, and no break
-pub record Going (C : Abstract) (s : List ℕ) (m : Monitor) (at : ℕ) : Type 0 where
+-- the records taken before an offset, the check up to there, the clock there, and no break
+pub record Going (C : Abstract) (s : List ℕ) (o : ℕ) (m : Monitor) (at : ℕ) : Type 0 where
   pub left : ℕ
+  pub kind : Kind
   pub room : length s ≤ at + left
-  pub taken : SoFar C s m at left
-  pub checked : Left s at (m .tally .now) (m .tally .records)
+  pub taken : SoFar C s m at left kind (m .tally .now)
+  pub checked : Left s at kind (m .tally .now) (m .tally .records)
+  pub clock : Clocked s o at kind (m .tally .now .0)
+  pub origin : o ≡ originOf (nextAt s 0)
   pub whole : m .tally .broken .at ≡ 0
 
-pub going-start : {C : Abstract} {s : List ℕ} (m : Monitor) → m ≡ zeroMonitor → Going C s m 0
-going-start {s = s} m e = record {
+pub going-start : {C : Abstract} {s : List ℕ} (o : ℕ) → o ≡ originOf (nextAt s 0) → (m : Monitor) → m ≡ zeroMonitor
+    → Going C s o m 0
+going-start {C} {s} o z m e = record {
   left = length s;
+  kind = Unset;
   room = omega arith;
-  taken = at-start m e;
-  checked = subst (λ (x : Monitor). Left s 0 (x .tally .now) (x .tally .records)) (sym e) (left-first s);
+  taken = subst (λ (t : Moment). SoFar C s m 0 (length s) Unset t) (sym (ap (λ (x : Monitor). x .tally .now) e))
+      (at-start m e);
+  checked = subst (λ (x : Monitor). Left s 0 Unset (x .tally .now) (x .tally .records)) (sym e) (left-first s);
+  clock = at-first;
+  origin = z;
   whole = ap (λ (x : Monitor). x .tally .broken .at) e;
 }
 
-module _ {C : Abstract} {s : List ℕ} {m : Monitor} {at : ℕ} (G : Going C s m at) where
-  pub some-left : at < length s → 0 < G .left
-  some-left l = omega (arith, G .room)
-
+module _ {C : Abstract} {s : List ℕ} {o : ℕ} {m : Monitor} {at : ℕ} (G : Going C s o m at) where
   pub going-end : (D : Abstract) → C ≡ D → length s ≤ at → monitorAt m ≡ after D (logged (recordsIn s))
   going-end D shows h = elim (ℕ-discrete (G .left) 0) [
     | yes z ↦ fed-end (G .taken) D shows z
-    | no z ↦ fed-none (G .taken) D shows (omega arith) (at-end s at h)
+    | no z ↦ fed-none (G .taken) D shows (omega arith) (dated-end s at (G .kind) (m .tally .now) h)
   ]
 
-  module _ (f : So (isFine (checkLog s))) (e : Record) (to : ℕ) (q : nextAt s at ≡ Handed e to) where
-    here : Passed s (m .tally .now) (m .tally .records) e to
-    here = passed s at (m .tally .now) (m .tally .records) (G .checked) f e to q
+  module _ (f : So (isFine (checkLog s))) (h : at < length s) where
+    pub here : Came s o at (G .kind) (m .tally .now)
+    here = came s o (G .origin) at (G .kind) (m .tally .now) (m .tally .records) (G .checked) f h (G .clock)
 
-    pub taken-later : m .tally .now .0 ≤ timeOf e .0
-    taken-later = ltb-false _ _ (here .later)
+    pub whole-here : at + sizeAt s at ≤ length s
+    whole-here = here .whole
+
+    pub past-here : at < takenAt s at .past
+    past-here = dated-past s at (G .kind) (m .tally .now) (here .e) (here .j) _ (here .found) .0
+
+    let-pass : Passed s (m .tally .now) (m .tally .records) (here .e) (here .j) (takenAt s at .past)
+    let-pass =
+        passed s at (G .kind) (m .tally .now) (m .tally .records) (G .checked) f (here .e) (here .j) _ (here .found)
 
     pub taken-few : m .tally .records < mostRecords
-    taken-few = leb-false _ _ (here .few)
+    taken-few = leb-false _ _ (let-pass .few)
 
-    module _ (r : Step) (code : ℕ) (t : Moment) (p : code ≡ codeAt s at) (u : t ≡ timeOf e)
-        (a : stepOf r ≡ accept C (monitorAt m) (recordOf code (t .0))) where
-      moment : t .0 ≡ timeOf e .0
-      moment = ap (λ (x : Moment). x .0) u
+    -- t is the ticks since the origin
+    module _ (x : Taken) (p : x ≡ takenAt s at) (t : Moment) (w : t .0 < range) (b : (t .0 + o) % range ≡ x .word) where
+      counted : (t .0 + o) % range ≡ takenAt s at .word
+      counted = b ∙ ap (λ (y : Taken). y .word) p
 
-      pub taken-one : SoFar C s (r .next) to (G .left - 1)
-      taken-one =
-          let l : at < length s = omega (arith, taken-past s at e to q) in
-          let b = accept-fed C (monitorAt m) (recordOf code (t .0)) (G .whole) (rw moment (here .later)) (here .few) in
-          fed-one (G .taken) (some-left l) e to q r code (t .0) (p ∙ code-of s at e to q) moment (a ∙ b)
+      moment : t .0 ≡ timeOf (here .e) .0
+      moment = ap (λ (y : Moment). y .0) (here .moment t w counted)
 
-      pub going-on : r .next .tally .broken .at ≡ 0 → Going C s (r .next) to
-      going-on z =
-          let A = accept-counted C (monitorAt m) (recordOf code (t .0)) in
-          let x : r .next .tally .now .0 ≡ timeOf e .0 = ap (λ (w : AbstractStep). w .next .tally .now) a ∙ A .now
-          ∙ moment in
-          let y : r .next .tally .records ≡ m .tally .records + 1 = ap (λ (w : AbstractStep). w .next .tally .records) a
-          ∙ A .records ∙ omega arith in
-          let v : r .next .tally .now ≡ timeOf e = λ i. record { 0 = x i } in
-          record {
-            left = G .left - 1;
-            room = omega (arith, G .room, taken-past s at e to q);
-            taken = taken-one;
-            checked =
-                subst (λ (w : Moment). Left s to w (r .next .tally .records)) (sym v)
-                (subst (λ (k : ℕ). Left s to (timeOf e) k) (sym y) (here .rest));
-            whole = z;
-          }
+      pub taken-later : m .tally .now .0 ≤ t .0
+      taken-later =
+          let l = ltb-false (timeOf (here .e) .0) (m .tally .now .0) (let-pass .later) in
+          omega (arith, l, moment)
+
+      module _ (r : Step) (a : stepOf r ≡ accept C (monitorAt m) (recordOf (x .code) (t .0))) where
+        pub taken-one : SoFar C s (r .next) (x .past) (G .left - 1) (here .j) (timeOf (here .e))
+        taken-one =
+            let l : 0 < G .left = omega (arith, h, G .room) in
+            let v = accept-fed C (monitorAt m) (recordOf (x .code) (t .0)) (G .whole)
+            (rw moment (let-pass .later)) (let-pass .few) in
+            subst (λ (q : ℕ). SoFar C s (r .next) q (G .left - 1) (here .j) (timeOf (here .e)))
+            (sym (ap (λ (y : Taken). y .past) p))
+            (fed-one (G .taken) l (here .e) (here .j) _ (here .found) r (x .code) (t .0)
+            (ap (λ (y : Taken). y .code) p ∙ here .is-code) moment (a ∙ v))
+
+        pub going-on : r .next .tally .broken .at ≡ 0 → Going C s o (r .next) (x .past)
+        going-on z =
+            let A = accept-counted C (monitorAt m) (recordOf (x .code) (t .0)) in
+            let now : r .next .tally .now .0 ≡ t .0 = ap (λ (y : AbstractStep). y .next .tally .now) a ∙ A .now in
+            let count : r .next .tally .records ≡ m .tally .records + 1 =
+            ap (λ (y : AbstractStep). y .next .tally .records) a ∙ A .records ∙ omega arith in
+            let time : r .next .tally .now ≡ timeOf (here .e) = λ i. record { 0 = (now ∙ moment) i } in
+            let past : x .past ≡ takenAt s at .past = ap (λ (y : Taken). y .past) p in
+            record {
+              left = G .left - 1;
+              kind = here .j;
+              room = omega (arith, G .room, past, past-here);
+              taken = subst (SoFar C s (r .next) (x .past) (G .left - 1) (here .j)) (sym time) taken-one;
+              checked = rw (time, count, past) (let-pass .rest);
+              clock = rw (now, past) (here .clock t w counted);
+              origin = G .origin;
+              whole = z;
+            }

@@ -17,7 +17,7 @@ use Rattle.chart_value.proofs.Shown.{shown}
 use Rattle.rounds.specs.Machine.{Monitor as AbstractMonitor, Fit, after}
 use Rattle.rounds.proofs.Fitness.{after-fit}
 use Rattle.stepping.specs.Monitors.{monitorAt}
-use Rattle.log_reader.specs.Records.{recordsIn}
+use Rattle.log_clock.specs.Records.{recordsIn}
 use Rattle.chart_value.specs.Records.{logged}
 use Rattle.judge.specs.declared.LogRefusal.{LogRefusal}
 use Rattle.judge.specs.declared.Checked.the-variants as checked

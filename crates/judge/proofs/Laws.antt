@@ -1,5 +1,5 @@
 -- One record of the check, by what it came to; and a larger count of records checks the same. Assumes nothing.
-use mathlib.Core.Path.{_≡_, refl, sym, ap, _∙_}
+use mathlib.Core.Path.{_≡_, refl, sym, ap, subst, _∙_}
 use mathlib.Core.Bool.{Bool, true, false, cond}
 use mathlib.Core.List.{List}
 use Prim.Native.Nat.{ℕ, zero, suc, _+_, _≤_, _<_}
@@ -9,78 +9,127 @@ use lib.Dec.{leb, ltb}
 use Rattle.model.specs.declared.Moment.{Moment}
 use Rattle.model.specs.declared.Record.{Record}
 use Rattle.model.specs.Answers.{mostRecords}
+use Rattle.model.specs.Monitor.{timeOf}
 use Rattle.log_reader.specs.declared.Next.{Next}
 use Rattle.log_reader.specs.declared.Next.the-variants as next
 use Rattle.log_reader.specs.Next.{nextAt}
-use Rattle.judge.specs.declared.LogRefusal.the-variants.{TimeFalls, TooManyRecords}
+use Rattle.log_clock.specs.declared.Kind.{Kind}
+use Rattle.log_clock.specs.declared.Kind.the-variants.{Unset, Plain}
+use Rattle.log_clock.specs.declared.MomentRefusal.the-variants.{Falls}
+use Rattle.log_clock.specs.declared.Dated.{Dated}
+use Rattle.log_clock.specs.declared.Dated.the-variants as dated
+use Rattle.log_clock.specs.Dated.{datedBy, datedAt}
+use Rattle.log_clock.proofs.Records.{dated-end, dated-past}
+use Rattle.judge.specs.declared.LogRefusal.the-variants.{NoMoment, TooManyRecords}
+use Rattle.judge.specs.declared.Checked.{Checked}
 use Rattle.judge.specs.declared.Checked.the-variants.{Fine, Refused}
 use Rattle.judge.specs.declared.CheckStep.{CheckStep}
 use Rattle.judge.specs.declared.CheckStep.the-variants.{Over, Going}
 use Rattle.judge.specs.Check.{checkFrom, checkLog, continueBy, stepAt, stepBy}
-use Rattle.model.specs.Monitor.{timeOf}
-use Rattle.log_reader.proofs.Offsets.{at-end, taken-past}
+use Rattle.judge.specs.Parts.{isRaw}
 
-module _ (s : List ℕ) (at : ℕ) (last : Moment) (n : ℕ) where
+module _ (s : List ℕ) (at : ℕ) (k : Kind) (last : Moment) (n : ℕ) where
   -- the check goes on past the record, and not past the end
-  pub going-past : (p : ℕ) (t : Moment) (k : ℕ) → stepAt s at last n ≡ Going p t k → (at < p) × (p ≤ length s)
+  pub going-past : (p : ℕ) (j : Kind) (t : Moment) (m : ℕ) → stepAt s at k last n ≡ Going p j t m
+      → (at < p) × (p ≤ length s)
   unfolding stepAt
-  going-past p t k g = by (nextAt s at) refl g
+  going-past p j t m g = by (datedAt s at k last) refl g
     where
-      tests : (r : Record) (q : ℕ) (a b : Bool) → nextAt s at ≡ next.Handed r q
-          → cond a (Over (Refused TimeFalls at))
-          (cond b (Over (Refused TooManyRecords at)) (Going q (timeOf r) (n + 1))) ≡ Going p t k → (at < p)
+      tests : (r : Record) (i : Kind) (q : ℕ) (a b : Bool) → datedAt s at k last ≡ dated.At r i q
+          → cond a (Over (Refused (NoMoment Falls) at))
+          (cond b (Over (Refused TooManyRecords at)) (Going q i (timeOf r) (n + 1))) ≡ Going p j t m → (at < p)
           × (p ≤ length s)
-      tests r q true b e g = let z : _≡_ {A = ℕ} 0 1 = cc in absurd (omega arith)
-      tests r q false true e g = let z : _≡_ {A = ℕ} 0 1 = cc in absurd (omega arith)
-      tests r q false false e g = let z : q ≡ p = cc in omega (arith, taken-past s at r q e)
+      tests r i q true b e g = let z : _≡_ {A = ℕ} 0 1 = cc in absurd (omega arith)
+      tests r i q false true e g = let z : _≡_ {A = ℕ} 0 1 = cc in absurd (omega arith)
+      tests r i q false false e g = let z : q ≡ p = cc in omega (arith, dated-past s at k last r i q e)
 
-      by : (x : Next) → nextAt s at ≡ x → stepBy at last n x ≡ Going p t k → (at < p) × (p ≤ length s)
-      by next.End e g = let z : _≡_ {A = ℕ} 0 1 = cc in absurd (omega arith)
-      by (next.Refused code) e g = let z : _≡_ {A = ℕ} 0 1 = cc in absurd (omega arith)
-      by (next.Handed r q) e g = tests r q (ltb (timeOf r .0) (last .0)) (leb mostRecords n) e g
+      by : (x : Dated) → datedAt s at k last ≡ x → stepBy at last n x ≡ Going p j t m → (at < p) × (p ≤ length s)
+      by dated.End e g = let z : _≡_ {A = ℕ} 0 1 = cc in absurd (omega arith)
+      by (dated.NoRecord f) e g = let z : _≡_ {A = ℕ} 0 1 = cc in absurd (omega arith)
+      by (dated.NoMoment f) e g = let z : _≡_ {A = ℕ} 0 1 = cc in absurd (omega arith)
+      by (dated.At r i q) e g = tests r i q (ltb (timeOf r .0) (last .0)) (leb mostRecords n) e g
 
-  pub ended-fine : (f : ℕ) → length s ≤ at → checkFrom f s at last n ≡ Fine n
+  pub ended-fine : (f : ℕ) → length s ≤ at → checkFrom f s at k last n ≡ Fine n
   unfolding checkFrom stepAt
   ended-fine zero h = refl
-  ended-fine (suc f) h = ap (λ (x : Next). continueBy (checkFrom f s) (stepBy at last n x)) (at-end s at h)
+  ended-fine (suc f) h =
+      ap (λ (x : Dated). continueBy (checkFrom f s) (stepBy at last n x)) (dated-end s at k last h)
 
-pub more-fuel : (f g : ℕ) (s : List ℕ) (at : ℕ) (last : Moment) (n : ℕ) → length s < at + f → length s < at + g
-    → checkFrom f s at last n ≡ checkFrom g s at last n
+pub more-fuel : (f g : ℕ) (s : List ℕ) (at : ℕ) (k : Kind) (last : Moment) (n : ℕ) → length s < at + f
+    → length s < at + g → checkFrom f s at k last n ≡ checkFrom g s at k last n
 unfolding checkFrom
-more-fuel zero g s at last n h k = sym (ended-fine s at last n g (omega arith))
-more-fuel (suc f) zero s at last n h k = ended-fine s at last n (suc f) (omega arith)
-more-fuel (suc f) (suc g) s at last n h k =
-    by (stepAt s at last n) refl (λ p t j a b. more-fuel f g s p t j a b)
+more-fuel zero g s at k last n h l = sym (ended-fine s at k last n g (omega arith))
+more-fuel (suc f) zero s at k last n h l = ended-fine s at k last n (suc f) (omega arith)
+more-fuel (suc f) (suc g) s at k last n h l =
+    by (stepAt s at k last n) refl (λ p j t m a b. more-fuel f g s p j t m a b)
   where
-    by : (x : CheckStep) → stepAt s at last n ≡ x
-        → ((p : ℕ) (t : Moment) (j : ℕ) → length s < p + f → length s < p + g
-        → checkFrom f s p t j ≡ checkFrom g s p t j)
+    by : (x : CheckStep) → stepAt s at k last n ≡ x
+        → ((p : ℕ) (j : Kind) (t : Moment) (m : ℕ) → length s < p + f → length s < p + g
+        → checkFrom f s p j t m ≡ checkFrom g s p j t m)
         → continueBy (checkFrom f s) x ≡ continueBy (checkFrom g s) x
     by (Over c) e i = refl
-    by (Going p t j) e i =
-        i p t j (omega (arith, going-past s at last n p t j e)) (omega (arith, going-past s at last n p t j e))
+    by (Going p j t m) e i =
+        i p j t m (omega (arith, going-past s at k last n p j t m e))
+        (omega (arith, going-past s at k last n p j t m e))
 
--- the check from an offset on, after n records, gives what the check of the whole log gives
-pub Left : List ℕ → ℕ → Moment → ℕ → Type 0
-Left s at last n = checkFrom (length s + 1) s at last n ≡ checkLog s
+-- the check from an offset on, after n records of a kind, gives what the check of the whole log gives
+pub Left : List ℕ → ℕ → Kind → Moment → ℕ → Type 0
+Left s at k last n = checkFrom (length s + 1) s at k last n ≡ checkLog s
 
-module _ (s : List ℕ) (at : ℕ) (last : Moment) (n : ℕ) (l : Left s at last n) where
+module _ (s : List ℕ) (at : ℕ) (k : Kind) (last : Moment) (n : ℕ) (l : Left s at k last n) where
   pub left-ended : length s ≤ at → Fine n ≡ checkLog s
   unfolding Left
-  left-ended h = sym (ended-fine s at last n (length s + 1) h) ∙ l
+  left-ended h = sym (ended-fine s at k last n (length s + 1) h) ∙ l
 
-  pub left-step : (x : CheckStep) → stepAt s at last n ≡ x → continueBy (checkFrom (length s) s) x ≡ checkLog s
+  pub left-step : (x : CheckStep) → stepAt s at k last n ≡ x → continueBy (checkFrom (length s) s) x ≡ checkLog s
   unfolding Left checkFrom
   left-step x e =
       let m : suc (length s) ≡ length s + 1 = omega arith in
-      ap (continueBy (checkFrom (length s) s)) (sym e) ∙ ap (λ (k : ℕ). checkFrom k s at last n) m ∙ l
+      ap (continueBy (checkFrom (length s) s)) (sym e) ∙ ap (λ (f : ℕ). checkFrom f s at k last n) m ∙ l
 
-  pub left-going : (p : ℕ) (t : Moment) (k : ℕ) → stepAt s at last n ≡ Going p t k → Left s p t k
+  pub left-going : (p : ℕ) (j : Kind) (t : Moment) (m : ℕ) → stepAt s at k last n ≡ Going p j t m → Left s p j t m
   unfolding Left
-  left-going p t k e =
-      let w = going-past s at last n p t k e in
-      more-fuel (length s + 1) (length s) s p t k (omega arith) (omega arith) ∙ left-step (Going p t k) e
+  left-going p j t m e =
+      let w = going-past s at k last n p j t m e in
+      more-fuel (length s + 1) (length s) s p j t m (omega arith) (omega arith) ∙ left-step (Going p j t m) e
 
-pub left-first : (s : List ℕ) → Left s 0 (record { 0 = 0 }) 0
+pub left-first : (s : List ℕ) → Left s 0 Unset (record { 0 = 0 }) 0
 unfolding Left checkLog
 left-first s = refl
+
+-- a step of a plain log leaves it plain
+pub left-stays : (s : List ℕ) (at : ℕ) (last : Moment) (n : ℕ) → Left s at Plain last n
+    → (p : ℕ) (j : Kind) (t : Moment) (m : ℕ) → stepAt s at Plain last n ≡ Going p j t m → Left s p Plain t m
+unfolding stepAt datedAt
+left-stays s at last n l p j t m g =
+    subst (λ (k : Kind). Left s p k t m) (by (nextAt s at) g) (left-going s at Plain last n l p j t m g)
+  where
+    tests : (r : Record) (q : ℕ) (a b : Bool) → cond a (Over (Refused (NoMoment Falls) at))
+        (cond b (Over (Refused TooManyRecords at)) (Going q Plain (timeOf r) (n + 1))) ≡ Going p j t m → j ≡ Plain
+    tests r q true b g = let z : _≡_ {A = ℕ} 0 1 = cc in absurd (omega arith)
+    tests r q false true g = let z : _≡_ {A = ℕ} 0 1 = cc in absurd (omega arith)
+    tests r q false false g = cc
+
+    by : (x : Next) → stepBy at last n (datedBy Plain last x) ≡ Going p j t m → j ≡ Plain
+    by next.End g = let z : _≡_ {A = ℕ} 0 1 = cc in absurd (omega arith)
+    by (next.Refused f) g = let z : _≡_ {A = ℕ} 0 1 = cc in absurd (omega arith)
+    by (next.Handed r q) g = tests r q (ltb (timeOf r .0) (last .0)) (leb mostRecords n) g
+    by (next.Raw r q) g = let z : _≡_ {A = ℕ} 0 1 = cc in absurd (omega arith)
+
+-- a log that does not begin with a raw record may be taken for plain from the start
+pub left-plain : (s : List ℕ) → isRaw (nextAt s 0) ≡ false → Left s 0 Plain (record { 0 = 0 }) 0
+unfolding Left checkLog checkFrom stepAt datedAt
+left-plain s h =
+    let m : suc (length s) ≡ length s + 1 = omega arith in
+    let same = by (nextAt s 0) refl h in
+    subst (λ (f : ℕ). checkFrom f s 0 Plain zero-moment 0 ≡ checkFrom f s 0 Unset zero-moment 0) m
+    (ap (λ (x : Dated). continueBy (checkFrom (length s) s) (stepBy 0 zero-moment 0 x)) same)
+  where
+    zero-moment : Moment
+    zero-moment = record { 0 = 0 }
+
+    by : (x : Next) → nextAt s 0 ≡ x → isRaw x ≡ false → datedBy Plain zero-moment x ≡ datedBy Unset zero-moment x
+    by next.End q r = refl
+    by (next.Refused f) q r = refl
+    by (next.Handed e p) q r = refl
+    by (next.Raw e p) q r = let z : _≡_ {A = ℕ} 0 1 = cc in absurd (omega arith)

@@ -8,7 +8,7 @@ use Rattle.chart_value.specs.WellFormed.{wellFormed}
 use Rattle.chart_value.specs.View.{chartOf}
 use Rattle.rounds.specs.Machine.{after}
 use Rattle.chart_value.specs.Records.{logged}
-use Rattle.log_reader.specs.Records.{recordsIn}
+use Rattle.log_clock.specs.Records.{recordsIn}
 use Rattle.judge.specs.declared.Checked.{Checked}
 use Rattle.judge.specs.declared.Checked.the-variants as checked
 use Rattle.judge.specs.Verdict.{logRefusalNumber, verdictOf, Said}

@@ -1,24 +1,57 @@
--- The code of a record in its bytes, whether a check found a fault, and the standing and the verdict of a stored
+-- A record as it is taken from its bytes, whether a check found a fault, and the standing and the verdict of a stored
 -- monitor, for the functions that compute them.
-use mathlib.Core.Bool.{Bool, true, false, cond, not}
+use mathlib.Core.Bool.{Bool, true, false, cond, not, _||_}
 use mathlib.Core.List.{List}
 use Prim.Native.Nat.{ℕ, _+_, _*_}
 use lib.ListN.{getD}
 use lib.Dec.{eqb}
-use Rattle.wire.specs.Bytes.{word16}
-use Rattle.log_reader.specs.Record.{messageTag}
+use Rattle.wire.specs.Bytes.{word16, word32}
+use Rattle.log_reader.specs.Record.{messageTag, rawMessageTag, messageSize, timeSize}
+use Rattle.log_reader.specs.declared.Next.{Next}
+use Rattle.log_reader.specs.declared.Next.the-variants as next
 use Rattle.bitset.specs.Set.{contains}
 use Rattle.model.specs.declared.Monitor.{Monitor}
+use Rattle.model.specs.Monitor.{stampOf}
 use Rattle.model.specs.declared.Verdict.{Verdict}
 use Rattle.base.specs.Lists.{allBelow}
 use Rattle.stepping.specs.Monitors.{tallyAt}
+use Rattle.judge.specs.declared.Taken.{Taken}
 use Rattle.judge.specs.declared.Checked.{Checked}
 use Rattle.judge.specs.declared.Checked.the-variants.{Fine, Refused}
 use Rattle.judge.specs.Verdict.{broken, nothingFired, inPrechart, owed, verdictWith}
 
--- the code of the message whose record stands at an offset; 0 for any other record
-abbrev pub codeAt : List ℕ → ℕ → ℕ
-codeAt s at = cond (eqb (getD s at 0) messageTag) (word16 s (at + 3) * 65536 + word16 s (at + 1) + 1) 0
+-- a raw record was read
+abbrev pub isRaw : Next → Bool
+isRaw next.End = false
+isRaw (next.Refused f) = false
+isRaw (next.Handed e past) = false
+isRaw (next.Raw e past) = true
+
+-- from where a log counts its ticks, of which the first record is given
+abbrev pub originOf : Next → ℕ
+originOf next.End = 0
+originOf (next.Refused f) = 0
+originOf (next.Handed e past) = 0
+originOf (next.Raw e past) = stampOf e .0
+
+-- a message or a raw message stands at the offset
+abbrev pub isMessage : List ℕ → ℕ → Bool
+isMessage s at = eqb (getD s at 0) messageTag || eqb (getD s at 0) rawMessageTag
+
+-- the bytes of the record there
+abbrev pub sizeAt : List ℕ → ℕ → ℕ
+sizeAt s at = cond (isMessage s at) messageSize timeSize
+
+-- the message's code (0 for a record of time), its time or stamp, and the offset just after it
+abbrev pub takenAt : List ℕ → ℕ → Taken
+takenAt s at =
+    cond (isMessage s at)
+    (record {
+      code = word16 s (at + 3) * 65536 + word16 s (at + 1) + 1;
+      word = word32 s (at + 5);
+      past = at + messageSize;
+    })
+    (record { code = 0; word = word32 s (at + 1); past = at + timeSize })
 
 -- the check found no fault
 abbrev pub isFine : Checked → Bool

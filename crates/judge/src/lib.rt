@@ -1,18 +1,23 @@
 // Judging a whole log: it is checked first, then its records are fed.
+use log_clock::Dated;
+use log_clock::Kind;
+use log_clock::MomentRefusal;
+use log_reader::MESSAGE_SIZE;
 use log_reader::MESSAGE_TAG;
 use log_reader::Next;
+use log_reader::RAW_MESSAGE_TAG;
 use log_reader::RecordRefusal;
+use log_reader::TIME_SIZE;
 use model::Chart;
 use model::MOST_RECORDS;
 use model::Moment;
 use model::Monitor;
-use model::TIME_FALLS;
 use model::TOO_MANY_RECORDS;
 use model::Verdict;
 use plan::LABEL_PLACE;
 ghost use mathlib.Core.Path.{_≡_};
-ghost use mathlib.Core.Bool.{true, So};
-ghost use Prim.Native.Nat.{_≤_, _<_};
+ghost use mathlib.Core.Bool.{true, false, So};
+ghost use Prim.Native.Nat.{_≤_, _<_, _+_, _%_};
 ghost use lib.ListN.{length};
 ghost use Rattle.model.specs.Chart.{mostRegions};
 ghost use Rattle.model.specs.Answers.{zeroVerdict};
@@ -21,16 +26,19 @@ ghost use Rattle.chart_value.specs.WellFormed.{wellFormed};
 ghost use Rattle.chart_value.specs.View.{chartOf};
 ghost use Rattle.stepping.specs.Monitors.{monitorAt};
 ghost use Rattle.chart_value.specs.Records.{logged};
-ghost use Rattle.log_reader.specs.Records.{recordsIn};
+ghost use Rattle.log_reader.specs.Next.{nextAt};
+ghost use Rattle.log_clock.specs.declared.Kind.the-variants.{Plain};
+ghost use Rattle.log_clock.specs.Clock.{range};
+ghost use Rattle.log_clock.specs.Records.{recordsIn};
 ghost use Rattle.judge.specs.Check.{takeRecord, stepAt, checkLog};
 ghost use Rattle.judge.specs.Verdict.{logRefusalNumber, said};
 ghost use Rattle.judge.specs.Judge.{judgeOf};
-ghost use Rattle.judge.specs.Parts.{codeAt, isFine, standingBy, verdictBy};
+ghost use Rattle.judge.specs.Parts.{isRaw, originOf, sizeAt, takenAt, isFine, standingBy, verdictBy};
 
 // Why a log is refused.
 pub enum LogRefusal {
     NoRecord(RecordRefusal),
-    TimeFalls,
+    NoMoment(MomentRefusal),
     TooManyRecords,
 }
 
@@ -39,7 +47,7 @@ pub fn refusal_number(k: LogRefusal) -> u8
 {
     match k {
         LogRefusal::NoRecord(why) => log_reader::number(why),
-        LogRefusal::TimeFalls => TIME_FALLS,
+        LogRefusal::NoMoment(why) => log_clock::number(why),
         LogRefusal::TooManyRecords => TOO_MANY_RECORDS,
     }
 }
@@ -50,33 +58,123 @@ pub enum Checked {
     Refused(LogRefusal, usize),
 }
 
-// One record checked: the check is over, or it goes on at an offset, with the record's time and the count so far.
+// One record checked: the check is over, or it goes on at an offset, with the log's kind, the record's moment and the
+// count so far.
 pub enum CheckStep {
     Over(Checked),
-    Going(usize, Moment, u32),
+    Going(usize, Kind, Moment, u32),
 }
 
-// J3: 22 and 23, of a record that was read.
-fn take_record(time: Moment, past: usize, at: usize, last: Moment, records: u32) -> CheckStep
-    ensures { λ r. ⌜ r ≡ takeRecord time past at last records ⌝ }
+// J3: 22 of a plain record, and 23, of a record at its moment.
+fn take_record(
+    kind: Kind,
+    time: Moment,
+    past: usize,
+    at: usize,
+    last: Moment,
+    records: u32,
+) -> CheckStep
+    ensures { λ r. ⌜ r ≡ takeRecord kind time past at last records ⌝ }
 {
     if time.0 < last.0 {
-        return CheckStep::Over(Checked::Refused(LogRefusal::TimeFalls, at));
+        return CheckStep::Over(Checked::Refused(LogRefusal::NoMoment(MomentRefusal::Falls), at));
     }
     if MOST_RECORDS <= records {
         return CheckStep::Over(Checked::Refused(LogRefusal::TooManyRecords, at));
     }
-    CheckStep::Going(past, time, records + 1)
+    CheckStep::Going(past, kind, time, records + 1)
 }
 
-fn step_at(log: &[u8], at: usize, last: Moment, records: u32) -> CheckStep
-    ensures { λ r. ⌜ r ≡ stepAt (now (log .entry)) at last records ⌝ }
+fn step_at(log: &[u8], at: usize, kind: Kind, last: Moment, records: u32) -> CheckStep
+    ensures { λ r. ⌜ r ≡ stepAt (now (log .entry)) at kind last records ⌝ }
+{
+    let dated = log_clock::record_at(log, at, kind, last);
+    match dated {
+        Dated::End => CheckStep::Over(Checked::Fine(records)),
+        Dated::NoRecord(f) => CheckStep::Over(Checked::Refused(LogRefusal::NoRecord(f), at)),
+        Dated::NoMoment(f) => CheckStep::Over(Checked::Refused(LogRefusal::NoMoment(f), at)),
+        Dated::At(e, then, past) => {
+            take_record(then, model::time_of(e), past, at, last, records)
+        }
+    }
+}
+
+// The check of a log of either kind.
+fn check_kinds(log: &[u8]) -> Checked
+    ensures { λ r. ⌜ r ≡ checkLog (now (log .entry)) ⌝ }
+{
+    let mut at: usize = 0;
+    let mut kind = Kind::Unset;
+    let mut last = Moment(0);
+    let mut records: u32 = 0;
+    while at < log.len() {
+        let step = step_at(log, at, kind, last, records);
+        match step {
+            CheckStep::Over(checked) => {
+                return checked;
+            }
+            CheckStep::Going(past, then, time, more) => {
+                at = past;
+                kind = then;
+                last = time;
+                records = more;
+            }
+        }
+    }
+    Checked::Fine(records)
+}
+
+// One record of a plain log checked. There the kind and the stamps need not be carried from record to record, which
+// would cost a plain log a quarter of its time.
+fn plain_step(log: &[u8], at: usize, last: Moment, records: u32) -> CheckStep
+    ensures { λ r. ⌜ r ≡ stepAt (now (log .entry)) at Plain last records ⌝ }
 {
     let next = log_reader::read_record(log, at);
     match next {
         Next::End => CheckStep::Over(Checked::Fine(records)),
-        Next::Refused(k) => CheckStep::Over(Checked::Refused(LogRefusal::NoRecord(k), at)),
-        Next::Handed(e, past) => take_record(model::time_of(e), past, at, last, records),
+        Next::Refused(f) => CheckStep::Over(Checked::Refused(LogRefusal::NoRecord(f), at)),
+        Next::Handed(e, past) => {
+            take_record(Kind::Plain, model::time_of(e), past, at, last, records)
+        }
+        Next::Raw(_, _) => CheckStep::Over(Checked::Refused(
+            LogRefusal::NoMoment(MomentRefusal::Mixed),
+            at,
+        )),
+    }
+}
+
+// The check of a log that does not begin with a raw record.
+fn check_plain(log: &[u8]) -> Checked
+    requires { ⌜ isRaw (nextAt (now log) 0) ≡ false ⌝ }
+    ensures { λ r. ⌜ r ≡ checkLog (now (log .entry)) ⌝ }
+{
+    let mut at: usize = 0;
+    let mut last = Moment(0);
+    let mut records: u32 = 0;
+    while at < log.len() {
+        let step = plain_step(log, at, last, records);
+        match step {
+            CheckStep::Over(checked) => {
+                return checked;
+            }
+            CheckStep::Going(past, _, time, more) => {
+                at = past;
+                last = time;
+                records = more;
+            }
+        }
+    }
+    Checked::Fine(records)
+}
+
+fn is_raw(next: Next) -> bool
+    ensures { λ r. ⌜ r ≡ isRaw next ⌝ }
+{
+    match next {
+        Next::End => false,
+        Next::Refused(_) => false,
+        Next::Handed(_, _) => false,
+        Next::Raw(_, _) => true,
     }
 }
 
@@ -85,23 +183,11 @@ pub fn check_log(log: &[u8]) -> Checked
     ensures check { λ r. ⌜ r ≡ checkLog (now (log .entry)) ⌝ }
     ensures unchanged { λ r. ⌜ now (log .exit) ≡ now (log .entry) ⌝ }
 {
-    let mut at: usize = 0;
-    let mut last = Moment(0);
-    let mut records: u32 = 0;
-    while at < log.len() {
-        let step = step_at(log, at, last, records);
-        match step {
-            CheckStep::Over(checked) => {
-                return checked;
-            }
-            CheckStep::Going(past, time, more) => {
-                at = past;
-                last = time;
-                records = more;
-            }
-        }
+    let first = log_reader::read_record(log, 0);
+    if is_raw(first) {
+        return check_kinds(log);
     }
-    Checked::Fine(records)
+    check_plain(log)
 }
 
 pub enum JudgeAnswer {
@@ -126,17 +212,55 @@ const IN_PRECHART: u8 = 1;
 
 const OWED: u8 = 2;
 
-// The code of the record at an offset, from its bytes: the label, then source and destination. Computed from
-// the record's value it would be stored and loaded in pieces, which costs more than all else that is done for a record.
-fn code_at(log: &[u8], at: usize) -> u64
-    requires { ⌜ at < length (now log) ⌝ }
-    ensures { λ r. ⌜ r ≡ codeAt (now (log .entry)) at ⌝ }
+// From where a log counts its ticks: a raw log from its first stamp, a plain one from 0.
+fn origin_of(first: Next) -> u32
+    ensures { λ r. ⌜ r ≡ originOf first ⌝ }
 {
-    if wire::byte_at(log, at) == MESSAGE_TAG {
-        let word = wire::word32_at(log, at + 1);
-        return wire::wide64(word % HALF * HALF + word / HALF) + 1;
+    match first {
+        Next::End => 0,
+        Next::Refused(_) => 0,
+        Next::Handed(_, _) => 0,
+        Next::Raw(e, _) => model::stamp_of(e).0,
     }
-    0
+}
+
+// In a log without a fault every moment is the ticks since the origin, round the wrap; for a plain record, whose origin
+// is 0, that is its time. So both kinds are computed alike, and a plain log pays one subtraction for it.
+fn moment_of(word: u32, origin: u32) -> Moment
+    ensures within { λ r. ⌜ r .0 < range ⌝ }
+    ensures counted { λ r. ⌜ (r .0 + origin) % range ≡ word ⌝ }
+{
+    Moment(std::num::wrapping_sub_u32(word, origin))
+}
+
+// A record as it is taken: its message's code, its time or stamp, and the offset just after it.
+pub struct Taken {
+    pub code: u64,
+    pub word: u32,
+    pub past: usize,
+}
+
+// The record whose bytes start at an offset and are all there. Its code is the label, then source and destination.
+// Computed from the record's value it would be stored and loaded in pieces, which costs more than all else that is done
+// for a record.
+fn taken_at(log: &[u8], at: usize) -> Taken
+    requires { ⌜ at + sizeAt (now log) at ≤ length (now log) ⌝ }
+    ensures { λ r. ⌜ r ≡ takenAt (now (log .entry)) at ⌝ }
+{
+    let tag = log[at];
+    if (tag == MESSAGE_TAG) | (tag == RAW_MESSAGE_TAG) {
+        let parts = wire::word32_in(log, at + 1);
+        return Taken {
+            code: wire::wide64(parts % HALF * HALF + parts / HALF) + 1,
+            word: wire::word32_in(log, at + 5),
+            past: at + MESSAGE_SIZE,
+        };
+    }
+    Taken {
+        code: 0,
+        word: wire::word32_in(log, at + 1),
+        past: at + TIME_SIZE,
+    }
 }
 
 // The chart is compiled once, and each record of a log without a fault is taken where it lies, from a fresh monitor on.
@@ -149,37 +273,27 @@ fn feed_log(c: Chart, log: &[u8]) -> Monitor
     let p = plan::compile(c);
     let h = p.head;
     let slots = plan::slots_of(h.count, &p.keys);
+    let origin = origin_of(log_reader::read_record(log, 0));
     let mut m = model::zero_monitor();
     let mut at: usize = 0;
     while at < log.len() {
-        let next = log_reader::read_record(log, at);
-        match next {
-            Next::End => {
-                return m;
-            }
-            Next::Refused(_) => {
-                return m;
-            }
-            Next::Handed(e, past) => {
-                let code = code_at(log, at);
-                let s = stepping::accept(
-                    h,
-                    &p.keys,
-                    &p.above,
-                    slots[plan::slot_of(code)],
-                    &p.resets,
-                    &p.terms,
-                    m,
-                    code,
-                    model::time_of(e),
-                );
-                m = s.next;
-                if m.tally.broken.at != 0 {
-                    return m;
-                }
-                at = past;
-            }
+        let taken = taken_at(log, at);
+        let s = stepping::accept(
+            h,
+            &p.keys,
+            &p.above,
+            slots[plan::slot_of(taken.code)],
+            &p.resets,
+            &p.terms,
+            m,
+            taken.code,
+            moment_of(taken.word, origin),
+        );
+        m = s.next;
+        if m.tally.broken.at != 0 {
+            return m;
         }
+        at = taken.past;
     }
     m
 }

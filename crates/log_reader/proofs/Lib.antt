@@ -1,3 +1,2 @@
 pub mod Offsets
-pub mod Records
 pub mod Said

@@ -5,7 +5,7 @@ use Prim.Native.Nat.{ℕ}
 use denote.Ref.{now}
 use Rattle.log_reader.specs.declared.LogReader.{LogReader}
 use Rattle.log_reader.specs.declared.Next.{Next}
-use Rattle.log_reader.specs.declared.Next.the-variants.{End, Refused, Handed}
+use Rattle.log_reader.specs.declared.Next.the-variants.{End, Refused, Handed, Raw}
 use Rattle.log_reader.specs.Next.{nextAt}
 
 -- E4: the offset after reading, which stays if no record is handed out
@@ -13,6 +13,7 @@ abbrev pub offsetOr : ℕ → Next → ℕ
 offsetOr at End = at
 offsetOr at (Refused k) = at
 offsetOr at (Handed r past) = past
+offsetOr at (Raw r past) = past
 
 abbrev pub offsetAfter : List ℕ → ℕ → ℕ
 offsetAfter s at = offsetOr at (nextAt s at)

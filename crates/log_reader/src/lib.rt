@@ -1,12 +1,14 @@
 // One record of a log's bytes, read at an offset.
 use model::Message;
 use model::Moment;
+use model::RawRecord;
 use model::Record;
+use model::Stamp;
 ghost use mathlib.Core.Path.{_≡_};
 ghost use Prim.Native.Nat.{_<_};
 ghost use lib.ListN.{length};
-ghost use Rattle.log_reader.specs.Record.{recordRefusalNumber, messageAt, timeAt};
-ghost use Rattle.log_reader.specs.Next.{nextAt};
+ghost use Rattle.log_reader.specs.Record.{recordRefusalNumber, partsAt};
+ghost use Rattle.log_reader.specs.Next.{messageNext, timeNext, nextAt};
 ghost use Rattle.log_reader.specs.Reader.{HandsOut, offsetOr};
 
 // Why no record is handed out.
@@ -15,20 +17,25 @@ pub enum RecordRefusal {
     UnknownByte,
 }
 
-// What reading at an offset finds: the end, a refusal, or a record and the offset just after it.
+// What reading at an offset finds: the end, a refusal, or a record or raw record and the offset just after it.
 pub enum Next {
     End,
     Refused(RecordRefusal),
     Handed(Record, usize),
+    Raw(RawRecord, usize),
 }
 
 pub const MESSAGE_TAG: u8 = 0x01;
 
 const TIME_TAG: u8 = 0x02;
 
-const MESSAGE_SIZE: usize = 9;
+pub const RAW_MESSAGE_TAG: u8 = 0x03;
 
-const TIME_SIZE: usize = 5;
+const RAW_TIME_TAG: u8 = 0x04;
+
+pub const MESSAGE_SIZE: usize = 9;
+
+pub const TIME_SIZE: usize = 5;
 
 const CUT_SHORT: u8 = 30;
 
@@ -43,25 +50,50 @@ pub fn number(k: RecordRefusal) -> u8
     }
 }
 
-// The message whose nine bytes start at an offset within the bytes.
-fn message_at(s: &[u8], at: usize) -> Record
+// Source, destination and label of the message whose nine bytes start at an offset within the bytes.
+fn parts_at(s: &[u8], at: usize) -> Message
     requires { ⌜ at < length (now s) ⌝ }
-    ensures { λ r. ⌜ r ≡ messageAt (now (s .entry)) at ⌝ }
+    ensures { λ r. ⌜ r ≡ partsAt (now (s .entry)) at ⌝ }
 {
-    let message = Message {
+    Message {
         source: wire::byte_at(s, at + 1),
         destination: wire::byte_at(s, at + 2),
         label: wire::word16_at(s, at + 3),
-    };
-    Record::Message(message, Moment(wire::word32_at(s, at + 5)))
+    }
 }
 
-// The record of time whose five bytes start at an offset within the bytes.
-fn time_at(s: &[u8], at: usize) -> Record
-    requires { ⌜ at < length (now s) ⌝ }
-    ensures { λ r. ⌜ r ≡ timeAt (now (s .entry)) at ⌝ }
+// The message at an offset within the bytes; the tag tells whether it is plain or raw. Both kinds are read in one place,
+// so that reading stays small enough to be taken into the loops over a log.
+fn message_next(bytes: &[u8], offset: usize, tag: u8) -> Next
+    requires { ⌜ offset < length (now bytes) ⌝ }
+    ensures { λ r. ⌜ r ≡ messageNext (now (bytes .entry)) offset tag ⌝ }
 {
-    Record::Time(Moment(wire::word32_at(s, at + 1)))
+    let past = offset + MESSAGE_SIZE;
+    if bytes.len() < past {
+        return Next::Refused(RecordRefusal::CutShort);
+    }
+    let message = parts_at(bytes, offset);
+    let word = wire::word32_at(bytes, offset + 5);
+    if tag == MESSAGE_TAG {
+        return Next::Handed(Record::Message(message, Moment(word)), past);
+    }
+    Next::Raw(RawRecord::Message(message, Stamp(word)), past)
+}
+
+// Likewise the record of time.
+fn time_next(bytes: &[u8], offset: usize, tag: u8) -> Next
+    requires { ⌜ offset < length (now bytes) ⌝ }
+    ensures { λ r. ⌜ r ≡ timeNext (now (bytes .entry)) offset tag ⌝ }
+{
+    let past = offset + TIME_SIZE;
+    if bytes.len() < past {
+        return Next::Refused(RecordRefusal::CutShort);
+    }
+    let word = wire::word32_at(bytes, offset + 1);
+    if tag == TIME_TAG {
+        return Next::Handed(Record::Time(Moment(word)), past);
+    }
+    Next::Raw(RawRecord::Time(Stamp(word)), past)
 }
 
 // E2 to E4: the record at an offset; the bytes stay as they are.
@@ -71,22 +103,14 @@ pub fn read_record(bytes: &[u8], offset: usize) -> Next
     if bytes.len() <= offset {
         return Next::End;
     }
-    let kind = wire::byte_at(bytes, offset);
-    match kind {
-        MESSAGE_TAG => {
-            if bytes.len() - offset < MESSAGE_SIZE {
-                return Next::Refused(RecordRefusal::CutShort);
-            }
-            Next::Handed(message_at(bytes, offset), offset + MESSAGE_SIZE)
-        }
-        TIME_TAG => {
-            if bytes.len() - offset < TIME_SIZE {
-                return Next::Refused(RecordRefusal::CutShort);
-            }
-            Next::Handed(time_at(bytes, offset), offset + TIME_SIZE)
-        }
-        _ => Next::Refused(RecordRefusal::UnknownByte),
+    let tag = wire::byte_at(bytes, offset);
+    if (tag == MESSAGE_TAG) | (tag == RAW_MESSAGE_TAG) {
+        return message_next(bytes, offset, tag);
     }
+    if (tag == TIME_TAG) | (tag == RAW_TIME_TAG) {
+        return time_next(bytes, offset, tag);
+    }
+    Next::Refused(RecordRefusal::UnknownByte)
 }
 
 // E4: the offset just after a record that is handed out; if there is none, it stays.
@@ -97,6 +121,7 @@ fn offset_after(offset: usize, next: Next) -> usize
         Next::End => offset,
         Next::Refused(_) => offset,
         Next::Handed(_, past) => past,
+        Next::Raw(_, past) => past,
     }
 }
 

@@ -12,7 +12,8 @@ use Rattle.chart_step.specs.declared.Refusal.the-variants as refusal
 use Rattle.chart_reader.specs.Said.{Said}
 use Rattle.chart_value.specs.WellFormed.{wellFormed}
 use Rattle.log_reader.specs.declared.RecordRefusal.the-variants.{CutShort, UnknownByte}
-use Rattle.judge.specs.declared.LogRefusal.the-variants.{NoRecord, TimeFalls, TooManyRecords}
+use Rattle.log_clock.specs.declared.MomentRefusal.the-variants.{Mixed, Falls, TooLate}
+use Rattle.judge.specs.declared.LogRefusal.the-variants.{NoRecord, NoMoment, TooManyRecords}
 use Rattle.judge.specs.declared.Checked.{Checked}
 use Rattle.judge.specs.declared.Checked.the-variants as checked
 use Rattle.judge.specs.Check.{checkLog}
@@ -54,7 +55,9 @@ log-listed : (c : Chart) (log : List ℕ) (k : Checked)
 log-listed c log (checked.Fine n) = refl
 log-listed c log (checked.Refused (NoRecord CutShort) offset) = refl
 log-listed c log (checked.Refused (NoRecord UnknownByte) offset) = refl
-log-listed c log (checked.Refused TimeFalls offset) = refl
+log-listed c log (checked.Refused (NoMoment Mixed) offset) = refl
+log-listed c log (checked.Refused (NoMoment Falls) offset) = refl
+log-listed c log (checked.Refused (NoMoment TooLate) offset) = refl
 log-listed c log (checked.Refused TooManyRecords offset) = refl
 
 chart-listed : (log : List ℕ) {x : Said} → Reads x → (x .number ≡ 0 → wellFormed (x .chart) ≡ true)

@@ -7,6 +7,7 @@ use lib.ListN.{length, drop}
 use Rattle.model.specs.Answers.{tooShort, timeFalls, tooManyRecords}
 use Rattle.model.specs.Numbers.{places, verdictNumbers}
 use Rattle.log_reader.specs.Record.{cutShort, unknownByte}
+use Rattle.log_clock.specs.Clock.{tooLate, twoKinds}
 use Rattle.listing.specs.declared.Part.{Part}
 use Rattle.listing.specs.declared.Part.the-variants.{Input, Chart, Log}
 use Rattle.listing.specs.declared.Report.{Report}
@@ -37,10 +38,11 @@ judgedNumber report out = cond (ltb (length out) places) tooShort (reportNumber 
 abbrev pub judgedOut : Report → List ℕ → List ℕ
 judgedOut report out = cond (ltb (length out) places) out (reportNumbers report ++ drop places out)
 
--- the numbers that judging returns: 0, a chart's refusal from 1 to 11, 12, or a log's, 22, 23, 30 or 31
+-- the numbers that judging returns: 0, a chart's refusal from 1 to 11, 12, or a log's, 22 to 24 or 30 to 32
 abbrev pub isJudgedNumber : ℕ → Bool
 isJudgedNumber n =
-    leb n tooShort || (eqb n timeFalls || (eqb n tooManyRecords || (eqb n cutShort || eqb n unknownByte)))
+    leb n tooShort || (eqb n timeFalls || (eqb n tooManyRecords || (eqb n tooLate
+    || (eqb n cutShort || (eqb n unknownByte || eqb n twoKinds)))))
 
 -- V8: 0 printed, 12 if out may be too short
 abbrev pub printedNumber : Response → ℕ

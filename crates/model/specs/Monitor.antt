@@ -1,4 +1,5 @@
--- Monitors and records as values: the cause of a break or a drop, the zeros of a monitor, the time of a record.
+-- Monitors and records as values: the cause of a break or a drop, the zeros of a monitor, the time or the stamp of a
+-- record.
 use Prim.Native.Nat.{ℕ, _+_}
 use lib.ListN.{replicate}
 use Rattle.model.specs.declared.Cause.{Cause}
@@ -9,6 +10,9 @@ use Rattle.model.specs.declared.Monitor.{Monitor}
 use Rattle.model.specs.declared.Moment.{Moment}
 use Rattle.model.specs.declared.Record.{Record}
 use Rattle.model.specs.declared.Record.the-variants.{Message, Time}
+use Rattle.model.specs.declared.Stamp.{Stamp}
+use Rattle.model.specs.declared.RawRecord.{RawRecord}
+use Rattle.model.specs.declared.RawRecord.the-variants as raw
 use Rattle.model.specs.Chart.{mostClocks}
 
 -- T31: no condition decided
@@ -43,3 +47,13 @@ zeroMonitor = record { place = zeroPlace; tally = zeroTally }
 abbrev pub timeOf : Record → Moment
 timeOf (Message m t) = t
 timeOf (Time t) = t
+
+-- L7: the counter's stamp
+abbrev pub stampOf : RawRecord → Stamp
+stampOf (raw.Message m s) = s
+stampOf (raw.Time s) = s
+
+-- L11: the raw record as a record at a moment
+abbrev pub atMoment : RawRecord → Moment → Record
+atMoment (raw.Message m s) t = Message m t
+atMoment (raw.Time s) t = Time t

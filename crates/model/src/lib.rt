@@ -6,7 +6,7 @@ ghost use lib.ListN.{length, drop};
 ghost use Rattle.bitset.specs.Set.{contains};
 ghost use Rattle.model.specs.Chart.{zeroTerm, zeroRegion, zeroChart, isPlain, isBare, lineSet, touched, touches};
 ghost use Rattle.model.specs.Chart.{mostLines, mostRegions};
-ghost use Rattle.model.specs.Monitor.{noCause, causeOf, zeroBreak, zeroMonitor, timeOf};
+ghost use Rattle.model.specs.Monitor.{noCause, causeOf, zeroBreak, zeroMonitor, timeOf, stampOf, atMoment};
 ghost use Rattle.model.specs.Answers.{feedRefusalNumber, answerNumber, zeroVerdict};
 ghost use Rattle.model.specs.Numbers.{places, verdictNumbers, answerCause};
 
@@ -30,6 +30,9 @@ pub struct Moment(pub u32);
 
 // A length (C15): the ticks between two moments.
 pub struct Length(pub u32);
+
+// A raw stamp (L8): what a counter of 32 bits showed, which begins again at 0. It is neither a moment nor a length.
+pub struct Stamp(pub u32);
 
 impl Moment {
     // The length from an earlier moment to this one.
@@ -176,6 +179,31 @@ pub fn time_of(e: Record) -> Moment
     match e {
         Record::Message(_, t) => t,
         Record::Time(t) => t,
+    }
+}
+
+// A record of a log with raw stamps (L7), which has no moment of its own.
+pub enum RawRecord {
+    Message(Message, Stamp),
+    Time(Stamp),
+}
+
+pub fn stamp_of(e: RawRecord) -> Stamp
+    ensures { λ r. ⌜ r ≡ stampOf e ⌝ }
+{
+    match e {
+        RawRecord::Message(_, s) => s,
+        RawRecord::Time(s) => s,
+    }
+}
+
+// The raw record as a record at a moment.
+pub fn at_moment(e: RawRecord, t: Moment) -> Record
+    ensures { λ r. ⌜ r ≡ atMoment e t ⌝ }
+{
+    match e {
+        RawRecord::Message(m, _) => Record::Message(m, t),
+        RawRecord::Time(_) => Record::Time(t),
     }
 }
 

@@ -13,6 +13,7 @@ use Rattle.chart_reader.specs.declared.ChartAnswer.{ChartAnswer}
 use Rattle.chart_reader.specs.declared.ChartAnswer.the-variants as read
 use Rattle.chart_reader.specs.Said as read-specs
 use Rattle.log_reader.specs.declared.RecordRefusal.the-variants as bytes
+use Rattle.log_clock.specs.declared.MomentRefusal.the-variants as moment
 use Rattle.judge.specs.declared.LogRefusal.{LogRefusal}
 use Rattle.judge.specs.declared.LogRefusal.the-variants as log
 use Rattle.judge.specs.declared.JudgeAnswer.{JudgeAnswer}
@@ -34,7 +35,9 @@ pub log-refused : (v : Verdict) (k : LogRefusal) (offset : ℕ)
     → ofAnswer v (judge.Refused k offset) ≡ Refused part.Log (logRefusalNumber k) offset
 log-refused v (log.NoRecord bytes.CutShort) offset = refl
 log-refused v (log.NoRecord bytes.UnknownByte) offset = refl
-log-refused v log.TimeFalls offset = refl
+log-refused v (log.NoMoment moment.Mixed) offset = refl
+log-refused v (log.NoMoment moment.Falls) offset = refl
+log-refused v (log.NoMoment moment.TooLate) offset = refl
 log-refused v log.TooManyRecords offset = refl
 
 -- the report of a reader's answer

@@ -147,5 +147,6 @@ fn main() {
     run_file(b"logs");
     run_file(b"relations");
     run_file(b"second_offers");
+    run_file(b"raw_logs");
     run_long();
 }

@@ -63,6 +63,26 @@ pub fn word32_at(s: &[u8], i: usize) -> u32
     0
 }
 
+// Two bytes and four bytes that are all there, so that nothing is tested for each.
+fn word16_in(s: &[u8], i: usize) -> u16
+    requires { ⌜ i + 2 ≤ length (now s) ⌝ }
+    ensures { λ r. ⌜ r ≡ word16 (now (s .entry)) i ⌝ }
+{
+    let high = wide16(s[i]);
+    let low = wide16(s[i + 1]);
+    high * 256 + low
+}
+
+pub fn word32_in(s: &[u8], i: usize) -> u32
+    requires { ⌜ i + 4 ≤ length (now s) ⌝ }
+    ensures value { λ r. ⌜ r ≡ word32 (now (s .entry)) i ⌝ }
+    ensures low { λ r. ⌜ r % 65536 ≡ word16 (now (s .entry)) (i + 2) ⌝ }
+{
+    let high = wide32(word16_in(s, i));
+    let low = wide32(word16_in(s, i + 2));
+    high * 65536 + low
+}
+
 // Eight bytes from i on.
 pub fn word64_at(s: &[u8], i: usize) -> u64
     ensures value { λ r. ⌜ r ≡ word64 (now (s .entry)) i ⌝ }

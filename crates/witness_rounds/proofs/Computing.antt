@@ -17,11 +17,12 @@ use Rattle.rounds.proofs.Rounds.{placeOf}
 use Rattle.paper.specs.Runs.{add, reset, shift, configAt}
 use Rattle.paper.proofs.Offering.{unplaceable, caseFor}
 use Rattle.paper.proofs.Taking.{number}
-use Rattle.log_reader.specs.Records.{recordsFrom, recordsIn}
+use Rattle.log_clock.specs.Dated.{datedAt}
+use Rattle.log_clock.specs.Records.{recordsFrom, recordsIn}
 use Rattle.judge.specs.Check.{stepAt, checkFrom, checkLog}
 use Rattle.judge.specs.Judge.{judgeOf}
 use Rattle.judge.specs.Verdict.{standingOf}
 
 unfoldable pub computing : Unit {0}
-unfolding contains single inserted union isSubset within isOver gathered aboveSets readChart readFrom advanceOf isZeroTerm termPlaced termsFit regionFits isZeroRegion touchedBefore regionPlaced wellFormed conditionOf momentAt chartMessage chartMessages plain messageRegions momentOf values opened resetMoment clockTest holdsBy waivedBy firstFailingBy refusal ready readyFor readyPlain fire unfired tryRegion settle takeMessage opening full prechartDone goOn keepRound dropRound breakRound conclude offer missed fitsOpening reopened accept feed after promptTest placedTest rowTest placeOf add reset shift configAt unplaceable caseFor number recordsFrom recordsIn stepAt checkFrom checkLog standingOf judgeOf
+unfolding contains single inserted union isSubset within isOver gathered aboveSets readChart readFrom advanceOf isZeroTerm termPlaced termsFit regionFits isZeroRegion touchedBefore regionPlaced wellFormed conditionOf momentAt chartMessage chartMessages plain messageRegions momentOf values opened resetMoment clockTest holdsBy waivedBy firstFailingBy refusal ready readyFor readyPlain fire unfired tryRegion settle takeMessage opening full prechartDone goOn keepRound dropRound breakRound conclude offer missed fitsOpening reopened accept feed after promptTest placedTest rowTest placeOf add reset shift configAt unplaceable caseFor number datedAt recordsFrom recordsIn stepAt checkFrom checkLog standingOf judgeOf
 computing = tt

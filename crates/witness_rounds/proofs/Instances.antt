@@ -32,15 +32,18 @@ use Rattle.monitor.proofs.Fitness.{of-fit, fit-exactly}
 use Rattle.monitor.proofs.History.{feeding}
 use Rattle.stepping.proofs.Zeros.{zero-fresh}
 use Rattle.log_reader.specs.Record as found
+use Rattle.log_clock.specs.declared.Kind.{Kind}
+use Rattle.log_clock.specs.declared.Kind.the-variants.{Unset, Plain}
 use Rattle.claims.specs.Examples.{chartU}
 use Rattle.claims.specs.Demand1 as cases
-use Rattle.claims.specs.Demand1.{FeedsAs, FindsAs, Walk, refusedLog, JudgesAs}
+use Rattle.claims.specs.Demand1.{FeedsAs, FindsAs, ComesAs, Walk, refusedLog, JudgesAs}
 use Rattle.claims.proofs.Demand1.{reads-just}
 use Rattle.witnesses.specs.Feeds.{passes as passed, undo, headings, references, stored}
+use Rattle.witnesses.specs.Raw.{rawTime}
 use Rattle.witness_rounds.specs.Charts.{written}
 use Rattle.model.specs.Answers.{verdictFrom}
 use Rattle.witness_rounds.specs.Rounds.{U}
-use Rattle.witness_rounds.specs.Cases.{valueU, ticks, Cases}
+use Rattle.witness_rounds.specs.Cases.{valueU, ticks, shown, stamp, Cases}
 use Rattle.witness_rounds.proofs.Computing.{computing}
 use Rattle.witness_rounds.proofs.Logs.{read-u, accepted-u}
 
@@ -104,14 +107,53 @@ takes =
           (subst (Fit U) (sym L) (D .stays-fit (monitorAt zeroMonitor) (logRecord (undo 100)) P)),
     )
 
+no-tag : FindsAs (0x05 ∷ []) 0 (found.refused 31 0)
+no-tag =
+    cases.unknown (omega arith) (λ z. omega (arith, z)) (λ z. omega (arith, z)) (λ z. omega (arith, z))
+    (λ z. omega (arith, z))
+
+no-tag-after : FindsAs (written (ε ▸ passed 7) (0x05 ∷ [])) 5 (found.refused 31 5)
+no-tag-after =
+    cases.unknown (omega arith) (λ z. omega (arith, z)) (λ z. omega (arith, z)) (λ z. omega (arith, z))
+    (λ z. omega (arith, z))
+
 message : FindsAs (written (ε ▸ undo 100) []) 0 (found.handed (undo 100) 9)
 message = cases.message refl (omega arith)
 
-two : Walk (written (ε ▸ undo 100 ▸ passed 110) []) (ε ▸ undo 100 ▸ passed 110) 14 110
+two : Walk (written (ε ▸ undo 100 ▸ passed 110) []) (ε ▸ undo 100 ▸ passed 110) Plain 14 110
 two =
-    cases.step (cases.step cases.start (undo 100) 9 (cases.message refl (omega arith)) (omega arith) (omega arith))
-    (passed 110) 14
-    (cases.time refl (omega arith)) (omega arith) (omega arith)
+    cases.step
+    (cases.step cases.start (undo 100) Plain 9 (cases.first-plain (undo 100) 9 (cases.message refl (omega arith)))
+    (omega arith))
+    (passed 110) Plain 14 (cases.plain (passed 110) 14 (cases.time refl (omega arith)) (omega arith)) (omega arith)
+
+-- a first record of time, plain and raw, before more of a log
+first-time : (rest : List ℕ) → Walk (written (ε ▸ passed 7) rest) (ε ▸ passed 7) Plain 5 7
+first-time rest =
+    cases.step cases.start (passed 7) Plain 5
+    (cases.first-plain (passed 7) 5 (cases.time refl (omega arith))) (omega arith)
+
+first-shown : (rest : List ℕ) → Walk (shown 0 0 0 7 rest) (ε ▸ passed 0) (stamp 7) 5 0
+first-shown rest =
+    cases.step cases.start (passed 0) (stamp 7) 5 (cases.first-raw (rawTime 7) 5 (cases.raw-time refl (omega arith)))
+    (omega arith)
+
+-- moments 0, 2^31 - 1 and 2^32 - 2
+abbrev long : List ℕ
+long = shown 0 0 0 0 (shown 0x7f 0xff 0xff 0xff (shown 0xff 0xff 0xff 0xfe (shown 0 0 0 0 [])))
+
+long-walk : Walk long (ε ▸ passed 0 ▸ passed 2147483647 ▸ passed 4294967294) (stamp 4294967294) 15 4294967294
+long-walk =
+    cases.step
+    (cases.step
+    (cases.step cases.start (passed 0) (stamp 0) 5 (cases.first-raw (rawTime 0) 5 (cases.raw-time refl (omega arith)))
+    (omega arith))
+    (passed 2147483647) (stamp 2147483647) 10
+    (cases.raw (record { 0 = 0 }) (rawTime 2147483647) 10 (cases.raw-time refl (omega arith)) 2147483647 refl
+    (omega arith) (omega arith)) (omega arith))
+    (passed 4294967294) (stamp 4294967294) 15
+    (cases.raw (record { 0 = 2147483647 }) (rawTime 4294967294) 15 (cases.raw-time refl (omega arith)) 2147483647 refl
+    (omega arith) (omega arith)) (omega arith)
 
 -- a log of n records of time 0: the byte at each offset, and a walk over the first k of them
 module _ where
@@ -168,21 +210,28 @@ module _ where
   copies-size zero = refl
   copies-size (suc k) = ap suc (copies-size k)
 
-  walk : (n k : ℕ) → k ≤ n → k ≤ 1000000 → Walk (ticks n) (copies k) (5 * k) 0
+  abbrev kindAfter : ℕ → Kind
+  kindAfter zero = Unset
+  kindAfter (suc k) = Plain
+
+  comes : (n k : ℕ) → k < n → (j : ℕ) → ComesAs (ticks n) (5 * k) 0 (kindAfter j) (passed 0) Plain (5 * k + 5)
+  comes n k h zero = cases.first-plain (passed 0) (5 * k + 5) (tick n k h)
+  comes n k h (suc j) = cases.plain (passed 0) (5 * k + 5) (tick n k h) (omega arith)
+
+  walk : (n k : ℕ) → k ≤ n → k ≤ 1000000 → Walk (ticks n) (copies k) (kindAfter k) (5 * k) 0
   walk n zero h m = cases.start
   walk n (suc k) h m =
       let s : size (copies k) ≡ k = copies-size k in
       let q : 5 * k + 5 ≡ 5 * suc k = omega arith in
-      subst (λ (p : ℕ). Walk (ticks n) (copies k ▸ passed 0) p 0) q
-      (cases.step (walk n k (omega arith) (omega arith)) (passed 0) (5 * k + 5) (tick n k (omega arith)) (omega arith)
+      subst (λ (p : ℕ). Walk (ticks n) (copies k ▸ passed 0) Plain p 0) q
+      (cases.step (walk n k (omega arith) (omega arith)) (passed 0) Plain (5 * k + 5) (comes n k (omega arith) k)
       (omega arith))
 
 overflow : (k : ℕ) → k ≡ 1000000 → JudgesAs valueU (ticks (suc k)) (refusedLog 23 (5 * k))
 overflow k q =
     let s : size (copies k) ≡ k = copies-size k in
-    cases.overflows given-u (walk (suc k) k (omega arith) (omega arith)) (passed 0) (5 * k + 5)
-    (tick (suc k) k (omega arith)) (omega arith)
-    (omega arith)
+    cases.refuses given-u (walk (suc k) k (omega arith) (omega arith)) 23
+    (cases.overflows (kindAfter k) (passed 0) Plain (5 * k + 5) (comes (suc k) k (omega arith) k) (omega arith))
 
 judges : JudgesAs valueU (written (ε ▸ undo 100 ▸ references 120 ▸ headings 140) [])
     (record { number = 0; offset = 0; verdict = verdictFrom 0 1 0 3 0 0 0 0 })
@@ -190,9 +239,13 @@ unfolding computing
 judges =
     cases.judges given-u
     (cases.step
-    (cases.step (cases.step cases.start (undo 100) 9 (cases.message refl (omega arith)) (omega arith) (omega arith))
-    (references 120) 18 (cases.message refl (omega arith)) (omega arith) (omega arith)) (headings 140) 27
-    (cases.message refl (omega arith)) (omega arith) (omega arith))
+    (cases.step
+    (cases.step cases.start (undo 100) Plain 9 (cases.first-plain (undo 100) 9 (cases.message refl (omega arith)))
+    (omega arith))
+    (references 120) Plain 18 (cases.plain (references 120) 18 (cases.message refl (omega arith)) (omega arith))
+    (omega arith))
+    (headings 140) Plain 27 (cases.plain (headings 140) 27 (cases.message refl (omega arith)) (omega arith))
+    (omega arith))
     (cases.ends (omega arith))
 
 pub each-case : Cases
@@ -209,21 +262,43 @@ each-case = record {
   too-many = too-many;
   takes = takes;
   ends = cases.ends (omega arith);
-  unknown = cases.unknown (omega arith) (λ z. omega (arith, z)) (λ z. omega (arith, z));
+  unknown = no-tag;
   message-cut = cases.message-cut refl (omega arith);
   time-cut = cases.time-cut refl (omega arith);
+  raw-message-cut = cases.raw-message-cut refl (omega arith);
+  raw-time-cut = cases.raw-time-cut refl (omega arith);
   message = message;
   time = cases.time refl (omega arith);
+  raw-message = cases.raw-message refl (omega arith);
+  raw-time = cases.raw-time refl (omega arith);
+  first-plain = cases.first-plain (passed 7) 5 (cases.time refl (omega arith));
+  plain = cases.plain (passed 7) 5 (cases.time refl (omega arith)) (omega arith);
+  first-raw = cases.first-raw (rawTime 5) 5 (cases.raw-time refl (omega arith));
+  raw = cases.raw (record { 0 = 4294967295 }) (rawTime 5) 5 (cases.raw-time refl (omega arith)) 6 refl (omega arith)
+      (omega arith);
   start = cases.start;
   step = two;
+  begins = cases.begins (rawTime 4294967290) 5 (cases.raw-time refl (omega arith)) refl;
+  goes-on = cases.goes-on
+      (cases.begins (rawTime 4294967290) 5 (cases.raw-time refl (omega arith)) refl)
+      (rawTime 5) 10 (cases.raw-time refl (omega arith)) 4294967301 refl (omega arith) (omega arith) (omega arith)
+      (omega arith);
   not-given = cases.not-given zeros-not;
-  no-record = cases.no-record given-u
-      (cases.step cases.start (passed 7) 5 (cases.time refl (omega arith)) (omega arith) (omega arith)) 31
-      (cases.unknown (omega arith) (λ z. omega (arith, z)) (λ z. omega (arith, z)));
-  falls = cases.falls given-u
-      (cases.step cases.start (undo 100) 9 (cases.message refl (omega arith)) (omega arith) (omega arith))
-      (headings 99) 18
-      (cases.message refl (omega arith)) (omega arith);
+  no-record = cases.refuses given-u (first-time _) 31 (cases.no-record Plain 31 no-tag-after);
+  raw-in-plain = cases.refuses given-u (first-time _) 32
+      (cases.raw-in-plain (rawTime 7) 10 (cases.raw-time refl (omega arith)));
+  plain-in-raw = cases.refuses given-u (first-shown _) 32
+      (cases.plain-in-raw (record { 0 = 7 }) (passed 7) 10 (cases.time refl (omega arith)));
+  falls = cases.refuses given-u
+      (cases.step cases.start (undo 100) Plain 9 (cases.first-plain (undo 100) 9 (cases.message refl (omega arith)))
+      (omega arith)) 22
+      (cases.falls (headings 99) 18 (cases.message refl (omega arith)) (omega arith));
+  goes-back = cases.refuses given-u (first-shown _) 22
+      (cases.goes-back (record { 0 = 7 }) (rawTime 6) 10 (cases.raw-time refl (omega arith)) 4294967295 refl
+      (omega arith) (omega arith));
+  too-late = cases.refuses given-u long-walk 24
+      (cases.too-late (record { 0 = 4294967294 }) (rawTime 0) 20 (cases.raw-time refl (omega arith)) 2 refl
+      (omega arith) (omega arith));
   overflows = overflow 1000000 refl;
   judges = judges;
 }

@@ -9,10 +9,13 @@ use Rattle.base.specs.Lists.{ε, _▸_}
 use Rattle.rounds.specs.Feeds.{refused, brokenAt, entered}
 use Rattle.chart_reader.specs.Said.{acceptedAs}
 use Rattle.log_reader.specs.Record as found
+use Rattle.log_clock.specs.declared.Kind.{Kind}
+use Rattle.log_clock.specs.declared.Kind.the-variants.{Unset, Plain, Raw}
 use Rattle.monitor.specs.declared.MadeAnswer.the-variants.{Fresh, NoChart}
 use Rattle.claims.specs.Examples.{chartU}
-use Rattle.claims.specs.Demand1.{ReadsAs, MakesAs, FeedsAs, FindsAs, Walk, refusedLog, JudgesAs}
+use Rattle.claims.specs.Demand1.{ReadsAs, MakesAs, FeedsAs, FindsAs, ComesAs, Walk, TrueWalk, refusedLog, JudgesAs}
 use Rattle.witnesses.specs.Feeds.{passes as passed, undo, headings, references, stored}
+use Rattle.witnesses.specs.Raw.{rawMessage, rawTime}
 use Rattle.witness_rounds.specs.Charts.{written}
 use Rattle.model.specs.Answers.{verdictFrom}
 use Rattle.witness_rounds.specs.Rounds.{valueOf}
@@ -25,6 +28,13 @@ valueU = valueOf chartU
 unfoldable pub ticks : ℕ → List ℕ
 ticks zero = []
 ticks (suc n) = 0x02 ∷ 0 ∷ 0 ∷ 0 ∷ 0 ∷ ticks n
+
+-- a raw record of time, by its stamp's bytes, before more of the log
+abbrev pub shown : ℕ → ℕ → ℕ → ℕ → List ℕ → List ℕ
+shown a b c d rest = 0x04 ∷ a ∷ b ∷ c ∷ d ∷ rest
+
+abbrev pub stamp : ℕ → Kind
+stamp s = Raw (record { 0 = s })
 
 pub record Cases : Type 0 where
   -- reading a chart: chart U, and no byte at all
@@ -40,20 +50,41 @@ pub record Cases : Type 0 where
   pub time-falls : FeedsAs valueU (stored 0 0 100 1 0 0) (undo 99) (refused 22) (stored 0 0 100 1 0 0)
   pub too-many : FeedsAs valueU (stored 0 0 100 1000000 0 0) (undo 100) (refused 23) (stored 0 0 100 1000000 0 0)
   pub takes : (n : Monitor) × FeedsAs valueU zeroMonitor (undo 100) entered n
-  -- one record: past the end; an unknown byte; a message and a time cut short; both whole
+  -- one record: past the end; an unknown byte; a message and a time cut short, plain and raw; all four whole
   pub ends : FindsAs [] 3 (found.end 3)
-  pub unknown : FindsAs (0x03 ∷ []) 0 (found.refused 31 0)
+  pub unknown : FindsAs (0x05 ∷ []) 0 (found.refused 31 0)
   pub message-cut : FindsAs (0x01 ∷ 0 ∷ 1 ∷ []) 0 (found.refused 30 0)
   pub time-cut : FindsAs (0x02 ∷ 0 ∷ []) 0 (found.refused 30 0)
+  pub raw-message-cut : FindsAs (0x03 ∷ 0 ∷ 1 ∷ []) 0 (found.refused 30 0)
+  pub raw-time-cut : FindsAs (0x04 ∷ 0 ∷ []) 0 (found.refused 30 0)
   pub message : FindsAs (written (ε ▸ undo 100) []) 0 (found.handed (undo 100) 9)
   pub time : FindsAs (written (ε ▸ passed 7) []) 0 (found.handed (passed 7) 5)
+  pub raw-message : FindsAs (0x03 ∷ 0 ∷ 1 ∷ 0 ∷ 2 ∷ 0xff ∷ 0xff ∷ 0xff ∷ 0xff ∷ []) 0
+      (found.handed-raw (rawMessage 0 1 2 4294967295) 9)
+  pub raw-time : FindsAs (shown 0 0 0 5 []) 0 (found.handed-raw (rawTime 5) 5)
+  -- a record at its moment: the first of a plain log and a later one, the first of a raw log, and one that comes 6 ticks
+  -- after the moment 7, over the wrap
+  pub first-plain : ComesAs (written (ε ▸ passed 7) []) 0 0 Unset (passed 7) Plain 5
+  pub plain : ComesAs (written (ε ▸ passed 7) []) 0 5 Plain (passed 7) Plain 5
+  pub first-raw : ComesAs (shown 0 0 0 5 []) 0 0 Unset (passed 0) (stamp 5) 5
+  pub raw : ComesAs (shown 0 0 0 5 []) 0 7 (stamp 4294967295) (passed 13) (stamp 5) 5
   -- records from the left: none, and two
-  pub start : Walk [] ε 0 0
-  pub step : Walk (written (ε ▸ undo 100 ▸ passed 110) []) (ε ▸ undo 100 ▸ passed 110) 14 110
-  -- judging: no chart; an unknown byte after a record; a time that falls; record 1,000,001; a verdict
+  pub start : Walk [] ε Unset 0 0
+  pub step : Walk (written (ε ▸ undo 100 ▸ passed 110) []) (ε ▸ undo 100 ▸ passed 110) Plain 14 110
+  -- true times: one, and another 11 ticks later, when the counter has begun again
+  pub begins : TrueWalk (shown 0xff 0xff 0xff 0xfa []) 4294967290 (ε ▸ passed 0) 5 4294967290
+  pub goes-on : TrueWalk (shown 0xff 0xff 0xff 0xfa (shown 0 0 0 5 [])) 4294967290 (ε ▸ passed 0 ▸ passed 11) 10
+      4294967301
+  -- judging: no chart; an unknown byte after a record; a raw record after a plain one, and the reverse; a time that
+  -- falls; a counter one back; a moment of 2^32; record 1,000,001; a verdict
   pub not-given : JudgesAs zeroChart [] (refusedLog 20 0)
-  pub no-record : JudgesAs valueU (written (ε ▸ passed 7) (0x03 ∷ [])) (refusedLog 31 5)
+  pub no-record : JudgesAs valueU (written (ε ▸ passed 7) (0x05 ∷ [])) (refusedLog 31 5)
+  pub raw-in-plain : JudgesAs valueU (written (ε ▸ passed 7) (shown 0 0 0 7 [])) (refusedLog 32 5)
+  pub plain-in-raw : JudgesAs valueU (shown 0 0 0 7 (written (ε ▸ passed 7) [])) (refusedLog 32 5)
   pub falls : JudgesAs valueU (written (ε ▸ undo 100 ▸ headings 99) []) (refusedLog 22 9)
+  pub goes-back : JudgesAs valueU (shown 0 0 0 7 (shown 0 0 0 6 [])) (refusedLog 22 5)
+  pub too-late : JudgesAs valueU
+      (shown 0 0 0 0 (shown 0x7f 0xff 0xff 0xff (shown 0xff 0xff 0xff 0xfe (shown 0 0 0 0 [])))) (refusedLog 24 15)
   pub overflows : JudgesAs valueU (ticks 1000001) (refusedLog 23 5000000)
   pub judges : JudgesAs valueU (written (ε ▸ undo 100 ▸ references 120 ▸ headings 140) [])
       (record { number = 0; offset = 0; verdict = verdictFrom 0 1 0 3 0 0 0 0 })

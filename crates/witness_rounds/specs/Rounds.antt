@@ -13,7 +13,7 @@ use Rattle.model.specs.Answers.{verdictFrom}
 use Rattle.chart_reader.specs.Read.{readChart}
 use Rattle.chart_reader.specs.Said.{acceptedAs}
 use Rattle.chart_value.specs.View.{chartOf}
-use Rattle.log_reader.specs.Records.{recordsIn}
+use Rattle.log_clock.specs.Records.{recordsIn}
 use Rattle.base.specs.Lists.{Snoc, ε, _▸_}
 use Rattle.rounds.specs.Chart.{Chart as Abstract}
 use Rattle.rounds.specs.Rows.{LogRecord, Row, stands, chartMessages, Lawful, NoRow, Full, LawfulButLast, firstFailing}

@@ -17,7 +17,8 @@ use Rattle.rounds.specs.Machine.{fitsOpening, reopened, accept, feed, after}
 use Rattle.monitor.specs.Fit.{closedUpward, restsUnlessBroken, momentsFit, causeFits, breakFits, countsFit, placeFits}
 use Rattle.monitor.specs.Fit.{fits}
 use Rattle.monitor.specs.Feed.{feedOf}
-use Rattle.log_reader.specs.Records.{recordsFrom, recordsIn}
+use Rattle.log_clock.specs.Dated.{datedAt}
+use Rattle.log_clock.specs.Records.{recordsFrom, recordsIn}
 use Rattle.judge.specs.Check.{stepAt, checkFrom, checkLog}
 use Rattle.judge.specs.Judge.{judgeOf}
 use Rattle.judge.specs.Verdict.{standingOf}
@@ -30,11 +31,12 @@ use Rattle.witnesses.specs.Charts.{refusals, limits}
 use Rattle.witnesses.specs.Rounds.{conditions, clocks, causes, orders, logs}
 use Rattle.witnesses.specs.Feeds.{Answers, feeds, fitness, Stores, breaks}
 use Rattle.witnesses.specs.Offers.{offers, offered, counts, Leads, leads}
-use Rattle.witnesses.specs.Formats.{Prints, texts, LastRecord, Formats}
+use Rattle.witnesses.specs.Raw.{Reads, readings, raws}
+use Rattle.witnesses.specs.Formats.{Prints, texts, Checks, checks, LogNumbers, Formats}
 
 -- every definition that the lines look into
 computed : Unit {0}
-unfolding contains single inserted union isSubset within isOver gathered aboveSets readChart readFrom advanceOf isZeroTerm termPlaced termsFit regionFits isZeroRegion touchedBefore regionPlaced wellFormed conditionOf chartMessage plain values opened ready readyFor readyPlain fire unfired tryRegion settle takeMessage opening full prechartDone goOn keepRound dropRound breakRound conclude offer missed fitsOpening reopened accept feed after closedUpward restsUnlessBroken momentsFit causeFits breakFits countsFit placeFits fits feedOf recordsFrom recordsIn stepAt checkFrom checkLog standingOf judgeOf bytesOf digitsOf verdictLines refusalLine partsReport reportOf
+unfolding contains single inserted union isSubset within isOver gathered aboveSets readChart readFrom advanceOf isZeroTerm termPlaced termsFit regionFits isZeroRegion touchedBefore regionPlaced wellFormed conditionOf chartMessage plain values opened ready readyFor readyPlain fire unfired tryRegion settle takeMessage opening full prechartDone goOn keepRound dropRound breakRound conclude offer missed fitsOpening reopened accept feed after closedUpward restsUnlessBroken momentsFit causeFits breakFits countsFit placeFits fits feedOf datedAt recordsFrom recordsIn stepAt checkFrom checkLog standingOf judgeOf bytesOf digitsOf verdictLines refusalLine partsReport reportOf
 computed = tt
 
 refusals-said : Each Says refusals
@@ -202,7 +204,7 @@ orders-said = (refl, (refl, (refl, (refl, (refl, (refl, (refl, (refl, tt))))))))
 logs-said : Each Says logs
 unfolding computed
 logs-said =
-    (refl, (refl, (refl, (refl, (refl, (refl, (refl, (refl, (refl, (refl, (refl, (refl, (refl, (refl, tt))))))))))))))
+    (refl, (refl, (refl, (refl, (refl, (refl, (refl, (refl, (refl, (refl, (refl, (refl, (refl, (refl, (refl, tt)))))))))))))))
 
 feeds-answered : Each Answers feeds
 unfolding computed
@@ -234,7 +236,7 @@ offers-lead = ((refl, refl, refl), ((refl, refl, refl), ((refl, refl, refl), ((r
 
 texts-printed : Each Prints texts
 unfolding computed
-texts-printed = (refl, (refl, (refl, (refl, (refl, (refl, (refl, (refl, (refl, (refl, tt))))))))))
+texts-printed = (refl, (refl, (refl, (refl, (refl, (refl, (refl, (refl, (refl, (refl, (refl, (refl, tt))))))))))))
 
 input-40 : (s : List ℕ) → 65536 < length s → textOf s ≡ bytesOf "refused input 40 at 0\n"
 unfolding computed
@@ -244,9 +246,21 @@ input-41 : (s : List ℕ) → length s ≡ 65534 → textOf (0xff ∷ 0xff ∷ s
 unfolding computed
 input-41 s h = rw h refl
 
-last-record : LastRecord
+raws-said : Each Says raws
 unfolding computed
-last-record = record { most = refl; taken = refl; refused = refl; number = refl }
+raws-said =
+    (refl, (refl, (refl, (refl, (refl, (refl, (refl, (refl, (refl, (refl, (refl, (refl, (refl, (refl, (refl, (refl, (refl, (refl, (refl, (refl, (refl, (refl, (refl, (refl, (refl, (refl, (refl, tt)))))))))))))))))))))))))))
+
+records-read : Each Reads readings
+records-read =
+    (refl, (refl, (refl, (refl, (refl, (refl, (refl, (refl, (refl, (refl, (refl, (refl, (refl, (refl, (refl, (refl, (refl, (refl, (refl, (refl, tt))))))))))))))))))))
+
+records-checked : Each Checks checks
+unfolding computed
+records-checked = (refl, (refl, (refl, (refl, (refl, (refl, (refl, (refl, (refl, (refl, (refl, (refl, tt))))))))))))
+
+log-numbers : LogNumbers
+log-numbers = record { most = refl; too-many = refl; mixed = refl; falls = refl; too-late = refl }
 
 pub formats-hold : Formats
 formats-hold =
@@ -266,7 +280,10 @@ formats-hold =
       counts-answered = counts-answered;
       offers-lead = offers-lead;
       texts-printed = texts-printed;
-      last-record = last-record;
+      raws-said = raws-said;
+      records-read = records-read;
+      records-checked = records-checked;
+      log-numbers = log-numbers;
       input-40 = input-40;
       input-41 = input-41;
     }

@@ -4,4 +4,5 @@ pub mod Charts
 pub mod Rounds
 pub mod Feeds
 pub mod Offers
+pub mod Raw
 pub mod Formats

@@ -204,12 +204,13 @@ logs =
     -- times, and label 256, are counted and do nothing more; equal times are taken, and the last moment
     ∷ judged chartP (hex "02 00 00 00 05 02 00 00 00 05 01 00 01 00 01 00 00 00 05") 1 0 0 3 0 0 0 0
     ∷ judged chartP (hex "01 00 01 01 00 00 00 00 05 02 FF FF FF FF") 0 0 0 2 0 0 0 0
-    -- 31: 03 and 00 are unknown, before 30
-    ∷ logFault "03 00 00 00 05" 31 0
+    -- 31: 05 and 00 are unknown, before 30
+    ∷ logFault "05 00 00 00 05" 31 0
     ∷ logFault "02 00 00 00 05 00" 31 5
-    -- 30: four of five bytes, eight of nine
+    -- 30: four of five bytes, eight of nine; 03 is a raw message, of which five bytes of nine are there
     ∷ logFault "02 00 00 00" 30 0
     ∷ logFault "02 00 00 00 05 01 00 01 00 01 00 00 00" 30 5
+    ∷ logFault "03 00 00 00 05" 30 0
     -- 22: 4 below 5
     ∷ logFault "02 00 00 00 05 02 00 00 00 04" 22 5
     ∷ logFault "01 00 01 00 01 00 00 00 05 02 00 00 00 04" 22 9

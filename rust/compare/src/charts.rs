@@ -3,7 +3,9 @@
 use crate::fast::{Plan, State};
 use crate::random::{self, log_pieces, Rng, Size};
 use lsc_reference::examples::CHART_U;
+use lsc_reference::log::read_log;
 use lsc_reference::reader::read_chart;
+use lsc_reference::record::{LogRecord, RawRecord, Stamp};
 use lsc_reference::value::*;
 
 /// After m1 with x at least 3: m2 with x at least 2, and m3, in any order.
@@ -109,6 +111,18 @@ pub fn keeping_log(chart: &ChartValue, count: usize, seed: u64) -> Vec<u8> {
     log
 }
 
+/// A plain log's records with raw stamps, the first of which is this one.
+pub fn raw_log(log: &[u8], first: u32) -> Vec<u8> {
+    let records = read_log(log).expect("the log has no fault");
+    let start = records.first().map_or(0, RecordValue::time);
+    let raw = records.iter().map(|record| RawRecord {
+        message: record.message(),
+        stamp: Stamp(first.wrapping_add(record.time() - start)),
+    });
+    raw.flat_map(|record| LogRecord::Raw(record).to_bytes())
+        .collect()
+}
+
 /// The given log with one record changed so that it breaks its chart, one with a prechart, as
 /// soon as the main chart is owed: the message of region 1 comes once more.
 pub fn breaking_log(chart: &ChartValue, log: &[u8]) -> Vec<u8> {
@@ -192,6 +206,7 @@ mod tests {
         let (record, ..) = Break::numbers(verdict.broken);
         assert!((7..40).contains(&record), "{verdict:?}");
         let verdict = judge(&chart, &log).unwrap();
+        assert_eq!(judge(&chart, &raw_log(&log, u32::MAX - 99)), Ok(verdict));
         assert!(verdict.kept > 350, "{verdict:?}");
         assert!((1..60).contains(&verdict.dropped), "{verdict:?}");
         let chart = read_chart(&CHART_U).unwrap();

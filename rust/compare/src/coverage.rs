@@ -1,13 +1,15 @@
 //! Counts of what a run of tests has reached.
 
 use crate::fitness::{self, FIT, UNFIT};
+use crate::outcomes::{outcomes, Outcome};
+use lsc_reference::log::Verdict;
 use lsc_reference::monitor::{feed_fit, Order};
 use lsc_reference::value::*;
 use std::collections::BTreeMap;
 
 /// The refusals of N9 except 12.
-pub const REFUSALS: [u8; 19] = [
-    1, 2, 3, 4, 5, 6, 7, 8, 9, 10, 11, 20, 21, 22, 23, 30, 31, 40, 41,
+pub const REFUSALS: [u8; 21] = [
+    1, 2, 3, 4, 5, 6, 7, 8, 9, 10, 11, 20, 21, 22, 23, 24, 30, 31, 32, 40, 41,
 ];
 
 /// How often each name was seen.
@@ -27,6 +29,10 @@ pub struct Coverage {
     pub fit: Counts<&'static str>,
     /// What alone made a monitor unfit.
     pub unfit: Counts<&'static str>,
+    /// Kinds of comparison, and what logs came to in them.
+    pub logs: Counts<(&'static str, Outcome)>,
+    /// What reading one record came to.
+    pub reads: Counts<&'static str>,
 }
 
 /// The answers' names, broken once for each reason.
@@ -140,6 +146,23 @@ impl Coverage {
         count(&mut self.offers, offer.map(|offer| (kind, offer)));
     }
 
+    /// What a log came to that was judged so, in a comparison of this kind.
+    pub fn judged(
+        &mut self,
+        kind: &'static str,
+        log: &[u8],
+        judged: &Result<Verdict, (u8, usize)>,
+    ) {
+        for name in outcomes(log, judged) {
+            count(&mut self.logs, Some((kind, name)));
+        }
+    }
+
+    /// What reading one record came to.
+    pub fn read(&mut self, name: &'static str) {
+        count(&mut self.reads, Some(name));
+    }
+
     /// An answer, to a round that was broken before or not.
     pub fn told(&mut self, again: bool, answer: &Answer) {
         self.answer(answer);
@@ -189,9 +212,11 @@ impl Coverage {
         add(&mut self.offers, &other.offers);
         add(&mut self.fit, &other.fit);
         add(&mut self.unfit, &other.unfit);
+        add(&mut self.logs, &other.logs);
+        add(&mut self.reads, &other.reads);
     }
 
-    /// What was never reached, second offers aside.
+    /// What was never reached; second offers, logs and single records aside.
     pub fn missing(&self) -> Vec<String> {
         let mut missing = Vec::new();
         for code in REFUSALS {
@@ -229,5 +254,18 @@ impl Coverage {
         all.filter(|name| !self.offers.contains_key(name))
             .map(|(kind, offer)| format!("second offer {offer}: {kind}"))
             .collect()
+    }
+
+    /// What no log came to, in a kind of comparison.
+    pub fn missing_logs(&self, kind: &'static str, names: &[Outcome]) -> Vec<String> {
+        let all = names.iter().map(|name| (kind, *name));
+        all.filter(|name| !self.logs.contains_key(name))
+            .map(|(kind, name)| format!("{name}: {kind}"))
+            .collect()
+    }
+
+    /// What reading one record never came to.
+    pub fn missing_reads(&self, names: &[&'static str]) -> Vec<String> {
+        uncounted("read:", &self.reads, names)
     }
 }

@@ -4,8 +4,8 @@
 //! it to both sides and compares every number and every byte lent. An input that differs is
 //! shrunk and shown in hexadecimal with both answers, the seed and the input's number.
 //!
-//! `random` has the generators, `coverage`, `fitness` and `seen` name and count what was
-//! reached, `image` has values in the library's form, and `testing` calls what takes them.
+//! `random` has the generators, `coverage`, `fitness`, `outcomes` and `seen` name and count what
+//! was reached, `image` has values in the library's form, and `testing` calls what takes them.
 //! `fast` is a judge in Rust that the benchmark runs beside the proved one; the reference is its
 //! test too.
 #![deny(unsafe_code)]
@@ -20,6 +20,7 @@ pub mod image;
 pub mod kinds;
 pub mod limits;
 pub mod measure;
+pub mod outcomes;
 pub mod plot;
 pub mod random;
 pub mod seen;

@@ -1,5 +1,5 @@
-//! Fixed inputs at the limits: 1,000,000 records, twice as many rounds, the longest input, sizes
-//! that overflow.
+//! Fixed inputs at the limits: 1,000,000 records, plain and raw, twice as many rounds, the longest
+//! input, sizes that overflow.
 
 use crate::charts;
 use crate::difference::{same, Both, Difference};
@@ -10,6 +10,7 @@ use lsc::call;
 use lsc_reference::examples::{message, undo, CHART_U};
 use lsc_reference::print::input_of;
 use lsc_reference::reader::read_chart;
+use lsc_reference::record::{LogRecord, RawRecord, Stamp};
 use lsc_reference::value::*;
 
 /// A name, a comparison, and the input's two parts.
@@ -18,6 +19,7 @@ type Case = (&'static str, Compare, Vec<u8>, Vec<u8>);
 /// Compares every fixed input.
 pub fn run(seen: &mut Seen) -> Result<(), Box<Difference>> {
     let mut cases = judged();
+    cases.extend(judged_raw());
     cases.extend(printed());
     cases.extend(fed());
     cases.extend(fed_twice());
@@ -60,6 +62,41 @@ fn judged() -> Vec<Case> {
     let chart = charts::TWO_THEN_ONE.to_vec();
     cases.push(("999,999 second offers", compare_judge, chart, again));
     cases
+}
+
+/// A record of time with a raw stamp.
+fn stamp(stamp: u32) -> Vec<u8> {
+    let record = RawRecord {
+        message: None,
+        stamp: Stamp(stamp),
+    };
+    LogRecord::Raw(record).to_bytes()
+}
+
+/// Logs of 1,000,000 and of 1,000,001 raw records: rounds across the wrap, and moments up to the
+/// last one. The record beyond comes too late, falls, is plain, is cut, or is only too many.
+fn judged_raw() -> Vec<Case> {
+    let chart = read_chart(&CHART_U).expect("chart U is read");
+    let plain = charts::keeping_log(&chart, MAX_RECORDS as usize, 4);
+    let rounds = charts::raw_log(&plain, u32::MAX - 1_000);
+    // Gaps of 2^31 - 1, 2^31 - 1 and 1 after 999,997 records at moment 0.
+    let mut full = stamp(9).repeat(MAX_RECORDS as usize - 3);
+    full.extend([stamp(0x8000_0008), stamp(7), stamp(8)].concat());
+    let with = |log: &[u8], last: &[u8]| [log, last].concat();
+    let time = RecordValue::Time(u32::MAX).to_bytes();
+    let logs = [
+        ("1,000,000 raw records", rounds.clone()),
+        ("raw after 1,000,000 plain", with(&plain, &stamp(u32::MAX))),
+        ("plain after 1,000,000 raw", with(&rounds, &time)),
+        ("raw up to the last moment", full.clone()),
+        ("1,000,001 raw records", with(&full, &stamp(8))),
+        ("too late at 1,000,001", with(&full, &stamp(9))),
+        ("a raw fall at 1,000,001", with(&full, &stamp(7))),
+        ("half round at 1,000,001", with(&full, &stamp(0x8000_0008))),
+        ("raw, cut at 1,000,001", with(&full, &stamp(7)[..4])),
+    ];
+    let case = |(name, log)| -> Case { (name, compare_judge, CHART_U.to_vec(), log) };
+    logs.map(case).into()
 }
 
 /// Inputs about 65,536 bytes long, and short ones.

@@ -1,9 +1,11 @@
 //! What a run has reached: refusals, answers, standings and terms that the library gave, second
-//! offers in each kind of comparison, and monitors at the limits of M10.
+//! offers in each kind of comparison, monitors at the limits of M10, what plain and raw logs came
+//! to, and single records.
 
 use crate::coverage::{Counts, Coverage, ANSWERS, DECIDED_TERMS, OFFERS, REFUSALS};
 use crate::fitness::{FIT, UNFIT};
-use crate::kinds::KINDS;
+use crate::kinds::{taking, JUDGE, PRINT, READS};
+use crate::outcomes::{FULL_OUTCOMES, OUTCOMES};
 use std::fmt;
 
 /// A buffer too short (N9); `REFUSALS` has all the others.
@@ -33,8 +35,12 @@ impl Seen {
         if !self.coverage.refusals.contains_key(&SHORT) {
             missing.push(format!("refusal {SHORT}"));
         }
-        let kinds: Vec<&'static str> = KINDS.iter().map(|kind| kind.name).collect();
-        missing.extend(self.coverage.missing_offers(&kinds));
+        missing.extend(self.coverage.missing_offers(&taking()));
+        for kind in [JUDGE, PRINT] {
+            missing.extend(self.coverage.missing_logs(kind, &OUTCOMES));
+        }
+        missing.extend(self.coverage.missing_logs(JUDGE, &FULL_OUTCOMES));
+        missing.extend(self.coverage.missing_reads(&READS));
         missing
     }
 
@@ -45,9 +51,12 @@ impl Seen {
             + ANSWERS.len()
             + 4
             + DECIDED_TERMS
-            + KINDS.len() * OFFERS.len()
+            + taking().len() * OFFERS.len()
             + FIT.len()
-            + UNFIT.len();
+            + UNFIT.len()
+            + 2 * OUTCOMES.len()
+            + FULL_OUTCOMES.len()
+            + READS.len();
         (all - self.missing().len(), all)
     }
 }
@@ -79,6 +88,12 @@ impl fmt::Display for Seen {
         }
         for (name, times) in &self.coverage.unfit {
             writeln!(f, "| unfit: {name} | {times} |")?;
+        }
+        for ((kind, name), times) in &self.coverage.logs {
+            writeln!(f, "| {name}: {kind} | {times} |")?;
+        }
+        for (name, times) in &self.coverage.reads {
+            writeln!(f, "| read: {name} | {times} |")?;
         }
         Ok(())
     }

@@ -1,7 +1,10 @@
-//! The fast judge on the examples of the rules (X) and at its limits.
+//! The fast judge on the examples of the rules (X), on raw logs and at its limits.
 
 use lsc_compare::charts::TWO_THEN_ONE;
+use lsc_compare::coverage::Coverage;
 use lsc_compare::fast;
+use lsc_compare::outcomes::OUTCOMES;
+use lsc_compare::random::{self, Rng};
 use lsc_reference::examples::{message, undo, CHART_U, OVER_CHART_U, WIDEST};
 use lsc_reference::log::{judge, write_log};
 use lsc_reference::monitor;
@@ -64,7 +67,8 @@ fn the_millionth_record_and_the_next() {
         RecordValue::Time(9).to_bytes(),
         RecordValue::Time(8).to_bytes(),
         vec![2, 0, 0, 0],
-        vec![3],
+        vec![5],
+        vec![4, 0, 0, 0, 9],
     ];
     let said = after.map(|after| {
         let log = [&full[..], &after].concat();
@@ -72,7 +76,46 @@ fn the_millionth_record_and_the_next() {
         assert_eq!(verdict, judge(&chart, &log));
         verdict.map(|verdict| verdict.records)
     });
-    let refused = [23, 22, 30, 31].map(|number| Err((number, 5_000_000)));
+    let refused = [23, 22, 30, 31, 32].map(|number| Err((number, 5_000_000)));
     assert_eq!(said[0], Ok(1_000_000));
     assert_eq!(said[1..], refused);
+}
+
+#[test]
+fn the_millionth_raw_record_and_the_next() {
+    let chart = read_chart(&CHART_U).unwrap();
+    // Moments 0 and, in the last three, 2^31 - 1, 2^32 - 2, 2^32 - 1.
+    let mut full = [4, 0, 0, 0, 9].repeat(999_997);
+    full.extend([4, 0x80, 0, 0, 8, 4, 0, 0, 0, 7, 4, 0, 0, 0, 8]);
+    for (after, said) in [
+        (&[][..], Ok(1_000_000)),
+        (&[4, 0, 0, 0, 8], Err(23)),
+        (&[4, 0, 0, 0, 9], Err(24)),
+        (&[4, 0, 0, 0, 7], Err(22)),
+        (&[4, 0x80, 0, 0, 8], Err(22)),
+        (&[2, 0, 0, 0, 8], Err(32)),
+        (&[3, 0, 0, 0, 8], Err(30)),
+        (&[0, 0, 0, 0, 8], Err(31)),
+    ] {
+        let log = [&full[..], after].concat();
+        let verdict = fast::judge(&chart, &log);
+        assert_eq!(verdict, judge(&chart, &log));
+        let expected = said.map_err(|number| (number, 5_000_000));
+        assert_eq!(verdict.map(|verdict| verdict.records), expected);
+    }
+}
+
+#[test]
+fn raw_logs() {
+    let mut rng = Rng::new(12);
+    let mut seen = Coverage::default();
+    for _ in 0..20_000 {
+        let size = random::some_size(&mut rng);
+        let (_, chart) = random::chart(&mut rng, size);
+        let log = random::hostile_log_bytes(&mut rng, &chart);
+        let judged = judge(&chart, &log);
+        assert_eq!(fast::judge(&chart, &log), judged, "{log:02X?}");
+        seen.judged("fast", &log, &judged);
+    }
+    assert_eq!(seen.missing_logs("fast", &OUTCOMES), Vec::<String>::new());
 }

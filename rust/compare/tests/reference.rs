@@ -5,12 +5,14 @@ use lsc_compare::charts;
 use lsc_compare::coverage::{Coverage, ANSWERS};
 use lsc_compare::fast;
 use lsc_compare::image::Image;
+use lsc_compare::outcomes::OUTCOMES;
 use lsc_compare::random::{self, Rng, Size};
 use lsc_reference::command::Command;
 use lsc_reference::declarative::Rows;
 use lsc_reference::log::{judge, read_log, read_record, verdict, write_log, Next};
 use lsc_reference::print::respond;
 use lsc_reference::reader::read_chart;
+use lsc_reference::record::LogRecord;
 use lsc_reference::value::*;
 use lsc_reference::{monitor, well_formed};
 
@@ -58,12 +60,13 @@ fn judges(rng: &mut Rng, seen: &mut Coverage) {
     for _ in 0..20 {
         let log = if rng.chance(60) {
             let count = rng.below(if size == Size::Large { 150 } else { 40 });
-            write_log(&random::records(rng, &chart, count))
+            random::log_bytes(rng, &chart, count)
         } else {
             random::hostile_log_bytes(rng, &chart)
         };
         let verdict = judge(&chart, &log);
         assert_eq!(verdict, plan.judge(&log), "{bytes:02X?} {log:02X?}");
+        seen.judged("judge", &log, &verdict);
         match verdict {
             Ok(verdict) => {
                 seen.standing(verdict.standing);
@@ -75,7 +78,7 @@ fn judges(rng: &mut Rng, seen: &mut Coverage) {
     }
 }
 
-/// The bare scan counts what the log reader hands out.
+/// The bare scan counts what the log reader hands out of a plain log.
 fn check_scan(log: &[u8]) {
     let mut place = 0;
     let mut records = 0;
@@ -83,8 +86,8 @@ fn check_scan(log: &[u8]) {
     let whole = loop {
         match read_record(log, place) {
             Next::End => break true,
-            Next::Refused(_) => break false,
-            Next::Taken(record, after) => {
+            Next::Refused(_) | Next::Taken(LogRecord::Raw(_), _) => break false,
+            Next::Taken(LogRecord::Plain(record), after) => {
                 records += 1;
                 sum += u64::from(record.time());
                 place = after;
@@ -210,6 +213,7 @@ fn everything_is_reached() {
     assert_eq!(seen.missing(), Vec::<String>::new());
     let kinds = ["judge", "values"];
     assert_eq!(seen.missing_offers(&kinds), Vec::<String>::new());
+    assert_eq!(seen.missing_logs("judge", &OUTCOMES), Vec::<String>::new());
 }
 
 #[test]
@@ -231,4 +235,23 @@ fn a_list_of_feeds_is_the_judge_s_verdict() {
         assert_eq!(read_log(&log), Ok(records));
         assert_eq!(judge(&chart, &log), Ok(verdict(&chart, &naive)));
     }
+}
+
+#[test]
+fn judging_a_log_is_what_the_rows_of_its_records_give() {
+    let mut rng = Rng::new(9);
+    let mut judged = 0;
+    for _ in 0..3_000 {
+        let (bytes, chart) = charts::some_small(&mut rng);
+        let count = rng.below(11);
+        let log = random::log_bytes(&mut rng, &chart, count);
+        let Ok(records) = read_log(&log) else {
+            continue;
+        };
+        let monitor = Rows::of(&chart).meaning(&records).monitor();
+        let expected = Ok(verdict(&chart, &monitor));
+        assert_eq!(judge(&chart, &log), expected, "{bytes:02X?} {log:02X?}");
+        judged += usize::from(matches!(log.first(), Some(3 | 4)));
+    }
+    assert!(judged > 1_000, "only {judged} raw logs without a fault");
 }

@@ -1,4 +1,4 @@
-//! The static library's functions over slices: the numbers as they come, no `unsafe` for
+//! The static libraries' functions over slices: the numbers as they come, no `unsafe` for
 //! the caller. `include/lsc.h` says what each answers, writes and leaves.
 //!
 //! The functions have no preconditions beyond valid pointers and lengths: they are proved
@@ -9,6 +9,9 @@ use crate::raw;
 
 /// The places that `lsc_judge` and `lsc_standing` want.
 pub const VERDICT_PLACES: usize = 8;
+
+/// The places that `lsc_read_record` wants.
+pub const RECORD_PLACES: usize = 6;
 
 /// The bytes that `lsc_print` wants: no text is longer.
 pub const TEXT_ROOM: usize = 223;
@@ -118,4 +121,11 @@ pub fn standing(live: &[u8], out: &mut [u64]) -> u8 {
     // SAFETY: the pointers and lengths are those of slices borrowed for the whole call,
     // `out` alone as mutable.
     unsafe { raw::lsc_standing(live.as_ptr(), live.len(), out.as_mut_ptr(), out.len()) }
+}
+
+/// `lsc_read_record`: 0 and the record at a place of a log, or that it is over; 12, 31 or 30.
+pub fn read_record(log: &[u8], place: usize, out: &mut [u64]) -> u8 {
+    // SAFETY: the pointers and lengths are those of slices borrowed for the whole call,
+    // `out` alone as mutable; `place` is a number that need not be in the log.
+    unsafe { raw::lsc_read_record(log.as_ptr(), log.len(), place, out.as_mut_ptr(), out.len()) }
 }

@@ -3,10 +3,11 @@
 //! A chart is a promise about messages between the parts of a program: whenever the prechart
 //! was seen, the main chart comes next, in its order and in time. Given messages with their
 //! times, the monitor finds how often the promise was kept, whether it is owed just now, and
-//! which record broke it. It is proved, and stands in the static libraries `liblsc.a` and
-//! `liblsc_live.a`: this crate calls them and decides nothing by itself.
+//! which record broke it. It is proved, and stands in the static libraries `liblsc.a`,
+//! `liblsc_live.a` and `liblsc_more.a`: this crate calls them and decides nothing by itself.
 //!
-//! [`judge`] takes a whole log. [`LiveMonitor`] takes one record at a time:
+//! [`judge`] takes a whole log, [`read_record`] reads one record of it. [`LiveMonitor`] takes one
+//! record at a time:
 //!
 //! ```
 //! use lsc::{Answer, LiveMonitor, Standing};
@@ -43,6 +44,15 @@
 //! late[26] = 141;
 //! let cause = lsc::judge(&chart, &late)?.cause.unwrap();
 //! assert_eq!((cause.region, cause.term), (2, 1));
+//!
+//! // The first log as a counter of 32 bits shows it that returns to 0 at tick 116: raw records,
+//! // 3 instead of 1, whose first is moment 0.
+//! let raw = [
+//!     3, 0, 1, 0, 1, 0xFF, 0xFF, 0xFF, 0xF0, //
+//!     3, 2, 3, 0, 3, 0, 0, 0, 4, //
+//!     3, 1, 0, 0, 2, 0, 0, 0, 24,
+//! ];
+//! assert_eq!(lsc::judge(&chart, &raw)?, verdict);
 //! # Ok::<(), lsc::Refusal>(())
 //! ```
 #![deny(unsafe_code)]
@@ -52,9 +62,11 @@ pub mod call;
 mod live;
 #[allow(missing_docs)]
 pub mod raw;
+mod records;
 mod values;
 
 pub use live::LiveMonitor;
+pub use records::{read_record, LogRecord, RecordRefusal, Stamp};
 pub use values::{Answer, Cause, FeedRefusal, Part, Reason, Refusal, Standing, Verdict};
 
 use call::{TEXT_ROOM, VERDICT_PLACES};

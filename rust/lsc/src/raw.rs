@@ -59,4 +59,12 @@ extern "C" {
         out: *mut u64,
         out_length: usize,
     ) -> u8;
+
+    pub fn lsc_read_record(
+        log: *const u8,
+        log_length: usize,
+        place: usize,
+        out: *mut u64,
+        out_length: usize,
+    ) -> u8;
 }

@@ -184,7 +184,7 @@ impl fmt::Display for Answer {
 pub enum Part {
     /// The chart's bytes, numbers 1 to 11.
     Chart,
-    /// The log's bytes, numbers 22, 23, 30, 31.
+    /// The log's bytes, numbers 22, 23, 24, 30, 31, 32.
     Log,
 }
 

@@ -1,6 +1,7 @@
 //! The safe wrapper on the examples of the rules (X).
 
 use lsc::{Answer, Cause, FeedRefusal, LiveMonitor, Part, Reason, Refusal, Standing};
+use lsc::{LogRecord, RecordRefusal, Stamp};
 use lsc_reference::examples::{CHART_U, OVER_CHART_U};
 use lsc_reference::log::write_log;
 use lsc_reference::print::input_of;
@@ -170,4 +171,94 @@ fn bytes_that_hold_no_monitor() {
     let mut monitor = LiveMonitor::from_bytes(full).unwrap();
     assert_eq!(monitor.feed_time(0), Err(FeedRefusal::Full));
     assert_eq!(monitor.standing().records, 1_000_000);
+}
+
+/// Undo 16 ticks before the counter returns to 0, references 16 ticks and headings so many behind
+/// it, all with raw stamps.
+fn across_the_wrap(headings: u8) -> [u8; 27] {
+    [
+        3, 0, 1, 0, 1, 0xFF, 0xFF, 0xFF, 0xF0, //
+        3, 2, 3, 0, 3, 0, 0, 0, 0, //
+        3, 1, 0, 0, 2, 0, 0, 0, headings,
+    ]
+}
+
+#[test]
+fn raw_logs_over_chart_u() {
+    let said = |log: &[u8]| match lsc::judge(&CHART_U, log) {
+        Ok(verdict) => verdict.to_string(),
+        Err(refusal) => refusal.to_string(),
+    };
+    // Clock 0 is 40 at 24 behind the wrap, 41 at 25.
+    assert_eq!(said(&across_the_wrap(24)), "0 1 0 3 0 0 0 0");
+    assert_eq!(said(&across_the_wrap(25)), "3 0 0 3 3 2 2 1");
+    // Moments 0, 2^31 - 1, 2^32 - 2 and 2^32 - 1; the next would be 2^32.
+    let far = [
+        4, 0, 0, 0, 9, 4, 0x80, 0, 0, 8, 4, 0, 0, 0, 7, 4, 0, 0, 0, 8,
+    ];
+    assert_eq!(said(&far), "0 0 0 4 0 0 0 0");
+    let after = |record: &[u8]| said(&[&far, record].concat());
+    assert_eq!(after(&[4, 0, 0, 0, 9]), "refused log 24 at 20");
+    assert_eq!(after(&[4, 0x80, 0, 0, 8]), "refused log 22 at 20");
+    assert_eq!(after(&[2, 0, 0, 0, 9]), "refused log 32 at 20");
+    assert_eq!(after(&[2, 0, 0, 0]), "refused log 30 at 20");
+    assert_eq!(after(&[5, 0, 0, 0, 9]), "refused log 31 at 20");
+    let plain = [2, 0, 0, 0, 9, 4, 0, 0, 0, 9];
+    assert_eq!(said(&plain), "refused log 32 at 5");
+    let input = input_of(&CHART_U, &plain);
+    assert_eq!(lsc::print(&input), "refused log 32 at 5\n");
+}
+
+#[test]
+fn one_record_after_another() {
+    let log = [
+        1, 7, 8, 0x12, 0x34, 0, 0, 1, 0, 2, 0xFF, 0xFF, 0xFF, 0xFF, //
+        3, 200, 201, 0xFF, 0xFE, 0x80, 0, 0, 1, 4, 0, 0, 0, 5, 3, 9,
+    ];
+    let (source, destination, label, time) = (7, 8, 0x1234, 256);
+    let plain = LogRecord::Message {
+        source,
+        destination,
+        label,
+        time,
+    };
+    let raw = LogRecord::RawMessage {
+        source: 200,
+        destination: 201,
+        label: 0xFFFE,
+        stamp: Stamp(0x8000_0001),
+    };
+    let latest = LogRecord::Time { time: u32::MAX };
+    let stamp = LogRecord::RawTime { stamp: Stamp(5) };
+    assert_eq!(lsc::read_record(&log, 0), Ok(Some((plain, 9))));
+    assert_eq!(lsc::read_record(&log, 9), Ok(Some((latest, 14))));
+    assert_eq!(lsc::read_record(&log, 14), Ok(Some((raw, 23))));
+    assert_eq!(lsc::read_record(&log, 23), Ok(Some((stamp, 28))));
+    let cut = Err(RecordRefusal::CutShort);
+    assert_eq!(lsc::read_record(&log, 28), cut);
+    let unknown = Err(RecordRefusal::UnknownByte);
+    assert_eq!(lsc::read_record(&log, 29), unknown);
+    for place in [30, 31, usize::MAX] {
+        assert_eq!(lsc::read_record(&log, place), Ok(None));
+    }
+    assert_eq!(lsc::read_record(&[], 0), Ok(None));
+    let text = RecordRefusal::CutShort.to_string();
+    assert_eq!(text, "refused 30: the record is cut short");
+}
+
+#[test]
+fn a_record_in_places_of_the_caller() {
+    let log = [4, 0, 0, 0, 5];
+    for room in 0..6 {
+        let mut out = vec![7; room];
+        assert_eq!(lsc::call::read_record(&log, 0, &mut out), 12);
+        assert_eq!(out, vec![7; room]);
+    }
+    let mut out = [7; 8];
+    assert_eq!(lsc::call::read_record(&log, 0, &mut out), 0);
+    assert_eq!(out, [4, 0, 0, 0, 5, 5, 7, 7]);
+    assert_eq!(lsc::call::read_record(&log, usize::MAX, &mut out), 0);
+    assert_eq!(out, [0, 0, 0, 0, 0, u64::MAX, 7, 7]);
+    assert_eq!(lsc::call::read_record(&log, 1, &mut out), 31);
+    assert_eq!(out, [0, 0, 0, 0, 0, u64::MAX, 7, 7]);
 }

@@ -2,9 +2,9 @@
 //! it shares no code with the crates.
 //!
 //! `command` and `reader` read charts (B, R), `well_formed` has refusal 20 (M4), `monitor`
-//! takes records (O, M, T), `log` reads and judges logs (E, J), `print` makes the printed text
-//! (P). `declarative` decides the same by trying every row (W). `examples` has chart U and logs
-//! over it (X).
+//! takes records (O, M, T), `record` has those of a log, plain and raw (L), `log` reads and judges
+//! logs (E, J), `print` makes the printed text (P). `declarative` decides the same by trying every
+//! row (W). `examples` has chart U and logs over it (X).
 #![forbid(unsafe_code)]
 
 pub mod command;
@@ -14,5 +14,6 @@ pub mod log;
 pub mod monitor;
 pub mod print;
 pub mod reader;
+pub mod record;
 pub mod value;
 pub mod well_formed;

@@ -1,8 +1,12 @@
 //! Reading one record, and judging a whole log.
 
 use crate::monitor::{feed_fit, in_prechart, Order};
+use crate::record::LogRecord;
 use crate::value::*;
 use crate::well_formed::is_given;
+
+/// From this difference to the stamp before on, a raw record is refused with 22: its time falls.
+const HALF_RANGE: u64 = 1 << 31;
 
 /// What reading one record says (E2 to E4). With a record comes the offset just after it; in
 /// the other cases the offset stays.
@@ -10,7 +14,7 @@ use crate::well_formed::is_given;
 pub enum Next {
     End,
     Refused(u8),
-    Taken(RecordValue, usize),
+    Taken(LogRecord, usize),
 }
 
 /// A verdict (J6).
@@ -57,44 +61,69 @@ pub fn read_record(bytes: &[u8], offset: usize) -> Next {
     }
     let rest = &bytes[offset..];
     let length = match rest[0] {
-        1 => 9,
-        2 => 5,
+        1 | 3 => 9,
+        2 | 4 => 5,
         _ => return Next::Refused(31),
     };
     if rest.len() < length {
         return Next::Refused(30);
     }
-    match RecordValue::from_bytes(&rest[..length]) {
+    match LogRecord::from_bytes(&rest[..length]) {
         Some(record) => Next::Taken(record, offset + length),
         None => Next::Refused(31),
     }
 }
 
-/// The log's records, or its first fault (J2, J3).
+/// The log's records at their moments, or its first fault (J2, J3).
 pub fn read_log(bytes: &[u8]) -> Result<Vec<RecordValue>, (u8, usize)> {
-    let mut records: Vec<RecordValue> = Vec::new();
+    let mut records = Vec::new();
+    let mut before = None;
     let mut offset = 0;
     loop {
         match read_record(bytes, offset) {
             Next::End => return Ok(records),
             Next::Refused(code) => return Err((code, offset)),
             Next::Taken(record, after) => {
-                if let Some(last) = records.last() {
-                    if record.time() < last.time() {
-                        return Err((22, offset));
-                    }
-                }
+                let timed = timed(before, &record).map_err(|code| (code, offset))?;
                 if records.len() == MAX_RECORDS as usize {
                     return Err((23, offset));
                 }
-                records.push(record);
+                records.push(timed);
+                before = Some((record, timed.time()));
                 offset = after;
             }
         }
     }
 }
 
-/// The records as a log's bytes.
+/// A record at its moment, after the one before it and that one's moment; or refusal 32, 22 or 24,
+/// in this order. A plain record is at its time. The first raw record is at moment 0, each later
+/// one so many ticks behind the record before as their stamps differ, taken round the wrap.
+fn timed(before: Option<(LogRecord, u32)>, record: &LogRecord) -> Result<RecordValue, u8> {
+    match (before, record) {
+        (None, LogRecord::Plain(record)) => Ok(*record),
+        (None, LogRecord::Raw(record)) => Ok(record.at(0)),
+        (Some((LogRecord::Plain(_), last)), LogRecord::Plain(record)) => {
+            if record.time() < last {
+                return Err(22);
+            }
+            Ok(*record)
+        }
+        (Some((LogRecord::Raw(last), moment)), LogRecord::Raw(record)) => {
+            let gap = record.stamp.since(last.stamp);
+            if gap >= HALF_RANGE {
+                return Err(22);
+            }
+            match u32::try_from(u64::from(moment) + gap) {
+                Ok(moment) => Ok(record.at(moment)),
+                Err(_) => Err(24),
+            }
+        }
+        _ => Err(32),
+    }
+}
+
+/// The records as a plain log's bytes.
 pub fn write_log(records: &[RecordValue]) -> Vec<u8> {
     records.iter().flat_map(RecordValue::to_bytes).collect()
 }

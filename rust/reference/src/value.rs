@@ -1,5 +1,7 @@
 //! Charts, monitors, records and answers as plain values.
 
+use crate::record::LogRecord;
+
 /// C1.
 pub const MAX_LINES: u8 = 16;
 /// C3.
@@ -105,7 +107,7 @@ pub struct MonitorValue {
     pub cause: Cause,
 }
 
-/// A log's record.
+/// A record as feeding takes it: its time is a moment (C15).
 #[derive(Clone, Copy, Debug, PartialEq, Eq)]
 pub enum RecordValue {
     Message { message: Message, time: u32 },
@@ -309,6 +311,14 @@ impl MonitorValue {
 }
 
 impl RecordValue {
+    /// The message at a time, or time alone.
+    pub fn of(message: Option<Message>, time: u32) -> RecordValue {
+        match message {
+            Some(message) => message.at(time),
+            None => RecordValue::Time(time),
+        }
+    }
+
     /// The record's time.
     pub fn time(&self) -> u32 {
         match *self {
@@ -327,35 +337,19 @@ impl RecordValue {
 
     /// The record at another time.
     pub fn with_time(self, time: u32) -> RecordValue {
-        match self {
-            RecordValue::Message { message, .. } => message.at(time),
-            RecordValue::Time(_) => RecordValue::Time(time),
-        }
+        RecordValue::of(self.message(), time)
     }
 
-    /// The bytes of L1 and L2.
+    /// The bytes of a plain record (L1, L2).
     pub fn to_bytes(&self) -> Vec<u8> {
-        let mut bytes = Vec::new();
-        match *self {
-            RecordValue::Message { message, .. } => {
-                bytes.push(1);
-                bytes.extend(message.to_bytes());
-            }
-            RecordValue::Time(_) => bytes.push(2),
-        }
-        bytes.extend(self.time().to_be_bytes());
-        bytes
+        LogRecord::Plain(*self).to_bytes()
     }
 
-    /// The record of such bytes; none if the length or the record byte is wrong.
+    /// The record of such bytes; none of any others, a raw record's too.
     pub fn from_bytes(bytes: &[u8]) -> Option<RecordValue> {
-        match *bytes {
-            [1, m0, m1, m2, m3, t0, t1, t2, t3] => {
-                let message = Message::from_bytes([m0, m1, m2, m3]);
-                Some(message.at(u32::from_be_bytes([t0, t1, t2, t3])))
-            }
-            [2, t0, t1, t2, t3] => Some(RecordValue::Time(u32::from_be_bytes([t0, t1, t2, t3]))),
-            _ => None,
+        match LogRecord::from_bytes(bytes)? {
+            LogRecord::Plain(record) => Some(record),
+            LogRecord::Raw(_) => None,
         }
     }
 }

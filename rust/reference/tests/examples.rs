@@ -5,6 +5,7 @@ use lsc_reference::examples::{headings, message, references, undo, CHART_U, OVER
 use lsc_reference::log::{judge, read_record, write_log, Next, Verdict};
 use lsc_reference::print::{input_of, respond, HEADER};
 use lsc_reference::reader::read_chart;
+use lsc_reference::record::LogRecord;
 use lsc_reference::value::*;
 use lsc_reference::{monitor, well_formed};
 
@@ -310,11 +311,9 @@ fn a_break_keeps_what_stood_before() {
 fn reading_one_record_at_every_place() {
     let mut log = write_log(&[undo(100), RecordValue::Time(101)]);
     log.extend([1, 0, 0]);
-    assert_eq!(read_record(&log, 0), Next::Taken(undo(100), 9));
-    assert_eq!(
-        read_record(&log, 9),
-        Next::Taken(RecordValue::Time(101), 14)
-    );
+    let plain = |record, after| Next::Taken(LogRecord::Plain(record), after);
+    assert_eq!(read_record(&log, 0), plain(undo(100), 9));
+    assert_eq!(read_record(&log, 9), plain(RecordValue::Time(101), 14));
     assert_eq!(read_record(&log, 14), Next::Refused(30));
     assert_eq!(read_record(&log, 16), Next::Refused(31));
     for place in [17, 18, usize::MAX] {

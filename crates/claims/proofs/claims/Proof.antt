@@ -6,10 +6,11 @@ use Rattle.chart_value.specs.View.{regionOf}
 use Rattle.chart_value.proofs.Shown.{shown, codes-tell}
 use Rattle.chart_value.proofs.Guards.{never-fire}
 use Rattle.monitor.proofs.History.{view-tells}
+use Rattle.log_clock.proofs.Times.{true-times}
 use Rattle.claims.proofs.Answers.{answers-tell}
 use Rattle.claims.proofs.Examples.{examples-said}
 use Rattle.claims.proofs.Watching.{demands-read, judged-walk}
-use Rattle.claims.proofs.Logs.{walk-records}
+use Rattle.claims.proofs.Logs.{walk-records, true-walk}
 use Rattle.chart_faults.proofs.Reading.{faults}
 use Rattle.claims.proofs.claims.Statement.{statement}
 use Rattle.claims.proofs.claims.Tie as tie
@@ -27,6 +28,8 @@ returns c =
       demands = demands-read;
       judged = judged-walk;
       walked = walk-records;
+      true-times = true-times;
+      true-walk = true-walk;
       views = λ m. record {
         fired = λ i. refl;
         clocks = λ k. refl;

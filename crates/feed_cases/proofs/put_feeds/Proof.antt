@@ -4,10 +4,10 @@ use Rattle.feed_cases.proofs.put_feeds.Statement.{statement}
 use Rattle.feed_cases.proofs.put_feeds.Tie as tie
 
 abbrev Inv-loop : tie.InvT-loop
-Inv-loop chart log c m₀ at₀ left₀ m at left = Unit {0}
+Inv-loop chart log c m₀ at₀ kind₀ last₀ left₀ m at kind last left = Unit {0}
 
 abbrev μ-loop : tie.MeasureT-loop
-μ-loop chart log c m₀ at₀ left₀ m at left = left
+μ-loop chart log c m₀ at₀ kind₀ last₀ left₀ m at kind last left = left
 
 read-requires : tie.Need-read-requires Inv-loop μ-loop
 read-requires c κs = search needs
@@ -18,11 +18,11 @@ new-requires c κs = search needs
 loop-holds : tie.Need-loop-holds Inv-loop μ-loop
 loop-holds c = tt
 
-read-record-requires : tie.Need-read-record-requires Inv-loop μ-loop
-read-record-requires c κs = search needs
+record-at-requires : tie.Need-record-at-requires Inv-loop μ-loop
+record-at-requires c κs = search needs
 
-enum-known-next : tie.Need-enum-known-next Inv-loop μ-loop
-enum-known-next c = search needs
+enum-known-dated : tie.Need-enum-known-dated Inv-loop μ-loop
+enum-known-dated c = search needs
 
 returns : tie.Need-returns Inv-loop μ-loop
 returns c = search needs
@@ -32,6 +32,9 @@ feed-requires c κs = search needs
 
 put-step-requires : tie.Need-put-step-requires Inv-loop μ-loop
 put-step-requires c κs = search needs
+
+time-of-requires : tie.Need-time-of-requires Inv-loop μ-loop
+time-of-requires c κs = search needs
 
 sub-left : tie.Need-sub-left Inv-loop μ-loop
 sub-left c = search needs
@@ -54,11 +57,12 @@ put-feeds-spec =
     read-requires
     new-requires
     loop-holds
-    read-record-requires
-    enum-known-next
+    record-at-requires
+    enum-known-dated
     returns
     feed-requires
     put-step-requires
+    time-of-requires
     sub-left
     loop-less
     loop-again

@@ -5,6 +5,7 @@ mod keys;
 mod log;
 mod masks;
 mod plan;
+mod stamped;
 mod state;
 mod steps;
 mod term;
@@ -19,7 +20,7 @@ pub use log::scan;
 pub use plan::Plan;
 pub use state::State;
 
-/// Judging a whole log over a chart value.
+/// Judging a whole log over a chart value, plain or raw.
 pub fn judge(chart: &ChartValue, log: &[u8]) -> Result<Verdict, (u8, usize)> {
     Plan::of(chart).ok_or((20, 0))?.judge(log)
 }

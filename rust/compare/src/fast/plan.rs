@@ -1,7 +1,7 @@
 //! A chart compiled for many records.
 
 use super::keys::{key_of, Keys};
-use super::log::check_log;
+use super::log::{check_log, is_raw};
 use super::masks::Masks;
 use super::state::{Moments, State};
 use super::steps::{first_failing, take, Regions};
@@ -12,13 +12,13 @@ use lsc_reference::value::*;
 /// A compiled chart.
 #[derive(Clone, Debug)]
 pub struct Plan {
-    masks: Masks,
+    pub(super) masks: Masks,
     hot: u32,
     resets: [u8; MAX_REGIONS],
     woken: [u32; MAX_REGIONS],
     first_term: [u8; MAX_REGIONS + 1],
     terms: [PackedTerm; MAX_REGIONS * MAX_TERMS],
-    keys: Keys,
+    pub(super) keys: Keys,
 }
 
 impl Regions for Plan {
@@ -134,8 +134,18 @@ impl Plan {
         ready
     }
 
-    /// Judging with this chart: the whole log is checked, then fed until it ends or breaks.
+    /// Judging with this chart. Each kind of log has a loop of its own, chosen by its first byte.
     pub fn judge(&self, log: &[u8]) -> Result<Verdict, (u8, usize)> {
+        if is_raw(log) {
+            self.judge_raw(log)
+        } else {
+            self.judge_plain(log)
+        }
+    }
+
+    /// Judging a plain log: all of it is checked, then fed until it ends or breaks.
+    #[inline(never)]
+    fn judge_plain(&self, log: &[u8]) -> Result<Verdict, (u8, usize)> {
         check_log(log)?;
         let mut state = State::FRESH;
         let mut rest = log;
@@ -157,13 +167,18 @@ impl Plan {
                 break;
             }
         }
-        Ok(Verdict {
-            standing: self.standing(&state),
+        Ok(self.verdict(&state))
+    }
+
+    /// The verdict on a log that leads to this state.
+    pub(super) fn verdict(&self, state: &State) -> Verdict {
+        Verdict {
+            standing: self.standing(state),
             kept: state.kept,
             dropped: state.dropped,
             records: state.records,
             broken: state.broken,
-        })
+        }
     }
 
     fn standing(&self, state: &State) -> u8 {

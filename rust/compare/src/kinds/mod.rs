@@ -3,6 +3,7 @@
 mod bytes;
 mod live;
 mod printing;
+mod reading;
 mod rows;
 mod values;
 mod whole;
@@ -14,9 +15,10 @@ use lsc_reference::value::Answer;
 
 pub use bytes::compare as compare_bytes;
 pub use live::feed_live;
-pub use printing::compare as compare_print;
+pub use printing::{compare as compare_print, NAME as PRINT};
+pub use reading::{NAME as READ, READS};
 pub use values::{compare as compare_values, feed_images};
-pub use whole::compare as compare_judge;
+pub use whole::{compare as compare_judge, NAME as JUDGE};
 
 /// Makes an input's two parts.
 pub type Make = fn(&mut Rng) -> (Vec<u8>, Vec<u8>);
@@ -37,14 +39,21 @@ pub struct Kind {
 
 /// All kinds.
 #[rustfmt::skip]
-pub static KINDS: [Kind; 6] = [
+pub static KINDS: [Kind; 7] = [
     kind(whole::NAME, 34, ["chart", "log"], whole::make, whole::compare),
     kind(printing::NAME, 14, ["nothing", "input"], printing::make, printing::compare),
     kind(values::NAME, 30, ["chart image", "monitor and record"], values::make, values::compare),
     kind(live::NAME, 9, ["chart", "records"], live::make, live::compare),
     kind(bytes::NAME, 10, ["live bytes", "record"], bytes::make, bytes::compare),
     kind(rows::NAME, 3, ["chart", "records"], rows::make, rows::compare),
+    kind(reading::NAME, 4, ["log", "place"], reading::make, reading::compare),
 ];
+
+/// The names of those in which a monitor takes records.
+pub fn taking() -> Vec<&'static str> {
+    let names = KINDS.iter().map(|kind| kind.name);
+    names.filter(|name| *name != READ).collect()
+}
 
 const fn kind(
     name: &'static str,

@@ -5,7 +5,7 @@ use crate::difference::{same, Both, Hex};
 use crate::random::{hostile_input, Rng};
 use crate::seen::Seen;
 use lsc::call;
-use lsc_reference::log::read_log;
+use lsc_reference::log::{judge, read_log};
 use lsc_reference::print::{parts, respond};
 use lsc_reference::reader::read_chart;
 
@@ -34,8 +34,11 @@ pub fn compare(_: &[u8], input: &[u8], seen: &mut Seen) -> Result<(), Both> {
     }
     seen.coverage.printed(&text);
     if let Ok((chart, log)) = parts(input) {
-        if let (Ok(chart), Ok(records)) = (read_chart(chart), read_log(log)) {
-            seen.coverage.taken(NAME, &chart, &records);
+        if let Ok(chart) = read_chart(chart) {
+            seen.coverage.judged(NAME, log, &judge(&chart, log));
+            if let Ok(records) = read_log(log) {
+                seen.coverage.taken(NAME, &chart, &records);
+            }
         }
     }
     for room in [0, 55, ROOM - 1] {

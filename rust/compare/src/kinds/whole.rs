@@ -6,7 +6,7 @@ use crate::random::{self, Rng, Size};
 use crate::seen::Seen;
 use crate::testing;
 use lsc::{call, Part};
-use lsc_reference::log;
+use lsc_reference::log::{self, Verdict};
 use lsc_reference::reader::read_chart;
 use lsc_reference::value::{ChartValue, MAX_RECORDS};
 
@@ -30,27 +30,28 @@ fn some_log(rng: &mut Rng, chart: &ChartValue, size: Size) -> Vec<u8> {
         return random::hostile_log_bytes(rng, chart);
     }
     let count = rng.below(if size == Size::Large { 120 } else { 40 });
-    log::write_log(&random::records(rng, chart, count))
+    random::log_bytes(rng, chart, count)
 }
 
-/// The number and the eight places that the reference gives.
-pub fn expected(chart: &[u8], bytes: &[u8]) -> (u8, [u64; PLACES]) {
-    let (part, result) = match read_chart(chart) {
-        Err(fault) => (1, Err(fault)),
-        Ok(chart) => (2, log::judge(&chart, bytes)),
+/// A refusal's number and its offset.
+type Fault = (u8, usize);
+
+/// The number and the eight places of what the reference says: of the chart, and of the log.
+fn expected(judged: &Result<Result<Verdict, Fault>, Fault>) -> (u8, [u64; PLACES]) {
+    let (part, number, offset) = match *judged {
+        Err((number, offset)) => (1, number, offset),
+        Ok(Err((number, offset))) => (2, number, offset),
+        Ok(Ok(verdict)) => return (0, verdict.numbers().map(u64::from)),
     };
-    match result {
-        Err((number, offset)) => {
-            let mut places = [0; PLACES];
-            places[..3].copy_from_slice(&[part, number.into(), offset as u64]);
-            (number, places)
-        }
-        Ok(verdict) => (0, verdict.numbers().map(u64::from)),
-    }
+    let mut places = [0; PLACES];
+    places[..3].copy_from_slice(&[part, number.into(), offset as u64]);
+    (number, places)
 }
 
 pub fn compare(chart: &[u8], log: &[u8], seen: &mut Seen) -> Result<(), Both> {
-    let (number, numbers) = expected(chart, log);
+    let value = read_chart(chart);
+    let judged = value.map(|value| log::judge(&value, log));
+    let (number, numbers) = expected(&judged);
     let mut after = filled_places(PLACES + BEYOND);
     after[..PLACES].copy_from_slice(&numbers);
     let mut out = filled_places(PLACES + BEYOND);
@@ -61,9 +62,12 @@ pub fn compare(chart: &[u8], log: &[u8], seen: &mut Seen) -> Result<(), Both> {
         .as_ref()
         .map_or(MAX_RECORDS + 1, |records| records.len() as u32);
     same("records checked", testing::check(log), checked)?;
+    if let Ok(judged) = judged {
+        seen.coverage.judged(NAME, log, &judged);
+    }
     if number != 0 {
         seen.coverage.refusal(number);
-    } else if let (Ok(value), Ok(records)) = (read_chart(chart), records) {
+    } else if let (Ok(value), Ok(records)) = (value, records) {
         seen.coverage.standing(numbers[0] as u8);
         seen.coverage.taken(NAME, &value, &records);
     }

@@ -3,11 +3,13 @@
 use super::charts::{
     chart, chart_bytes, message_command, plain_command, some_set, some_size, term_command,
 };
-use super::logs::{feeds, records};
+use super::logs::feeds;
 use super::pieces::{commands, log_pieces};
+use super::stamps::{log_bytes, raw_log_bytes};
 use super::Rng;
 use lsc_reference::log::write_log;
 use lsc_reference::print::input_of;
+use lsc_reference::record::{LogRecord, RawRecord, Stamp};
 use lsc_reference::value::*;
 
 /// A random command, its operands mostly within the heading's range.
@@ -95,8 +97,8 @@ pub fn damage(rng: &mut Rng, bytes: &mut Vec<u8>) {
         2 if length > 0 => {
             let place = rng.below(length);
             bytes[place] = rng.pick(&[
-                0, 1, 2, 3, 8, 9, 16, 17, 0x10, 0x20, 0x21, 0x30, 0x31, 0x32, 0x40, 0x50, 0x7F,
-                0xFF,
+                0, 1, 2, 3, 4, 5, 8, 9, 16, 17, 0x10, 0x20, 0x21, 0x30, 0x31, 0x32, 0x40, 0x50,
+                0x7F, 0xFF,
             ]);
         }
         3 => bytes.truncate(from),
@@ -112,7 +114,7 @@ pub fn damage(rng: &mut Rng, bytes: &mut Vec<u8>) {
             let (a, b) = (rng.below(length), rng.below(length));
             bytes.swap(a, b);
         }
-        _ => bytes.push(rng.pick(&[0, 1, 2, 0x32, 0x50, 0x7F, 0xFF])),
+        _ => bytes.push(rng.pick(&[0, 1, 2, 3, 4, 0x32, 0x50, 0x7F, 0xFF])),
     }
 }
 
@@ -175,13 +177,12 @@ pub fn hostile_chart_bytes(rng: &mut Rng) -> Vec<u8> {
 /// Log bytes of every kind, well-formed or not.
 pub fn hostile_log_bytes(rng: &mut Rng, chart: &ChartValue) -> Vec<u8> {
     let count = rng.below(20);
-    let list = records(rng, chart, count);
-    let mut bytes = write_log(&list);
-    match rng.below(4) {
+    let mut bytes = log_bytes(rng, chart, count);
+    match rng.below(5) {
         0 => {}
         1 => {
             let mut parts = log_pieces(&bytes);
-            let others = parts.clone();
+            let others = log_pieces(&log_bytes(rng, chart, 3));
             for _ in 0..1 + rng.below(2) {
                 splice(rng, &mut parts, &others);
             }
@@ -192,7 +193,8 @@ pub fn hostile_log_bytes(rng: &mut Rng, chart: &ChartValue) -> Vec<u8> {
                 damage(rng, &mut bytes);
             }
         }
-        _ => bytes = write_log(&feeds(rng, chart, count)),
+        3 => bytes = write_log(&feeds(rng, chart, count)),
+        _ => bytes = raw_log_bytes(rng, chart, count),
     }
     bytes
 }
@@ -215,8 +217,14 @@ pub fn hostile_input(rng: &mut Rng) -> Vec<u8> {
             // About the longest input: 65,536 bytes are taken, one more is not.
             let mut input = input_of(&chart_bytes, &[]);
             let total = 65_530 + rng.below(10);
-            while input.len() + 5 <= total {
-                input.extend(RecordValue::Time(7).to_bytes());
+            let raw = RawRecord {
+                message: None,
+                stamp: Stamp(7),
+            };
+            let plain = LogRecord::Plain(RecordValue::Time(7));
+            let record = rng.pick(&[plain, LogRecord::Raw(raw)]).to_bytes();
+            while input.len() + record.len() <= total {
+                input.extend(&record);
             }
             if rng.chance(50) {
                 input.resize(total, 2);

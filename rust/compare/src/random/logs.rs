@@ -168,6 +168,17 @@ fn next_record(
 
 /// Random records over a chart, their times never falling.
 pub fn records(rng: &mut Rng, chart: &ChartValue, count: usize) -> Vec<RecordValue> {
+    let start = start(rng);
+    records_from(rng, chart, count, start)
+}
+
+/// The same, from a time on.
+pub(super) fn records_from(
+    rng: &mut Rng,
+    chart: &ChartValue,
+    count: usize,
+    start: u32,
+) -> Vec<RecordValue> {
     let plan = Plan::of(chart);
     let mut state = State::FRESH;
     let mut records = Vec::new();
@@ -176,7 +187,7 @@ pub fn records(rng: &mut Rng, chart: &ChartValue, count: usize) -> Vec<RecordVal
         again: rng.pick(&[0, 0, 5, 20, 50]),
         wild: rng.chance(10),
     };
-    let mut now = start(rng);
+    let mut now = start;
     for _ in 0..count {
         let record = next_record(rng, chart, plan.as_ref(), &state, now, &habits);
         now = record.time();

@@ -6,6 +6,7 @@ mod logs;
 mod pieces;
 mod rng;
 mod shrink;
+mod stamps;
 mod values;
 
 pub use charts::{chart, some_size, Size};
@@ -14,4 +15,5 @@ pub use logs::{feeds, records};
 pub use pieces::{commands, log_pieces};
 pub use rng::Rng;
 pub use shrink::shrink;
+pub use stamps::log_bytes;
 pub use values::{chart_value, monitor_value, record_value};

@@ -12,8 +12,8 @@ pub fn commands(bytes: &[u8]) -> Vec<Vec<u8>> {
 /// A log's bytes cut into records; bytes that are none stand alone.
 pub fn log_pieces(bytes: &[u8]) -> Vec<Vec<u8>> {
     pieces(bytes, |first| match first {
-        1 => Some(9),
-        2 => Some(5),
+        1 | 3 => Some(9),
+        2 | 4 => Some(5),
         _ => None,
     })
 }

@@ -67,8 +67,8 @@ fn lower_bytes(bytes: &mut [u8], fails: &mut dyn FnMut(&[u8]) -> bool) {
 #[cfg(test)]
 mod tests {
     use super::*;
-    use crate::random::{chart, records, Rng, Size};
-    use lsc_reference::log::{judge, write_log};
+    use crate::random::{chart, log_bytes, Rng, Size};
+    use lsc_reference::log::judge;
     use lsc_reference::reader::read_chart;
     use lsc_reference::value::Reason;
 
@@ -87,7 +87,7 @@ mod tests {
         let mut found = 0;
         while found < 20 {
             let (bytes, value) = chart(&mut rng, Size::Small);
-            let log = write_log(&records(&mut rng, &value, 20));
+            let log = log_bytes(&mut rng, &value, 20);
             if !fails(&bytes, &log) {
                 continue;
             }

@@ -30,6 +30,7 @@ fn explain(subjects: &[Subject]) {
         "
 What the rows are:
 - judging: from the chart's bytes and the log's bytes to the verdict; both sides read the chart.
+- judging, raw stamps: the same records with raw stamps, which return to 0 on the way.
 - judging, broken early: the chart breaks within the first records; all {LONG} are checked, the \
 rest are not taken.
 - checking, beside the scan: the log checked (record bytes, lengths, times, count), no record taken.

@@ -31,6 +31,7 @@ pub fn judging(subject: &Subject) {
     let chart = &subject.chart;
     for (what, log) in [
         ("judging", &subject.log),
+        ("judging, raw stamps", &subject.raw),
         ("judging, broken early", &subject.broken),
     ] {
         let times = interleaved(

@@ -16,12 +16,14 @@ pub const LONG: usize = 1_000_000;
 /// Records of the lists fed one by one.
 pub const FED: usize = 20_000;
 
-/// A chart with a long log that keeps its rounds, and one that breaks early.
+/// A chart with a long log that keeps its rounds, the same with raw stamps, and one that breaks
+/// early.
 pub struct Subject {
     pub name: &'static str,
     pub chart: Vec<u8>,
     pub value: ChartValue,
     pub log: Vec<u8>,
+    pub raw: Vec<u8>,
     pub broken: Vec<u8>,
     pub records: Vec<RecordValue>,
 }
@@ -30,6 +32,7 @@ impl Subject {
     pub fn of(name: &'static str, chart: Vec<u8>) -> Subject {
         let value = read_chart(&chart).expect("the chart is read");
         let log = charts::keeping_log(&value, LONG, 1);
+        let raw = charts::raw_log(&log, u32::MAX - LONG as u32);
         let broken = charts::breaking_log(&value, &log);
         let records = read_log(&log).expect("the log has no fault");
         Subject {
@@ -37,6 +40,7 @@ impl Subject {
             chart,
             value,
             log,
+            raw,
             broken,
             records,
         }

@@ -1,6 +1,6 @@
 use borrow.Author.Needs.{needs}
-use Rattle.log_reader.proofs.message_at.Statement.{statement}
-use Rattle.log_reader.proofs.message_at.Tie as tie
+use Rattle.log_reader.proofs.parts_at.Statement.{statement}
+use Rattle.log_reader.proofs.parts_at.Tie as tie
 
 add-byte-at : tie.Need-add-byte-at
 add-byte-at c = search needs
@@ -20,23 +20,16 @@ add-word16-at c = search needs
 word16-at-requires : tie.Need-word16-at-requires
 word16-at-requires c κs = search needs
 
-add-word32-at : tie.Need-add-word32-at
-add-word32-at c = search needs
-
-word32-at-requires : tie.Need-word32-at-requires
-word32-at-requires c κs = search needs
-
 returns : tie.Need-returns
 returns c =
     rw (
-      c .word32-at .ensures .0,
-      c .before .word16-at .ensures .0,
-      c .before .before .byte-at2 .ensures .0,
-      c .before .before .before .byte-at .ensures .0,
+      c .word16-at .ensures .0,
+      c .before .byte-at2 .ensures .0,
+      c .before .before .byte-at .ensures .0,
     )
 
-pub message-at-spec : {M : Type 1} → statement M
-message-at-spec =
+pub parts-at-spec : {M : Type 1} → statement M
+parts-at-spec =
     tie.close
     (tie.spec
     add-byte-at
@@ -45,6 +38,4 @@ message-at-spec =
     byte-at-requires-2
     add-word16-at
     word16-at-requires
-    add-word32-at
-    word32-at-requires
     returns)

@@ -1,0 +1,4 @@
+pub mod Clock
+pub mod Dated
+pub mod Records
+pub mod TrueTimes
