@@ -45,9 +45,9 @@ use Rattle.log_clock.specs.declared.Dated.the-variants as dated
 use Rattle.log_clock.specs.Clock.{range, halfRange, momentRefusalNumber, gapOf, laterMoment}
 use Rattle.log_clock.specs.Dated.{rawBy, datedBy, datedAt}
 use Rattle.log_clock.specs.Records.{recordsFrom, recordsIn}
-use Rattle.log_clock.specs.TrueTimes.{shownAt}
+use Rattle.log_clock.specs.TrueTimes.{shownAt, Passing, begins, goes-on}
 use Rattle.log_clock.proofs.Records.{dated-next, dated-past, one-record}
-use Rattle.log_clock.proofs.Times.{time-at, gap-leads, gap-below, gap-only, later-at}
+use Rattle.log_clock.proofs.Times.{time-at, gap-leads, gap-below, gap-only, later-at, not-before}
 use Rattle.judge.specs.declared.LogRefusal.{LogRefusal}
 use Rattle.judge.specs.declared.LogRefusal.the-variants.{NoRecord, NoMoment, TooManyRecords}
 use Rattle.judge.specs.declared.Checked.{Checked}
@@ -63,7 +63,7 @@ use Rattle.claims.specs.Demand1.{Just, FindsAs, ends, unknown, message-c
 use Rattle.claims.specs.Demand1.{raw-time-cut, message, time, raw-message, raw-time}
 use Rattle.claims.specs.Demand1.{ComesAs, first-plain, plain, first-raw, raw, Walk, start, step}
 use Rattle.claims.specs.Demand1.{FaultAt, no-record, raw-in-plain, plain-in-raw, falls, goes-back, too-late, overflows}
-use Rattle.claims.specs.Demand1.{TrueWalk, begins, goes-on, JudgesAs, not-given, refuses, judges}
+use Rattle.claims.specs.Demand1.{Stamped, none-stamped, one-stamped, JudgesAs, not-given, refuses, judges}
 use Rattle.claims.proofs.Demand1.{given-not}
 
 -- one record at an offset
@@ -521,28 +521,27 @@ module _ (c : Chart) (G : (wellFormed c ≡ true) ↔ Given c) (s : List ℕ) wh
 
 -- raw records with true times are walked
 module _ (s : List ℕ) (first : ℕ) where
-  not-before : {es : Snoc Record} {at t : ℕ} → TrueWalk s first es at t → first ≤ t
-  not-before (begins e p F q) = omega arith
-  not-before (goes-on T e p F u q l h r n) = omega (arith, not-before T)
+  true-ticks : (t u : ℕ) → t ≤ u → (t % range + (u - t)) % range ≡ u % range % range
+  true-ticks t u l = omega arith
 
-  pub true-walk : {es : Snoc Record} {at t : ℕ} → TrueWalk s first es at t → Walk s es (Raw (shownAt t)) at (t - first)
-  true-walk (begins e p F q) =
-      let u : timeOf (atMoment e (moment 0)) .0 ≡ first - first = ap (λ (x : Moment). x .0) (time-at e (moment 0))
-      ∙ omega arith in
-      subst (λ (l : ℕ). Walk s (ε ▸ atMoment e (moment 0)) (Raw (shownAt first)) p l) u
-      (subst (λ (x : Stamp). Walk s (ε ▸ atMoment e (moment 0)) (Raw x) p (timeOf (atMoment e (moment 0)) .0)) q
-      (step start _ _ p (first-raw e p F) (omega arith)))
-  true-walk (goes-on {es} {at} {t} T e p F u q l h r n) =
-      let f = not-before T in
+  pub true-walk : {ts : Snoc ℕ} {t : ℕ} → Passing first ts t → {es : Snoc Record} {at : ℕ} → Stamped s first ts es at
+      → size es ≤ mostRecords → Walk s es (Raw (shownAt t)) at (t - first)
+  true-walk begins (one-stamped none-stamped e p F u q) n =
+      let z : 0 ≡ first - first = omega arith in
+      let W : Walk s (ε ▸ atMoment e (moment 0)) (Raw (stampOf e)) p (timeOf (atMoment e (moment 0)) .0)
+      = step start _ _ p (first-raw e p F) (omega arith) in
+      subst (λ (x : ℕ). Walk s (ε ▸ atMoment e (moment x)) (Raw (shownAt first)) p x) z
+      (subst (λ (x : Stamp). Walk s (ε ▸ atMoment e (moment 0)) (Raw x) p 0) q
+      (subst (λ (x : Moment). Walk s (ε ▸ atMoment e (moment 0)) (Raw (stampOf e)) p (x .0)) (time-at e (moment 0)) W))
+  true-walk (goes-on {t = t} P u l h r) (one-stamped {es = es} {at} S e p F v q) n =
+      let f = not-before first P in
       let g : t - first + (u - t) ≡ u - first = omega (arith, f) in
       let C : ComesAs s at (t - first) (Raw (shownAt t)) (atMoment e (moment (t - first + (u - t)))) (Raw (stampOf e)) p
-      = raw (shownAt t) e p F (u - t) (true-ticks t u l ∙ ap (λ (x : Stamp). x .0 % range) (sym q)) h (omega (arith, f, r)) in
+      = raw (shownAt t) e p F (u - t) (true-ticks t u l ∙ ap (λ (x : Stamp). x .0 % range) (sym q)) h
+      (omega (arith, f, r)) in
       let D : ComesAs s at (t - first) (Raw (shownAt t)) (atMoment e (moment (u - first))) (Raw (shownAt u)) p
       = subst (λ (x : Stamp). ComesAs s at (t - first) (Raw (shownAt t)) (atMoment e (moment (u - first))) (Raw x) p) q
       (subst (λ (x : ℕ). ComesAs s at (t - first) (Raw (shownAt t)) (atMoment e (moment x)) (Raw (stampOf e)) p) g C) in
-      subst (λ (x : ℕ). Walk s (es ▸ atMoment e (moment (u - first))) (Raw (shownAt u)) p x)
-      (ap (λ (x : Moment). x .0) (time-at e (moment (u - first))))
-      (step (true-walk T) _ _ p D n)
-    where
-      true-ticks : (t u : ℕ) → t ≤ u → (t % range + (u - t)) % range ≡ u % range % range
-      true-ticks t u l = omega arith
+      subst (λ (x : Moment). Walk s (es ▸ atMoment e (moment (u - first))) (Raw (shownAt u)) p (x .0))
+      (time-at e (moment (u - first)))
+      (step (true-walk P S (omega (arith, n))) _ _ p D (omega (arith, n)))

@@ -2,13 +2,14 @@
 use mathlib.Core.Path.{_≡_}
 use mathlib.Core.Logic.{_↔_}
 use mathlib.Core.List.{List}
-use Prim.Native.Nat.{ℕ, _-_}
+use Prim.Native.Nat.{ℕ, _-_, _≤_}
 use lib.ListN.{getD}
 use Rattle.bitset.specs.Set.{contains}
 use Rattle.model.specs.declared.Chart.{Chart}
 use Rattle.model.specs.declared.Monitor.{Monitor}
 use Rattle.model.specs.declared.Record.{Record}
 use Rattle.model.specs.declared.Answer.{Answer}
+use Rattle.model.specs.Answers.{mostRecords}
 use Rattle.condition.specs.Condition.{Tells}
 use Rattle.condition.specs.Table.{TableRule}
 use Rattle.chart_reader.specs.declared.ChartRead.{ChartRead}
@@ -19,7 +20,7 @@ use Rattle.chart_faults.specs.Claims.{Faults}
 use Rattle.chart_value.specs.Given.{Given}
 use Rattle.chart_value.specs.View.{regionOf, chartOf, Shown, CodesTell}
 use Rattle.chart_value.specs.Guards.{NeverFire}
-use Rattle.base.specs.Lists.{Snoc}
+use Rattle.base.specs.Lists.{Snoc, size}
 use Rattle.rounds.specs.Machine.{Monitor as AbstractMonitor}
 use Rattle.rounds.specs.Demand3.{Demand3, Meaning, Agrees}
 use Rattle.paper.specs.Demand2.{Demand2}
@@ -31,13 +32,13 @@ use Rattle.log_reader.specs.Record as found
 use Rattle.log_clock.specs.declared.Kind.{Kind}
 use Rattle.log_clock.specs.declared.Kind.the-variants.{Raw}
 use Rattle.log_clock.specs.Records.{recordsIn}
-use Rattle.log_clock.specs.TrueTimes.{shownAt, TrueTimes}
+use Rattle.log_clock.specs.TrueTimes.{shownAt, Passing, TrueTimes}
 use Rattle.monitor.specs.History.{Feeding, ViewTells}
 use Rattle.chart_value.specs.Records.{logged}
 use Rattle.judge.specs.declared.Judgement.{Judgement}
 use Rattle.judge.specs.Verdict as judge
 use Rattle.judge.specs.Verdict.{verdictOf}
-use Rattle.claims.specs.Demand1.{FindsAs, Walk, TrueWalk, JudgesAs, judgedLog}
+use Rattle.claims.specs.Demand1.{FindsAs, Walk, Stamped, JudgesAs, judgedLog}
 use Rattle.claims.specs.Examples.{examples, AllSaid}
 
 -- what is said of an answer fixes it: two answers of which the same is said are the same value
@@ -96,11 +97,11 @@ pub record Claims : Type 0 where
   -- and these are the records that are fed from its bytes
   pub walked : (log : List ℕ) {es : Snoc Record} {k : Kind} {at last : ℕ} → Walk log es k at last
       → FindsAs log at (found.end at) → recordsIn log ≡ es
-  -- L13: the moments of raw stamps are the true times since the first; of stamps, and of a log's raw records, which are
-  -- walked without a fault
+  -- L13: the moments of raw stamps are the true times since the first; of stamps, both ways, and of a log's raw
+  -- records, which are walked without a fault
   pub true-times : TrueTimes
-  pub true-walk : (log : List ℕ) (first : ℕ) {es : Snoc Record} {at t : ℕ} → TrueWalk log first es at t
-      → Walk log es (Raw (shownAt t)) at (t - first)
+  pub true-walk : (log : List ℕ) (first : ℕ) {ts : Snoc ℕ} {t : ℕ} → Passing first ts t → {es : Snoc Record} {at : ℕ}
+      → Stamped log first ts es at → size es ≤ mostRecords → Walk log es (Raw (shownAt t)) at (t - first)
   -- the view in which feeding's contract is stated shows every field of a monitor, and fixes the monitor; a step's
   -- answer and monitor are shown likewise
   pub views : (m : Monitor) → Views m

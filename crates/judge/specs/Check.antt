@@ -19,8 +19,8 @@ use Rattle.judge.specs.declared.Checked.the-variants.{Fine, Refused}
 use Rattle.judge.specs.declared.CheckStep.{CheckStep}
 use Rattle.judge.specs.declared.CheckStep.the-variants.{Over, Going}
 
--- J3: 22 of a plain record and 23, of a record at its moment that was read at `at`, after n records, the last of them at
--- the moment `last`; the log is then of this kind
+-- J3: 22 of a plain record and 23, of a record at its moment that was read at `at`, after n records, the last of them
+-- at the moment `last`; the log is then of this kind
 abbrev pub takeRecord : Kind → Moment → ℕ → ℕ → Moment → ℕ → CheckStep
 takeRecord k time past at last n =
     cond (ltb (time .0) (last .0)) (Over (Refused (NoMoment Falls) at))

@@ -32,6 +32,6 @@ datedBy k last (next.Refused f) = NoRecord f
 datedBy k last (next.Handed e past) = plainBy e past (plainMoment k (timeOf e))
 datedBy k last (next.Raw e past) = rawBy e past (rawMoment k last (stampOf e))
 
--- what stands at the offset, likewise: the end, a refusal, or a record with its moment, its kind and the offset after it
+-- what stands at the offset, likewise: the end, a refusal, or a record at its moment, its kind and the offset after it
 unfoldable pub datedAt : List ℕ → ℕ → Kind → Moment → Dated
 datedAt s at k last = datedBy k last (nextAt s at)

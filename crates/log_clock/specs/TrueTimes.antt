@@ -3,7 +3,7 @@ use mathlib.Core.Path.{_≡_}
 use Prim.Native.Nat.{ℕ, _-_, _%_, _≤_, _<_}
 use Rattle.model.specs.declared.Moment.{Moment}
 use Rattle.model.specs.declared.Stamp.{Stamp}
-use Rattle.base.specs.Lists.{Snoc, ε, _▸_, each}
+use Rattle.base.specs.Lists.{Snoc, ε, _▸_, EachIn, each}
 use Rattle.log_clock.specs.declared.Kind.{Kind}
 use Rattle.log_clock.specs.declared.Kind.the-variants.{Unset, Raw}
 use Rattle.log_clock.specs.declared.Timed.{Timed}
@@ -34,11 +34,18 @@ abbrev pub momentAfter : Kind → Timed → Stamp → Timed
 momentAfter k (At last) s = rawMoment k last s
 momentAfter k (Refused f) s = Refused f
 
-unfoldable pub momentsOf : Snoc Stamp → Snoc Timed
-momentsOf ε = ε
-momentsOf (ss ▸ s) = momentsOf ss ▸ momentAfter (kindAfter ss) (lastTimed (momentsOf ss)) s
+unfoldable pub momentsOfStamps : Snoc Stamp → Snoc Timed
+momentsOfStamps ε = ε
+momentsOfStamps (ss ▸ s) = momentsOfStamps ss ▸ momentAfter (kindAfter ss) (lastTimed (momentsOfStamps ss)) s
 
--- L13: the moments of the stamps of such times are the times since the first
-abbrev pub TrueTimes : Type 0
-TrueTimes = (first : ℕ) (ts : Snoc ℕ) (last : ℕ) → Passing first ts last
-    → momentsOf (each shownAt ts) ≡ each (λ t. At (record { 0 = t - first })) ts
+-- the times since the first as moments
+abbrev pub sinceFirst : ℕ → Snoc ℕ → Snoc Timed
+sinceFirst first ts = each (λ t. At (record { 0 = t - first })) ts
+
+-- L13: the moments of the stamps of such times are the times since the first; and of no other times, if none is before
+-- the first
+pub record TrueTimes : Type 0 where
+  pub given : (first : ℕ) (ts : Snoc ℕ) (last : ℕ) → Passing first ts last
+      → momentsOfStamps (each shownAt ts) ≡ sinceFirst first ts
+  pub only : (first : ℕ) (ts : Snoc ℕ) (last : ℕ) → EachIn (λ before t. first ≤ t) (ts ▸ last)
+      → momentsOfStamps (each shownAt (ts ▸ last)) ≡ sinceFirst first (ts ▸ last) → Passing first (ts ▸ last) last

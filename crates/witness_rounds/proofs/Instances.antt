@@ -36,6 +36,7 @@ use Rattle.log_clock.specs.declared.Kind.{Kind}
 use Rattle.log_clock.specs.declared.Kind.the-variants.{Unset, Plain}
 use Rattle.claims.specs.Examples.{chartU}
 use Rattle.claims.specs.Demand1 as cases
+use Rattle.log_clock.specs.TrueTimes as times
 use Rattle.claims.specs.Demand1.{FeedsAs, FindsAs, ComesAs, Walk, refusedLog, JudgesAs}
 use Rattle.claims.proofs.Demand1.{reads-just}
 use Rattle.witnesses.specs.Feeds.{passes as passed, undo, headings, references, stored}
@@ -278,11 +279,16 @@ each-case = record {
       (omega arith);
   start = cases.start;
   step = two;
-  begins = cases.begins (rawTime 4294967290) 5 (cases.raw-time refl (omega arith)) refl;
-  goes-on = cases.goes-on
-      (cases.begins (rawTime 4294967290) 5 (cases.raw-time refl (omega arith)) refl)
-      (rawTime 5) 10 (cases.raw-time refl (omega arith)) 4294967301 refl (omega arith) (omega arith) (omega arith)
-      (omega arith);
+  begins = times.begins;
+  goes-on = times.goes-on
+      (times.goes-on
+      (times.goes-on times.begins 2147483654 (omega arith) (omega arith) (omega arith))
+      4294967301 (omega arith) (omega arith) (omega arith))
+      4294967302 (omega arith) (omega arith) (omega arith);
+  none-stamped = cases.none-stamped;
+  one-stamped = cases.one-stamped
+      (cases.one-stamped cases.none-stamped (rawTime 4294967290) 5 (cases.raw-time refl (omega arith)) 4294967290 refl)
+      (rawTime 5) 10 (cases.raw-time refl (omega arith)) 4294967301 refl;
   not-given = cases.not-given zeros-not;
   no-record = cases.refuses given-u (first-time _) 31 (cases.no-record Plain 31 no-tag-after);
   raw-in-plain = cases.refuses given-u (first-time _) 32

@@ -11,9 +11,10 @@ use Rattle.chart_reader.specs.Said.{acceptedAs}
 use Rattle.log_reader.specs.Record as found
 use Rattle.log_clock.specs.declared.Kind.{Kind}
 use Rattle.log_clock.specs.declared.Kind.the-variants.{Unset, Plain, Raw}
+use Rattle.log_clock.specs.TrueTimes.{Passing}
 use Rattle.monitor.specs.declared.MadeAnswer.the-variants.{Fresh, NoChart}
 use Rattle.claims.specs.Examples.{chartU}
-use Rattle.claims.specs.Demand1.{ReadsAs, MakesAs, FeedsAs, FindsAs, ComesAs, Walk, TrueWalk, refusedLog, JudgesAs}
+use Rattle.claims.specs.Demand1.{ReadsAs, MakesAs, FeedsAs, FindsAs, ComesAs, Walk, Stamped, refusedLog, JudgesAs}
 use Rattle.witnesses.specs.Feeds.{passes as passed, undo, headings, references, stored}
 use Rattle.witnesses.specs.Raw.{rawMessage, rawTime}
 use Rattle.witness_rounds.specs.Charts.{written}
@@ -62,8 +63,8 @@ pub record Cases : Type 0 where
   pub raw-message : FindsAs (0x03 ∷ 0 ∷ 1 ∷ 0 ∷ 2 ∷ 0xff ∷ 0xff ∷ 0xff ∷ 0xff ∷ []) 0
       (found.handed-raw (rawMessage 0 1 2 4294967295) 9)
   pub raw-time : FindsAs (shown 0 0 0 5 []) 0 (found.handed-raw (rawTime 5) 5)
-  -- a record at its moment: the first of a plain log and a later one, the first of a raw log, and one that comes 6 ticks
-  -- after the moment 7, over the wrap
+  -- a record at its moment: the first of a plain log and a later one, the first of a raw log, and one that comes 6
+  -- ticks after the moment 7, over the wrap
   pub first-plain : ComesAs (written (ε ▸ passed 7) []) 0 0 Unset (passed 7) Plain 5
   pub plain : ComesAs (written (ε ▸ passed 7) []) 0 5 Plain (passed 7) Plain 5
   pub first-raw : ComesAs (shown 0 0 0 5 []) 0 0 Unset (passed 0) (stamp 5) 5
@@ -71,10 +72,13 @@ pub record Cases : Type 0 where
   -- records from the left: none, and two
   pub start : Walk [] ε Unset 0 0
   pub step : Walk (written (ε ▸ undo 100 ▸ passed 110) []) (ε ▸ undo 100 ▸ passed 110) Plain 14 110
-  -- true times: one, and another 11 ticks later, when the counter has begun again
-  pub begins : TrueWalk (shown 0xff 0xff 0xff 0xfa []) 4294967290 (ε ▸ passed 0) 5 4294967290
-  pub goes-on : TrueWalk (shown 0xff 0xff 0xff 0xfa (shown 0 0 0 5 [])) 4294967290 (ε ▸ passed 0 ▸ passed 11) 10
-      4294967301
+  -- true times: one; and three more after it, twice by the longest gap, up to the last moment
+  pub begins : Passing 7 (ε ▸ 7) 7
+  pub goes-on : Passing 7 (ε ▸ 7 ▸ 2147483654 ▸ 4294967301 ▸ 4294967302) 4294967302
+  -- raw records with true times: none; and two, 11 ticks apart, between which the counter has begun again
+  pub none-stamped : Stamped [] 7 ε ε 0
+  pub one-stamped : Stamped (shown 0xff 0xff 0xff 0xfa (shown 0 0 0 5 [])) 4294967290 (ε ▸ 4294967290 ▸ 4294967301)
+      (ε ▸ passed 0 ▸ passed 11) 10
   -- judging: no chart; an unknown byte after a record; a raw record after a plain one, and the reverse; a time that
   -- falls; a counter one back; a moment of 2^32; record 1,000,001; a verdict
   pub not-given : JudgesAs zeroChart [] (refusedLog 20 0)
