@@ -1,13 +1,13 @@
 -- One record at an offset, and a whole log, read case by case. The records walked without a fault decide where the
 -- check of the log stands, so two walks end alike. Assumes nothing.
 use mathlib.Core.Path.{_≡_, refl, sym, ap, subst, _∙_}
-use mathlib.Core.Logic.{_⊎_, inl, inr, ⊎-elim, _↔_}
+use mathlib.Core.Logic.{inl, inr, _↔_}
 use mathlib.Core.Bool.{Bool, true, false, cond}
 use mathlib.Core.List.{List}
 use Prim.Native.Nat.{ℕ, zero, suc, _+_, _-_, _%_, _≤_, _<_}
 use native.Mathlib.Omega.{arith}
 use native.Mathlib.Numerals.{add-one}
-use borrow.Author.Tests.{ltb-true, ltb-false, leb-true, leb-false, lt-ltb, le-ltb, le-leb, lt-leb, eq-eqb, ne-eqb}
+use borrow.Author.Tests.{ltb-true, ltb-false, leb-true, leb-false, lt-ltb, le-ltb, le-leb, lt-leb, ne-eqb}
 use borrow.Author.Tests.{eqb-true, eqb-false}
 use lib.Dec.{eqb, leb, ltb}
 use lib.ListN.{length, getD}
@@ -27,14 +27,16 @@ use Rattle.chart_value.specs.WellFormed.{wellFormed}
 use Rattle.chart_value.specs.Records.{logged}
 use Rattle.rounds.specs.Machine.{after}
 use Rattle.log_reader.specs.declared.RecordRefusal.{RecordRefusal}
-use Rattle.log_reader.specs.declared.RecordRefusal.the-variants.{CutShort, UnknownByte}
+use Rattle.log_reader.specs.declared.RecordRefusal.the-variants.{UnknownByte}
 use Rattle.log_reader.specs.declared.Next.{Next}
 use Rattle.log_reader.specs.declared.Next.the-variants as next
 use Rattle.log_reader.specs.Record as found
 use Rattle.log_reader.specs.Record.{recordRefusalNumber, messageTag, timeTag, rawMessageTag, rawTimeTag}
-use Rattle.log_reader.specs.Record.{messageSize, timeSize, messageAt, timeAt, rawMessageAt, rawTimeAt, said}
+use Rattle.log_reader.specs.Record.{messageSize, timeSize, said}
 use Rattle.log_reader.specs.Next.{nextAt}
+use Rattle.log_reader.proofs.Offsets.{at-end}
 use Rattle.log_reader.proofs.Said.{said-tells}
+use Rattle.log_reader.proofs.There.{message-read, time-read, raw-message-read, raw-time-read, is-whole, is-cut}
 use Rattle.log_clock.specs.declared.Kind.{Kind}
 use Rattle.log_clock.specs.declared.Kind.the-variants.{Unset, Plain, Raw}
 use Rattle.log_clock.specs.declared.MomentRefusal.{MomentRefusal}
@@ -52,7 +54,6 @@ use Rattle.judge.specs.declared.LogRefusal.{LogRefusal}
 use Rattle.judge.specs.declared.LogRefusal.the-variants.{NoRecord, NoMoment, TooManyRecords}
 use Rattle.judge.specs.declared.Checked.{Checked}
 use Rattle.judge.specs.declared.Checked.the-variants as checked
-use Rattle.judge.specs.declared.CheckStep.{CheckStep}
 use Rattle.judge.specs.declared.CheckStep.the-variants.{Over, Going}
 use Rattle.judge.specs.Check.{stepBy, stepAt, continueBy as checkOn, checkFrom, checkLog}
 use Rattle.judge.specs.Verdict.{logRefusalNumber, verdictOf}
@@ -99,81 +100,29 @@ finds-as s at = elim (split (leb (length s) at)) [
   ]
 ]
 
--- a byte is not two tags
-module _ (s : List ℕ) (at : ℕ) where
-  other : (tag : ℕ) (k : ℕ) → getD s at 0 ≡ k → (k < tag) ⊎ (tag < k) → eqb (getD s at 0) tag ≡ false
-  other tag k e d = ne-eqb (getD s at 0) tag (λ z. ⊎-elim (λ l. omega (arith, z, e, l)) (λ l. omega (arith, z, e, l)) d)
-
-  within : (tag : ℕ) → 0 < tag → getD s at 0 ≡ tag → leb (length s) at ≡ false
-  within tag h e = lt-leb _ _ (inside s at (λ z. omega (arith, z, e, h)))
+tag-inside : (s : List ℕ) (at tag : ℕ) → 0 < tag → getD s at 0 ≡ tag → at < length s
+tag-inside s at tag h e = inside s at (λ z. omega (arith, z, e, h))
 
 finds-next : (s : List ℕ) (at : ℕ) (x : found.Said) → FindsAs s at x → (n : Next) × (nextAt s at ≡ n) × (x ≡ said at n)
-finds-next s at x (ends h) = (next.End, rw (le-leb _ _ h), refl)
+finds-next s at x (ends h) = (next.End, at-end s at h, refl)
 finds-next s at x (unknown h a b d u) =
     (next.Refused UnknownByte, rw (lt-leb _ _ h, ne-eqb _ _ a, ne-eqb _ _ b, ne-eqb _ _ d, ne-eqb _ _ u), refl)
 finds-next s at x (message-cut a l) =
-    (next.Refused CutShort, rw (within s at messageTag (omega arith) a, eq-eqb _ _ a, lt-ltb _ _ l), refl)
-finds-next s at x (raw-message-cut a l) = (
-  next.Refused CutShort,
-  rw (within s at rawMessageTag (omega arith) a, other s at messageTag _ a (inr (omega arith)), eq-eqb _ _ a, lt-ltb _ _ l),
-  refl,
-)
-finds-next s at x (time-cut a l) = (
-  next.Refused CutShort,
-  rw (
-    within s at timeTag (omega arith) a,
-    other s at messageTag _ a (inr (omega arith)),
-    other s at rawMessageTag _ a (inl (omega arith)),
-    eq-eqb _ _ a,
-    lt-ltb _ _ l,
-  ),
-  refl,
-)
-finds-next s at x (raw-time-cut a l) = (
-  next.Refused CutShort,
-  rw (
-    within s at rawTimeTag (omega arith) a,
-    other s at messageTag _ a (inr (omega arith)),
-    other s at rawMessageTag _ a (inr (omega arith)),
-    other s at timeTag _ a (inr (omega arith)),
-    eq-eqb _ _ a,
-    lt-ltb _ _ l,
-  ),
-  refl,
-)
-finds-next s at x (message a l) = (
-  next.Handed (messageAt s at) (at + messageSize),
-  rw (within s at messageTag (omega arith) a, eq-eqb _ _ a, le-ltb _ _ l),
-  refl,
-)
-finds-next s at x (raw-message a l) = (
-  next.Raw (rawMessageAt s at) (at + messageSize),
-  rw (within s at rawMessageTag (omega arith) a, other s at messageTag _ a (inr (omega arith)), eq-eqb _ _ a, le-ltb _ _ l),
-  refl,
-)
-finds-next s at x (time a l) = (
-  next.Handed (timeAt s at) (at + timeSize),
-  rw (
-    within s at timeTag (omega arith) a,
-    other s at messageTag _ a (inr (omega arith)),
-    other s at rawMessageTag _ a (inl (omega arith)),
-    eq-eqb _ _ a,
-    le-ltb _ _ l,
-  ),
-  refl,
-)
-finds-next s at x (raw-time a l) = (
-  next.Raw (rawTimeAt s at) (at + timeSize),
-  rw (
-    within s at rawTimeTag (omega arith) a,
-    other s at messageTag _ a (inr (omega arith)),
-    other s at rawMessageTag _ a (inr (omega arith)),
-    other s at timeTag _ a (inr (omega arith)),
-    eq-eqb _ _ a,
-    le-ltb _ _ l,
-  ),
-  refl,
-)
+    (_, message-read s at (tag-inside s at _ (omega arith) a) a ∙ is-cut s at messageSize _ l, refl)
+finds-next s at x (raw-message-cut a l) =
+    (_, raw-message-read s at (tag-inside s at _ (omega arith) a) a ∙ is-cut s at messageSize _ l, refl)
+finds-next s at x (time-cut a l) =
+    (_, time-read s at (tag-inside s at _ (omega arith) a) a ∙ is-cut s at timeSize _ l, refl)
+finds-next s at x (raw-time-cut a l) =
+    (_, raw-time-read s at (tag-inside s at _ (omega arith) a) a ∙ is-cut s at timeSize _ l, refl)
+finds-next s at x (message a l) =
+    (_, message-read s at (tag-inside s at _ (omega arith) a) a ∙ is-whole s at messageSize _ l, refl)
+finds-next s at x (raw-message a l) =
+    (_, raw-message-read s at (tag-inside s at _ (omega arith) a) a ∙ is-whole s at messageSize _ l, refl)
+finds-next s at x (time a l) =
+    (_, time-read s at (tag-inside s at _ (omega arith) a) a ∙ is-whole s at timeSize _ l, refl)
+finds-next s at x (raw-time a l) =
+    (_, raw-time-read s at (tag-inside s at _ (omega arith) a) a ∙ is-whole s at timeSize _ l, refl)
 
 pub finds-just : (s : List ℕ) (at : ℕ) (n : Next) → n ≡ nextAt s at → Just (FindsAs s at) (said at n)
 finds-just s at n e = record {

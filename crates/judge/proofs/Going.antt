@@ -12,7 +12,6 @@ use borrow.Author.Tests.{eq-eqb, ltb-false, leb-false}
 use Rattle.bitset.specs.Set.{contains}
 use Rattle.model.specs.declared.Moment.{Moment}
 use Rattle.model.specs.declared.Monitor.{Monitor}
-use Rattle.model.specs.declared.Record.{Record}
 use Rattle.model.specs.Chart.{mostRegions}
 use Rattle.model.specs.Monitor.{zeroMonitor}
 use Rattle.model.specs.Answers.{mostRecords}
@@ -23,7 +22,6 @@ use Rattle.rounds.specs.Feeds.{noReadyRegion, conditionFails, entered, moved, q
 use Rattle.rounds.specs.Machine.{Monitor as AbstractMonitor, Step as AbstractStep, Move, stuck, fails, rests, offer}
 use Rattle.rounds.specs.Machine.{takeMessage, full, prechartDone, goOn, keepRound, dropRound, breakRound, conclude}
 use Rattle.rounds.specs.Machine.{missed, fitsOpening, reopened, accept, feed, after}
-use Rattle.base.proofs.Bools.{clash}
 use Rattle.log_reader.specs.Next.{nextAt}
 use Rattle.log_clock.specs.declared.Kind.{Kind}
 use Rattle.log_clock.specs.declared.Kind.the-variants.{Unset}

@@ -8,25 +8,30 @@ use lib.ListN.{length}
 use lib.Dec.{leb, ltb}
 use Rattle.model.specs.declared.Moment.{Moment}
 use Rattle.model.specs.declared.Record.{Record}
+use Rattle.model.specs.declared.RawRecord.{RawRecord}
+use Rattle.model.specs.declared.Stamp.{Stamp}
 use Rattle.model.specs.Answers.{mostRecords}
-use Rattle.model.specs.Monitor.{timeOf}
+use Rattle.model.specs.Monitor.{timeOf, stampOf, atMoment}
+use Rattle.base.proofs.Bools.{clash}
 use Rattle.log_reader.specs.declared.Next.{Next}
 use Rattle.log_reader.specs.declared.Next.the-variants as next
 use Rattle.log_reader.specs.Next.{nextAt}
 use Rattle.log_clock.specs.declared.Kind.{Kind}
-use Rattle.log_clock.specs.declared.Kind.the-variants.{Unset, Plain}
+use Rattle.log_clock.specs.declared.Kind.the-variants.{Unset, Plain, Raw}
 use Rattle.log_clock.specs.declared.MomentRefusal.the-variants.{Falls}
 use Rattle.log_clock.specs.declared.Dated.{Dated}
 use Rattle.log_clock.specs.declared.Dated.the-variants as dated
-use Rattle.log_clock.specs.Dated.{datedBy, datedAt}
+use Rattle.log_clock.specs.declared.Timed.{Timed}
+use Rattle.log_clock.specs.declared.Timed.the-variants as timed
+use Rattle.log_clock.specs.Clock.{gapOf, laterMoment, rawMoment}
+use Rattle.log_clock.specs.Dated.{rawBy, datedBy, datedAt}
 use Rattle.log_clock.proofs.Records.{dated-end, dated-past}
 use Rattle.judge.specs.declared.LogRefusal.the-variants.{NoMoment, TooManyRecords}
-use Rattle.judge.specs.declared.Checked.{Checked}
 use Rattle.judge.specs.declared.Checked.the-variants.{Fine, Refused}
 use Rattle.judge.specs.declared.CheckStep.{CheckStep}
 use Rattle.judge.specs.declared.CheckStep.the-variants.{Over, Going}
 use Rattle.judge.specs.Check.{checkFrom, checkLog, continueBy, stepAt, stepBy}
-use Rattle.judge.specs.Parts.{isRaw}
+use Rattle.judge.specs.Parts.{isRaw, originOf, stampIn}
 
 module _ (s : List ℕ) (at : ℕ) (k : Kind) (last : Moment) (n : ℕ) where
   -- the check goes on past the record, and not past the end
@@ -116,20 +121,69 @@ left-stays s at last n l p j t m g =
     by (next.Handed r q) g = tests r q (ltb (timeOf r .0) (last .0)) (leb mostRecords n) g
     by (next.Raw r q) g = let z : _≡_ {A = ℕ} 0 1 = cc in absurd (omega arith)
 
+-- the first record of a log, taken as one of a given kind
+left-as : (s : List ℕ) (k : Kind) → datedAt s 0 k (record { 0 = 0 }) ≡ datedAt s 0 Unset (record { 0 = 0 })
+    → Left s 0 k (record { 0 = 0 }) 0
+unfolding Left checkLog checkFrom stepAt
+left-as s k same =
+    let m : suc (length s) ≡ length s + 1 = omega arith in
+    subst (λ (f : ℕ). checkFrom f s 0 k (record { 0 = 0 }) 0 ≡ checkFrom f s 0 Unset (record { 0 = 0 }) 0) m
+    (ap (λ (x : Dated). continueBy (checkFrom (length s) s) (stepBy 0 (record { 0 = 0 }) 0 x)) same)
+
 -- a log that does not begin with a raw record may be taken for plain from the start
 pub left-plain : (s : List ℕ) → isRaw (nextAt s 0) ≡ false → Left s 0 Plain (record { 0 = 0 }) 0
-unfolding Left checkLog checkFrom stepAt datedAt
-left-plain s h =
-    let m : suc (length s) ≡ length s + 1 = omega arith in
-    let same = by (nextAt s 0) refl h in
-    subst (λ (f : ℕ). checkFrom f s 0 Plain zero-moment 0 ≡ checkFrom f s 0 Unset zero-moment 0) m
-    (ap (λ (x : Dated). continueBy (checkFrom (length s) s) (stepBy 0 zero-moment 0 x)) same)
+unfolding datedAt
+left-plain s h = left-as s Plain (by (nextAt s 0) h)
   where
-    zero-moment : Moment
-    zero-moment = record { 0 = 0 }
+    by : (x : Next) → isRaw x ≡ false
+        → datedBy Plain (record { 0 = 0 }) x ≡ datedBy Unset (record { 0 = 0 }) x
+    by next.End r = refl
+    by (next.Refused f) r = refl
+    by (next.Handed e p) r = refl
+    by (next.Raw e p) r = clash refl r
 
-    by : (x : Next) → nextAt s 0 ≡ x → isRaw x ≡ false → datedBy Plain zero-moment x ≡ datedBy Unset zero-moment x
-    by next.End q r = refl
-    by (next.Refused f) q r = refl
-    by (next.Handed e p) q r = refl
-    by (next.Raw e p) q r = let z : _≡_ {A = ℕ} 0 1 = cc in absurd (omega arith)
+-- one that does may be taken for raw, after a record with the stamp of its first
+pub left-raw : (s : List ℕ) (o : Stamp) → isRaw (nextAt s 0) ≡ true → originOf (nextAt s 0) ≡ o .0
+    → Left s 0 (Raw o) (record { 0 = 0 }) 0
+unfolding datedAt
+left-raw s o h q = left-as s (Raw o) (by (nextAt s 0) h q)
+  where
+    no-gap : (a b : Stamp) → b .0 ≡ a .0 → gapOf a b ≡ 0
+    no-gap a b e = omega arith
+
+    by : (x : Next) → isRaw x ≡ true → originOf x ≡ o .0
+        → datedBy (Raw o) (record { 0 = 0 }) x ≡ datedBy Unset (record { 0 = 0 }) x
+    by next.End r q = clash r refl
+    by (next.Refused f) r q = clash r refl
+    by (next.Handed e p) r q = clash r refl
+    by (next.Raw e p) r q =
+        ap (λ (g : ℕ). rawBy e p (laterMoment (record { 0 = 0 }) g)) (no-gap o (stampOf e) q)
+
+-- a step of a raw log leaves it raw
+pub left-raw-stays : (s : List ℕ) (at : ℕ) (from : Stamp) (last : Moment) (n : ℕ) → Left s at (Raw from) last n
+    → (p : ℕ) (j : Kind) (t : Moment) (m : ℕ) → stepAt s at (Raw from) last n ≡ Going p j t m
+    → (to : Stamp) → to ≡ stampIn j from → Left s p (Raw to) t m
+unfolding stepAt datedAt
+left-raw-stays s at from last n l p j t m g to z =
+    subst (λ (k : Kind). Left s p k t m) (by (nextAt s at) g ∙ ap Raw (sym z))
+    (left-going s at (Raw from) last n l p j t m g)
+  where
+    tests : (o : Stamp) (u : Moment) (q : ℕ) (a b : Bool) → cond a (Over (Refused (NoMoment Falls) at))
+        (cond b (Over (Refused TooManyRecords at)) (Going q (Raw o) u (n + 1))) ≡ Going p j t m
+        → j ≡ Raw (stampIn j from)
+    tests o u q true b g = let z : _≡_ {A = ℕ} 0 1 = cc in absurd (omega arith)
+    tests o u q false true g = let z : _≡_ {A = ℕ} 0 1 = cc in absurd (omega arith)
+    tests o u q false false g =
+        let e : Raw o ≡ j = cc in subst (λ (k : Kind). k ≡ Raw (stampIn k from)) e refl
+
+    timely : (r : RawRecord) (q : ℕ) (x : Timed) → stepBy at last n (rawBy r q x) ≡ Going p j t m
+        → j ≡ Raw (stampIn j from)
+    timely r q (timed.At u) g =
+        tests (stampOf r) (timeOf (atMoment r u)) q (ltb (timeOf (atMoment r u) .0) (last .0)) (leb mostRecords n) g
+    timely r q (timed.Refused f) g = let z : _≡_ {A = ℕ} 0 1 = cc in absurd (omega arith)
+
+    by : (x : Next) → stepBy at last n (datedBy (Raw from) last x) ≡ Going p j t m → j ≡ Raw (stampIn j from)
+    by next.End g = let z : _≡_ {A = ℕ} 0 1 = cc in absurd (omega arith)
+    by (next.Refused f) g = let z : _≡_ {A = ℕ} 0 1 = cc in absurd (omega arith)
+    by (next.Handed r q) g = let z : _≡_ {A = ℕ} 0 1 = cc in absurd (omega arith)
+    by (next.Raw r q) g = timely r q (rawMoment (Raw from) last (stampOf r)) g

@@ -1,4 +1,5 @@
 pub mod Laws
+pub mod Steps
 pub mod Fed
 pub mod Moments
 pub mod Going

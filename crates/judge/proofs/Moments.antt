@@ -24,19 +24,17 @@ use Rattle.log_clock.specs.declared.Kind.{Kind}
 use Rattle.log_clock.specs.declared.Kind.the-variants.{Unset, Plain, Raw}
 use Rattle.log_clock.specs.declared.MomentRefusal.{MomentRefusal}
 use Rattle.log_clock.specs.declared.MomentRefusal.the-variants.{Mixed, Falls, TooLate}
-use Rattle.log_clock.specs.declared.Timed.{Timed}
 use Rattle.log_clock.specs.declared.Timed.the-variants as timed
 use Rattle.log_clock.specs.declared.Dated.{Dated}
 use Rattle.log_clock.specs.declared.Dated.the-variants.{NoRecord, NoMoment, At}
-use Rattle.log_clock.specs.Clock.{range, halfRange, gapOf, laterMoment}
+use Rattle.log_clock.specs.Clock.{range, halfRange, gapOf}
 use Rattle.log_clock.specs.Dated.{rawBy, datedBy, datedAt}
 use Rattle.log_clock.proofs.Records.{dated-next}
 use Rattle.log_clock.proofs.Times.{time-at, gap-leads}
 use Rattle.judge.specs.declared.LogRefusal.the-variants as refusal
 use Rattle.judge.specs.declared.Checked.the-variants.{Refused}
-use Rattle.judge.specs.declared.CheckStep.{CheckStep}
 use Rattle.judge.specs.declared.CheckStep.the-variants.{Over}
-use Rattle.judge.specs.Check.{checkLog, stepAt, stepBy, takeRecord}
+use Rattle.judge.specs.Check.{checkLog, stepAt, stepBy}
 use Rattle.judge.specs.Parts.{isFine, originOf, sizeAt, takenAt}
 use Rattle.judge.proofs.Laws.{Left, left-step, left-going}
 use Rattle.judge.proofs.Fed.{parts-of, raw-parts-of}

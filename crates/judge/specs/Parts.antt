@@ -1,5 +1,5 @@
--- A record as it is taken from its bytes, whether a check found a fault, and the standing and the verdict of a stored
--- monitor, for the functions that compute them.
+-- A record as it is checked and as it is taken from its bytes, whether a check found a fault, and the standing and the
+-- verdict of a stored monitor, for the functions that compute them.
 use mathlib.Core.Bool.{Bool, true, false, cond, not, _||_}
 use mathlib.Core.List.{List}
 use Prim.Native.Nat.{ℕ, _+_, _*_}
@@ -11,14 +11,43 @@ use Rattle.log_reader.specs.declared.Next.{Next}
 use Rattle.log_reader.specs.declared.Next.the-variants as next
 use Rattle.bitset.specs.Set.{contains}
 use Rattle.model.specs.declared.Monitor.{Monitor}
+use Rattle.model.specs.declared.Moment.{Moment}
+use Rattle.model.specs.declared.Stamp.{Stamp}
 use Rattle.model.specs.Monitor.{stampOf}
+use Rattle.log_clock.specs.declared.Kind.{Kind}
+use Rattle.log_clock.specs.declared.Kind.the-variants as kind
+use Rattle.log_clock.specs.declared.MomentRefusal.the-variants.{Mixed}
+use Rattle.log_clock.specs.declared.Timed.{Timed}
+use Rattle.log_clock.specs.declared.Timed.the-variants as timed
 use Rattle.model.specs.declared.Verdict.{Verdict}
 use Rattle.base.specs.Lists.{allBelow}
 use Rattle.stepping.specs.Monitors.{tallyAt}
 use Rattle.judge.specs.declared.Taken.{Taken}
+use Rattle.judge.specs.declared.LogRefusal.the-variants.{NoRecord, NoMoment}
+use Rattle.judge.specs.declared.CheckStep.{CheckStep}
+use Rattle.judge.specs.declared.CheckStep.the-variants.{Over}
 use Rattle.judge.specs.declared.Checked.{Checked}
 use Rattle.judge.specs.declared.Checked.the-variants.{Fine, Refused}
+use Rattle.judge.specs.Check.{takeRecord}
 use Rattle.judge.specs.Verdict.{broken, nothingFired, inPrechart, owed, verdictWith}
+
+-- no record of the log's kind was read, and not the end
+abbrev pub faultBy : ℕ → Next → Checked
+faultBy at next.End = Refused (NoMoment Mixed) at
+faultBy at (next.Refused f) = Refused (NoRecord f) at
+faultBy at (next.Handed e past) = Refused (NoMoment Mixed) at
+faultBy at (next.Raw e past) = Refused (NoMoment Mixed) at
+
+-- a record by the moment found for it, after n records, the last of them at the moment `last`
+abbrev pub takeTimed : Kind → ℕ → ℕ → Moment → ℕ → Timed → CheckStep
+takeTimed k past at last n (timed.At t) = takeRecord k t past at last n
+takeTimed k past at last n (timed.Refused f) = Over (Refused (NoMoment f) at)
+
+-- the stamp of the last record in a raw log
+abbrev pub stampIn : Kind → Stamp → Stamp
+stampIn kind.Unset from = from
+stampIn kind.Plain from = from
+stampIn (kind.Raw stamp) from = stamp
 
 -- a raw record was read
 abbrev pub isRaw : Next → Bool

@@ -1,17 +1,20 @@
 // Judging a whole log: it is checked first, then its records are fed.
-use log_clock::Dated;
 use log_clock::Kind;
 use log_clock::MomentRefusal;
+use log_clock::Timed;
 use log_reader::MESSAGE_SIZE;
 use log_reader::MESSAGE_TAG;
 use log_reader::Next;
 use log_reader::RAW_MESSAGE_TAG;
+use log_reader::RAW_TIME_TAG;
 use log_reader::RecordRefusal;
 use log_reader::TIME_SIZE;
+use log_reader::TIME_TAG;
 use model::Chart;
 use model::MOST_RECORDS;
 use model::Moment;
 use model::Monitor;
+use model::Stamp;
 use model::TOO_MANY_RECORDS;
 use model::Verdict;
 use plan::LABEL_PLACE;
@@ -27,13 +30,14 @@ ghost use Rattle.chart_value.specs.View.{chartOf};
 ghost use Rattle.stepping.specs.Monitors.{monitorAt};
 ghost use Rattle.chart_value.specs.Records.{logged};
 ghost use Rattle.log_reader.specs.Next.{nextAt};
-ghost use Rattle.log_clock.specs.declared.Kind.the-variants.{Plain};
-ghost use Rattle.log_clock.specs.Clock.{range};
+ghost use Rattle.log_clock.specs.declared.Kind.the-variants.{Plain, Raw};
+ghost use Rattle.log_clock.specs.Clock.{range, rawMoment};
 ghost use Rattle.log_clock.specs.Records.{recordsIn};
 ghost use Rattle.judge.specs.Check.{takeRecord, stepAt, checkLog};
 ghost use Rattle.judge.specs.Verdict.{logRefusalNumber, said};
 ghost use Rattle.judge.specs.Judge.{judgeOf};
-ghost use Rattle.judge.specs.Parts.{isRaw, originOf, sizeAt, takenAt, isFine, standingBy, verdictBy};
+ghost use Rattle.judge.specs.Parts.{faultBy, takeTimed, stampIn, isRaw, originOf, sizeAt, takenAt, isFine};
+ghost use Rattle.judge.specs.Parts.{standingBy, verdictBy};
 
 // Why a log is refused.
 pub enum LogRefusal {
@@ -85,62 +89,34 @@ fn take_record(
     CheckStep::Going(past, kind, time, records + 1)
 }
 
-fn step_at(log: &[u8], at: usize, kind: Kind, last: Moment, records: u32) -> CheckStep
-    ensures { λ r. ⌜ r ≡ stepAt (now (log .entry)) at kind last records ⌝ }
-{
-    let dated = log_clock::record_at(log, at, kind, last);
-    match dated {
-        Dated::End => CheckStep::Over(Checked::Fine(records)),
-        Dated::NoRecord(f) => CheckStep::Over(Checked::Refused(LogRefusal::NoRecord(f), at)),
-        Dated::NoMoment(f) => CheckStep::Over(Checked::Refused(LogRefusal::NoMoment(f), at)),
-        Dated::At(e, then, past) => {
-            take_record(then, model::time_of(e), past, at, last, records)
-        }
-    }
-}
-
-// The check of a log of either kind.
-fn check_kinds(log: &[u8]) -> Checked
-    ensures { λ r. ⌜ r ≡ checkLog (now (log .entry)) ⌝ }
-{
-    let mut at: usize = 0;
-    let mut kind = Kind::Unset;
-    let mut last = Moment(0);
-    let mut records: u32 = 0;
-    while at < log.len() {
-        let step = step_at(log, at, kind, last, records);
-        match step {
-            CheckStep::Over(checked) => {
-                return checked;
-            }
-            CheckStep::Going(past, then, time, more) => {
-                at = past;
-                kind = then;
-                last = time;
-                records = more;
-            }
-        }
-    }
-    Checked::Fine(records)
-}
-
-// One record of a plain log checked. There the kind and the stamps need not be carried from record to record, which
-// would cost a plain log a quarter of its time.
-fn plain_step(log: &[u8], at: usize, last: Moment, records: u32) -> CheckStep
-    ensures { λ r. ⌜ r ≡ stepAt (now (log .entry)) at Plain last records ⌝ }
+// Why no record of the log's kind stands at an offset before the end: 31, 30, or 32 for one of the other kind.
+fn fault_at(log: &[u8], at: usize) -> Checked
+    ensures { λ r. ⌜ r ≡ faultBy at (nextAt (now (log .entry)) at) ⌝ }
 {
     let next = log_reader::read_record(log, at);
     match next {
-        Next::End => CheckStep::Over(Checked::Fine(records)),
-        Next::Refused(f) => CheckStep::Over(Checked::Refused(LogRefusal::NoRecord(f), at)),
-        Next::Handed(e, past) => {
-            take_record(Kind::Plain, model::time_of(e), past, at, last, records)
-        }
-        Next::Raw(_, _) => CheckStep::Over(Checked::Refused(
-            LogRefusal::NoMoment(MomentRefusal::Mixed),
-            at,
-        )),
+        Next::End => Checked::Refused(LogRefusal::NoMoment(MomentRefusal::Mixed), at),
+        Next::Refused(f) => Checked::Refused(LogRefusal::NoRecord(f), at),
+        Next::Handed(_, _) => Checked::Refused(LogRefusal::NoMoment(MomentRefusal::Mixed), at),
+        Next::Raw(_, _) => Checked::Refused(LogRefusal::NoMoment(MomentRefusal::Mixed), at),
     }
+}
+
+// One record of a plain log checked. Whole records are met first; whatever else stands there ends the check.
+fn plain_step(log: &[u8], at: usize, last: Moment, records: u32) -> CheckStep
+    requires { ⌜ at < length (now log) ⌝ }
+    ensures { λ r. ⌜ r ≡ stepAt (now (log .entry)) at Plain last records ⌝ }
+{
+    let tag = log[at];
+    if (tag == MESSAGE_TAG) & (at + MESSAGE_SIZE <= log.len()) {
+        let time = Moment(wire::word32_in(log, at + 5));
+        return take_record(Kind::Plain, time, at + MESSAGE_SIZE, at, last, records);
+    }
+    if (tag == TIME_TAG) & (at + TIME_SIZE <= log.len()) {
+        let time = Moment(wire::word32_in(log, at + 1));
+        return take_record(Kind::Plain, time, at + TIME_SIZE, at, last, records);
+    }
+    CheckStep::Over(fault_at(log, at))
 }
 
 // The check of a log that does not begin with a raw record.
@@ -167,6 +143,72 @@ fn check_plain(log: &[u8]) -> Checked
     Checked::Fine(records)
 }
 
+// A raw record with this stamp, after one with the stamp `from`.
+fn take_raw(from: Stamp, to: Stamp, past: usize, at: usize, last: Moment, records: u32) -> CheckStep
+    ensures { λ r. ⌜ r ≡ takeTimed (Raw to) past at last records (rawMoment (Raw from) last to) ⌝ }
+{
+    let timed = log_clock::raw_moment(Kind::Raw(from), last, to);
+    match timed {
+        Timed::At(t) => take_record(Kind::Raw(to), t, past, at, last, records),
+        Timed::Refused(f) => CheckStep::Over(Checked::Refused(LogRefusal::NoMoment(f), at)),
+    }
+}
+
+// One record of a raw log checked, likewise.
+fn raw_step(log: &[u8], at: usize, from: Stamp, last: Moment, records: u32) -> CheckStep
+    requires { ⌜ at < length (now log) ⌝ }
+    ensures { λ r. ⌜ r ≡ stepAt (now (log .entry)) at (Raw from) last records ⌝ }
+{
+    let tag = log[at];
+    if (tag == RAW_MESSAGE_TAG) & (at + MESSAGE_SIZE <= log.len()) {
+        let to = Stamp(wire::word32_in(log, at + 5));
+        return take_raw(from, to, at + MESSAGE_SIZE, at, last, records);
+    }
+    if (tag == RAW_TIME_TAG) & (at + TIME_SIZE <= log.len()) {
+        let to = Stamp(wire::word32_in(log, at + 1));
+        return take_raw(from, to, at + TIME_SIZE, at, last, records);
+    }
+    CheckStep::Over(fault_at(log, at))
+}
+
+fn stamp_in(kind: Kind, from: Stamp) -> Stamp
+    ensures { λ r. ⌜ r ≡ stampIn kind from ⌝ }
+{
+    match kind {
+        Kind::Unset => from,
+        Kind::Plain => from,
+        Kind::Raw(stamp) => stamp,
+    }
+}
+
+// The check of a log that begins with a raw record, of which the stamp is given. Counted from that stamp on, the first
+// record is at moment 0 like one that comes no tick later.
+fn check_raw(log: &[u8], first: Stamp) -> Checked
+    requires { ⌜ isRaw (nextAt (now log) 0) ≡ true ⌝ }
+    requires { ⌜ originOf (nextAt (now log) 0) ≡ first .0 ⌝ }
+    ensures { λ r. ⌜ r ≡ checkLog (now (log .entry)) ⌝ }
+{
+    let mut at: usize = 0;
+    let mut from = first;
+    let mut last = Moment(0);
+    let mut records: u32 = 0;
+    while at < log.len() {
+        let step = raw_step(log, at, from, last, records);
+        match step {
+            CheckStep::Over(checked) => {
+                return checked;
+            }
+            CheckStep::Going(past, kind, time, more) => {
+                at = past;
+                from = stamp_in(kind, from);
+                last = time;
+                records = more;
+            }
+        }
+    }
+    Checked::Fine(records)
+}
+
 fn is_raw(next: Next) -> bool
     ensures { λ r. ⌜ r ≡ isRaw next ⌝ }
 {
@@ -178,14 +220,26 @@ fn is_raw(next: Next) -> bool
     }
 }
 
-// J2: the check of the whole log.
+// From where a log counts its ticks: a raw log from its first stamp, a plain one from 0.
+fn origin_of(first: Next) -> u32
+    ensures { λ r. ⌜ r ≡ originOf first ⌝ }
+{
+    match first {
+        Next::End => 0,
+        Next::Refused(_) => 0,
+        Next::Handed(_, _) => 0,
+        Next::Raw(e, _) => model::stamp_of(e).0,
+    }
+}
+
+// J2: the check of the whole log. Each kind has a loop of its own, so that a plain log pays nothing for stamps.
 pub fn check_log(log: &[u8]) -> Checked
     ensures check { λ r. ⌜ r ≡ checkLog (now (log .entry)) ⌝ }
     ensures unchanged { λ r. ⌜ now (log .exit) ≡ now (log .entry) ⌝ }
 {
     let first = log_reader::read_record(log, 0);
     if is_raw(first) {
-        return check_kinds(log);
+        return check_raw(log, Stamp(origin_of(first)));
     }
     check_plain(log)
 }
@@ -211,18 +265,6 @@ const NOTHING_FIRED: u8 = 0;
 const IN_PRECHART: u8 = 1;
 
 const OWED: u8 = 2;
-
-// From where a log counts its ticks: a raw log from its first stamp, a plain one from 0.
-fn origin_of(first: Next) -> u32
-    ensures { λ r. ⌜ r ≡ originOf first ⌝ }
-{
-    match first {
-        Next::End => 0,
-        Next::Refused(_) => 0,
-        Next::Handed(_, _) => 0,
-        Next::Raw(e, _) => model::stamp_of(e).0,
-    }
-}
 
 // In a log without a fault every moment is the ticks since the origin, round the wrap; for a plain record, whose origin
 // is 0, that is its time. So both kinds are computed alike, and a plain log pays one subtraction for it.

@@ -12,7 +12,7 @@ use Rattle.model.specs.declared.RawRecord.the-variants as raw
 use Rattle.model.specs.Monitor.{timeOf, atMoment}
 use Rattle.base.specs.Lists.{Snoc, ε, _▸_, EachIn, each}
 use Rattle.log_clock.specs.declared.Kind.{Kind}
-use Rattle.log_clock.specs.declared.Kind.the-variants.{Unset, Raw}
+use Rattle.log_clock.specs.declared.Kind.the-variants.{Raw}
 use Rattle.log_clock.specs.declared.Timed.{Timed}
 use Rattle.log_clock.specs.declared.MomentRefusal.the-variants.{Falls, TooLate}
 use Rattle.log_clock.specs.declared.Timed.the-variants.{At, Refused}

@@ -1,7 +1,6 @@
 -- The true times of raw stamps (L13).
 use mathlib.Core.Path.{_≡_}
 use Prim.Native.Nat.{ℕ, _-_, _%_, _≤_, _<_}
-use Rattle.model.specs.declared.Moment.{Moment}
 use Rattle.model.specs.declared.Stamp.{Stamp}
 use Rattle.base.specs.Lists.{Snoc, ε, _▸_, EachIn, each}
 use Rattle.log_clock.specs.declared.Kind.{Kind}

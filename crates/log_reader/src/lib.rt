@@ -27,11 +27,11 @@ pub enum Next {
 
 pub const MESSAGE_TAG: u8 = 0x01;
 
-const TIME_TAG: u8 = 0x02;
+pub const TIME_TAG: u8 = 0x02;
 
 pub const RAW_MESSAGE_TAG: u8 = 0x03;
 
-const RAW_TIME_TAG: u8 = 0x04;
+pub const RAW_TIME_TAG: u8 = 0x04;
 
 pub const MESSAGE_SIZE: usize = 9;
 

@@ -1,6 +1,7 @@
+-- `judge::check_log` meets its contract: the first record decides by which loop the log is checked. Assumes nothing.
 use mathlib.Core.Path.{sym, ap, _∙_}
+use Rattle.judge.specs.Parts.{isRaw, originOf}
 use borrow.Author.Needs.{needs}
-use Rattle.judge.specs.Parts.{isRaw}
 use Rattle.judge.proofs.check_log.Statement.{statement}
 use Rattle.judge.proofs.check_log.Tie as tie
 
@@ -10,8 +11,15 @@ read-record-requires c κs = search needs
 is-raw-requires : tie.Need-is-raw-requires
 is-raw-requires c κs = search needs
 
-check-kinds-requires : tie.Need-check-kinds-requires
-check-kinds-requires c κs = search needs
+origin-of-requires : tie.Need-origin-of-requires
+origin-of-requires c κs = search needs
+
+check-raw-requires : tie.Need-check-raw-requires
+check-raw-requires c κs =
+    let first = c .before .before .before .read-record .ensures .0 in (
+      ap isRaw (sym first) ∙ sym (c .before .before .is-raw .ensures) ∙ c .before .if1 .taken,
+      ap originOf (sym first) ∙ sym (c .origin-of .ensures),
+    )
 
 returns : tie.Need-returns
 returns c = search needs
@@ -29,7 +37,8 @@ check-log-spec =
     (tie.spec
     read-record-requires
     is-raw-requires
-    check-kinds-requires
+    origin-of-requires
+    check-raw-requires
     returns
     check-plain-requires
     returns-2)
