@@ -102,9 +102,10 @@ module _ (first : ℕ) where
   moments (goes-on {ts} {t} P u l h r) =
       let i = moments P in
       let m = ap lastTimed i ∙ last-moment P in
+      let g : u - t < halfRange = omega (arith, h) in
       ap₂ (λ (ms : Snoc Timed) (x : Timed). ms ▸ x) i
       (ap₂ (λ (k : Kind) (x : Timed). momentAfter k x (shownAt u)) (last-kind P) m
-      ∙ next-true first t u (not-before P) l h r)
+      ∙ next-true first t u (not-before P) l g r)
 
   -- the time after the last, by the moment of its stamp
   told : (t u : ℕ) → first ≤ t → first ≤ u
