@@ -171,6 +171,7 @@ fn raw_step(log: &[u8], at: usize, from: Stamp, last: Moment, records: u32) -> C
     CheckStep::Over(fault_at(log, at))
 }
 
+// The stamp of the last record, as the kind of a raw log has it.
 fn stamp_in(kind: Kind, from: Stamp) -> Stamp
     ensures { λ r. ⌜ r ≡ stampIn kind from ⌝ }
 {
