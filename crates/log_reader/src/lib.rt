@@ -62,8 +62,8 @@ fn parts_at(s: &[u8], at: usize) -> Message
     }
 }
 
-// The message at an offset within the bytes; the tag tells whether it is plain or raw. Both kinds are read in one
-// place, so that reading stays small enough to be taken into the loops over a log.
+// The message at an offset within the bytes. Plain and raw ones have the same bytes but for the tag, which tells them
+// apart.
 fn message_next(bytes: &[u8], offset: usize, tag: u8) -> Next
     requires { ⌜ offset < length (now bytes) ⌝ }
     ensures { λ r. ⌜ r ≡ messageNext (now (bytes .entry)) offset tag ⌝ }
