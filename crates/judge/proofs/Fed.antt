@@ -5,10 +5,10 @@ use mathlib.Core.Logic.{_≢_, inl, inr}
 use mathlib.Core.List.{List}
 use Prim.Native.Nat.{ℕ, zero, suc, _+_, _*_, _-_, _≤_, _<_}
 use native.Mathlib.Omega.{arith}
-use lib.Dec.{eqb, leb, ltb}
+use lib.Dec.{eqb, leb}
 use lib.ListN.{length, getD}
 use Rattle.wire.specs.Bytes.{word16, word32}
-use borrow.Author.Tests.{eqb-true, eqb-false, ne-eqb, ltb-false, not-true}
+use borrow.Author.Tests.{eqb-true, eqb-false, leb-true, ne-eqb, not-true}
 use Rattle.bitset.specs.Set.{contains}
 use Rattle.bitset.proofs.Laws.{contains-empty, some-member}
 use Rattle.model.specs.declared.Monitor.{Monitor}
@@ -23,12 +23,12 @@ use Rattle.rounds.specs.Machine.{Monitor as AbstractMonitor, Step as AbstractSt
 use Rattle.base.proofs.Bools.{split, clash}
 use Rattle.base.proofs.Facts.{all-of, all-at}
 use Rattle.rounds.proofs.Fitness.{after-fit}
-use Rattle.log_reader.specs.declared.RecordRefusal.the-variants.{CutShort, UnknownByte}
 use Rattle.log_reader.specs.declared.Next.{Next}
 use Rattle.log_reader.specs.declared.Next.the-variants.{End, Refused, Handed, Raw}
-use Rattle.log_reader.specs.Record.{messageTag, timeTag, rawTimeTag, messageSize, timeSize}
-use Rattle.log_reader.specs.Record.{messageAt, timeAt, rawMessageAt, rawTimeAt}
+use Rattle.log_reader.specs.Record.{messageTag, timeTag, rawMessageTag, rawTimeTag, messageSize, timeSize}
+use Rattle.log_reader.specs.Record.{messageAt}
 use Rattle.log_reader.specs.Next.{nextAt}
+use Rattle.log_reader.proofs.Offsets.{read, is-read}
 use Rattle.log_clock.specs.declared.Kind.{Kind}
 use Rattle.log_clock.specs.declared.Kind.the-variants.{Unset}
 use Rattle.log_clock.specs.declared.Dated.{Dated}
@@ -43,7 +43,7 @@ use Rattle.stepping.proofs.Zeros.{zero-fresh}
 use Rattle.model.specs.Monitor.{timeOf, stampOf, atMoment}
 use Rattle.judge.specs.Verdict.{standingOf, verdictWith, verdictOf}
 use Rattle.judge.specs.declared.Taken.{Taken}
-use Rattle.judge.specs.Parts.{isMessage, sizeAt, takenAt, standingBy, verdictBy}
+use Rattle.judge.specs.Parts.{sizeAt, takenAt, standingBy, verdictBy}
 
 same-record : (e : Record) (code t : ℕ) → code ≡ recordCode e → t ≡ timeOf e .0 → recordOf code t ≡ logRecord e
 same-record e code t p q = λ i. record { time = q i; code = p i }
@@ -63,42 +63,43 @@ module _ (s : List ℕ) (at : ℕ) where
   PartsOf x size (Handed e p) = Parts (recordCode e) (timeOf e .0) p x size
   PartsOf x size (Raw e p) = (t : Moment) → Parts (recordCode (atMoment e t)) (stampOf e .0) p x size
 
-  parts : PartsOf (takenAt s at) (sizeAt s at) (nextAt s at)
-  unfolding PartsOf
-  parts =
-      by (leb (length s) at) (isMessage s at) (eqb (getD s at 0) timeTag || eqb (getD s at 0) rawTimeTag)
-      (eqb (getD s at 0) messageTag) (eqb (getD s at 0) timeTag) (ltb (length s) (at + messageSize))
-      (ltb (length s) (at + timeSize)) refl refl
-    where
-      same : word16 s (at + 3) * 65536 + word16 s (at + 1) + 1 ≡ recordCode (messageAt s at)
-      same = let z : at + 1 + 1 ≡ at + 2 = omega arith in rw z (omega arith)
+  same-code : word16 s (at + 3) * 65536 + word16 s (at + 1) + 1 ≡ recordCode (messageAt s at)
+  same-code = let z : at + 1 + 1 ≡ at + 2 = omega arith in rw z (omega arith)
 
-      by : (a b c d f x y : Bool) → ltb (length s) (at + messageSize) ≡ x → ltb (length s) (at + timeSize) ≡ y
-          → PartsOf (cond b
-          (record {
-            code = word16 s (at + 3) * 65536 + word16 s (at + 1) + 1;
-            word = word32 s (at + 5);
-            past = at + messageSize;
-          })
-          (record { code = 0; word = word32 s (at + 1); past = at + timeSize })) (cond b messageSize timeSize)
-          (cond a End
-          (cond b (cond x (Refused CutShort)
-          (cond d (Handed (messageAt s at) (at + messageSize)) (Raw (rawMessageAt s at) (at + messageSize))))
-          (cond c (cond y (Refused CutShort)
-          (cond f (Handed (timeAt s at) (at + timeSize)) (Raw (rawTimeAt s at) (at + timeSize))))
-          (Refused UnknownByte))))
-      by true b c d f x y m n = tt
-      by false true c d f true y m n = tt
-      by false true c true f false y m n =
-          record { is-code = same; is-word = refl; is-past = refl; whole = ltb-false (length s) (at + messageSize) m }
-      by false true c false f false y m n = λ t.
-          record { is-code = same; is-word = refl; is-past = refl; whole = ltb-false (length s) (at + messageSize) m }
-      by false false true d f x true m n = tt
-      by false false true d true x false m n =
-          record { is-code = refl; is-word = refl; is-past = refl; whole = ltb-false (length s) (at + timeSize) n }
-      by false false true d false x false m n = λ t.
-          record { is-code = refl; is-word = refl; is-past = refl; whole = ltb-false (length s) (at + timeSize) n }
-      by false false false d f x y m n = tt
+  abbrev takenIf : Bool → Taken
+  takenIf b =
+      cond b
+      (record {
+        code = word16 s (at + 3) * 65536 + word16 s (at + 1) + 1;
+        word = word32 s (at + 5);
+        past = at + messageSize;
+      })
+      (record { code = 0; word = word32 s (at + 1); past = at + timeSize })
+
+  parts-read : (a p q t u m k : Bool) → leb (at + messageSize) (length s) ≡ m → leb (at + timeSize) (length s) ≡ k
+      → PartsOf (takenIf (p || q)) (cond (p || q) messageSize timeSize) (read s at a p q t u m k)
+  unfolding PartsOf
+  parts-read true p q t u m k x y = tt
+  parts-read false true q t u false k x y = tt
+  parts-read false true q t u true k x y =
+      record { is-code = same-code; is-word = refl; is-past = refl; whole = leb-true (at + messageSize) (length s) x }
+  parts-read false false true t u false k x y = tt
+  parts-read false false true t u true k x y = λ t.
+      record { is-code = same-code; is-word = refl; is-past = refl; whole = leb-true (at + messageSize) (length s) x }
+  parts-read false false false true u m false x y = tt
+  parts-read false false false true u m true x y =
+      record { is-code = refl; is-word = refl; is-past = refl; whole = leb-true (at + timeSize) (length s) y }
+  parts-read false false false false true m false x y = tt
+  parts-read false false false false true m true x y = λ t.
+      record { is-code = refl; is-word = refl; is-past = refl; whole = leb-true (at + timeSize) (length s) y }
+  parts-read false false false false false m k x y = tt
+
+  parts : PartsOf (takenAt s at) (sizeAt s at) (nextAt s at)
+  parts =
+      subst (PartsOf (takenAt s at) (sizeAt s at)) (sym (is-read s at))
+      (parts-read (leb (length s) at) (eqb (getD s at 0) messageTag) (eqb (getD s at 0) rawMessageTag)
+      (eqb (getD s at 0) timeTag) (eqb (getD s at 0) rawTimeTag) (leb (at + messageSize) (length s))
+      (leb (at + timeSize) (length s)) refl refl)
 
   pub parts-of : (e : Record) (p : ℕ) → nextAt s at ≡ Handed e p
       → Parts (recordCode e) (timeOf e .0) p (takenAt s at) (sizeAt s at)

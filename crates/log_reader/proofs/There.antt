@@ -1,19 +1,20 @@
 -- The record at an offset, by its byte; and where no whole record of a kind stands, none is handed out. Assumes nothing.
 use mathlib.Core.Path.{_≡_, refl, ap, _∙_}
-use mathlib.Core.Bool.{Bool, true, false, cond, not, _&&_, _||_}
+use mathlib.Core.Bool.{Bool, true, false, cond, _&&_}
 use mathlib.Core.Logic.{_⊎_, inl, inr, ⊎-elim}
 use mathlib.Core.List.{List}
 use Prim.Native.Nat.{ℕ, _+_, _≤_, _<_}
 use native.Mathlib.Omega.{arith}
-use borrow.Author.Tests.{leb-true, leb-false, lt-ltb, le-ltb, lt-leb, eq-eqb, ne-eqb}
+use borrow.Author.Tests.{lt-ltb, le-ltb, lt-leb, eq-eqb, ne-eqb}
 use lib.ListN.{length, getD}
 use lib.Dec.{leb, ltb, eqb}
-use Rattle.log_reader.specs.declared.RecordRefusal.the-variants.{CutShort, UnknownByte}
+use Rattle.log_reader.specs.declared.RecordRefusal.the-variants.{CutShort}
 use Rattle.log_reader.specs.declared.Next.{Next}
 use Rattle.log_reader.specs.declared.Next.the-variants.{End, Refused, Handed, Raw}
 use Rattle.log_reader.specs.Record.{messageTag, timeTag, rawMessageTag, rawTimeTag, messageSize, timeSize}
 use Rattle.log_reader.specs.Record.{messageAt, timeAt, rawMessageAt, rawTimeAt}
 use Rattle.log_reader.specs.Next.{nextAt}
+use Rattle.log_reader.proofs.Offsets.{read, is-read}
 
 abbrev pub isHanded : Next → Bool
 isHanded End = false
@@ -71,28 +72,7 @@ module _ (s : List ℕ) (at : ℕ) where
   pub is-cut : (size : ℕ) (n : Next) → length s < at + size → ifWhole size n ≡ Refused CutShort
   is-cut size n h = rw (lt-ltb _ _ h)
 
-  short : (size : ℕ) (m : Bool) → leb (at + size) (length s) ≡ m → ltb (length s) (at + size) ≡ not m
-  short size true e = le-ltb (length s) (at + size) (leb-true (at + size) (length s) e)
-  short size false e = lt-ltb (length s) (at + size) (leb-false (at + size) (length s) e)
-
-  -- what is read: at the end or not, by the tags, and by whether all bytes of either record are there
-  abbrev read : (a p q t u m k : Bool) → Next
-  read a p q t u m k =
-      cond a End
-      (cond (p || q)
-      (cond (not m) (Refused CutShort)
-      (cond p (Handed (messageAt s at) (at + messageSize)) (Raw (rawMessageAt s at) (at + messageSize))))
-      (cond (t || u)
-      (cond (not k) (Refused CutShort)
-      (cond t (Handed (timeAt s at) (at + timeSize)) (Raw (rawTimeAt s at) (at + timeSize))))
-      (Refused UnknownByte)))
-
-  is-read : nextAt s at ≡ read (leb (length s) at) (eqb (getD s at 0) messageTag) (eqb (getD s at 0) rawMessageTag)
-      (eqb (getD s at 0) timeTag) (eqb (getD s at 0) rawTimeTag) (leb (at + messageSize) (length s))
-      (leb (at + timeSize) (length s))
-  is-read = rw (short messageSize _ refl, short timeSize _ refl)
-
-  none-handed : (a p q t u m k : Bool) → (p && m) ≡ false → (t && k) ≡ false → isHanded (read a p q t u m k) ≡ false
+  none-handed : (a p q t u m k : Bool) → (p && m) ≡ false → (t && k) ≡ false → isHanded (read s at a p q t u m k) ≡ false
   none-handed true p q t u m k x y = refl
   none-handed false true q t u true k x y = x
   none-handed false true q t u false k x y = refl
@@ -104,7 +84,7 @@ module _ (s : List ℕ) (at : ℕ) where
   none-handed false false false false true m false x y = refl
   none-handed false false false false false m k x y = refl
 
-  none-raw : (a p q t u m k : Bool) → (q && m) ≡ false → (u && k) ≡ false → isRawly (read a p q t u m k) ≡ false
+  none-raw : (a p q t u m k : Bool) → (q && m) ≡ false → (u && k) ≡ false → isRawly (read s at a p q t u m k) ≡ false
   none-raw true p q t u m k x y = refl
   none-raw false true q t u true k x y = refl
   none-raw false true q t u false k x y = refl
@@ -120,7 +100,7 @@ module _ (s : List ℕ) (at : ℕ) where
   pub no-plain : (eqb (getD s at 0) messageTag && leb (at + messageSize) (length s)) ≡ false
       → (eqb (getD s at 0) timeTag && leb (at + timeSize) (length s)) ≡ false → isHanded (nextAt s at) ≡ false
   no-plain x y =
-      ap isHanded is-read
+      ap isHanded (is-read s at)
       ∙ none-handed (leb (length s) at) (eqb (getD s at 0) messageTag) (eqb (getD s at 0) rawMessageTag)
       (eqb (getD s at 0) timeTag) (eqb (getD s at 0) rawTimeTag) (leb (at + messageSize) (length s))
       (leb (at + timeSize) (length s)) x y
@@ -128,7 +108,7 @@ module _ (s : List ℕ) (at : ℕ) where
   pub no-raw : (eqb (getD s at 0) rawMessageTag && leb (at + messageSize) (length s)) ≡ false
       → (eqb (getD s at 0) rawTimeTag && leb (at + timeSize) (length s)) ≡ false → isRawly (nextAt s at) ≡ false
   no-raw x y =
-      ap isRawly is-read
+      ap isRawly (is-read s at)
       ∙ none-raw (leb (length s) at) (eqb (getD s at 0) messageTag) (eqb (getD s at 0) rawMessageTag)
       (eqb (getD s at 0) timeTag) (eqb (getD s at 0) rawTimeTag) (leb (at + messageSize) (length s))
       (leb (at + timeSize) (length s)) x y
