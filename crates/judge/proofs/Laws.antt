@@ -7,7 +7,6 @@ use native.Mathlib.Omega.{arith}
 use lib.ListN.{length}
 use lib.Dec.{leb, ltb}
 use Rattle.model.specs.declared.Moment.{Moment}
-use Rattle.model.specs.declared.Record.{Record}
 use Rattle.model.specs.declared.RawRecord.{RawRecord}
 use Rattle.model.specs.declared.Stamp.{Stamp}
 use Rattle.model.specs.Answers.{mostRecords}
@@ -15,7 +14,7 @@ use Rattle.model.specs.Monitor.{timeOf, stampOf, atMoment}
 use Rattle.base.proofs.Bools.{clash}
 use Rattle.log_reader.specs.declared.Next.{Next}
 use Rattle.log_reader.specs.declared.Next.the-variants as next
-use Rattle.log_reader.specs.Next.{nextAt}
+use Rattle.log_reader.specs.Next.{nextAt, isRaw}
 use Rattle.log_clock.specs.declared.Kind.{Kind}
 use Rattle.log_clock.specs.declared.Kind.the-variants.{Unset, Plain, Raw}
 use Rattle.log_clock.specs.declared.MomentRefusal.the-variants.{Falls}
@@ -30,8 +29,19 @@ use Rattle.judge.specs.declared.LogRefusal.the-variants.{NoMoment, TooMa
 use Rattle.judge.specs.declared.Checked.the-variants.{Fine, Refused}
 use Rattle.judge.specs.declared.CheckStep.{CheckStep}
 use Rattle.judge.specs.declared.CheckStep.the-variants.{Over, Going}
-use Rattle.judge.specs.Check.{checkFrom, checkLog, continueBy, stepAt, stepBy}
-use Rattle.judge.specs.Parts.{isRaw, originOf, stampIn}
+use Rattle.judge.specs.Check.{takeRecord, checkFrom, checkLog, continueBy, stepAt, stepBy}
+use Rattle.judge.specs.Parts.{originOf, stampIn}
+
+-- a record that is taken: the check goes on just after it, with the kind that it gave
+took : (i : Kind) (u : Moment) (q at : ℕ) (last : Moment) (n p : ℕ) (j : Kind) (t : Moment) (m : ℕ)
+    → takeRecord i u q at last n ≡ Going p j t m → (q ≡ p) × (i ≡ j)
+took i u q at last n p j t m = by (ltb (u .0) (last .0)) (leb mostRecords n)
+  where
+    by : (a b : Bool) → cond a (Over (Refused (NoMoment Falls) at))
+        (cond b (Over (Refused TooManyRecords at)) (Going q i u (n + 1))) ≡ Going p j t m → (q ≡ p) × (i ≡ j)
+    by true b g = let z : _≡_ {A = ℕ} 0 1 = cc in absurd (omega arith)
+    by false true g = let z : _≡_ {A = ℕ} 0 1 = cc in absurd (omega arith)
+    by false false g = (cc, cc)
 
 module _ (s : List ℕ) (at : ℕ) (k : Kind) (last : Moment) (n : ℕ) where
   -- the check goes on past the record, and not past the end
@@ -40,19 +50,12 @@ module _ (s : List ℕ) (at : ℕ) (k : Kind) (last : Moment) (n : ℕ) where
   unfolding stepAt
   going-past p j t m g = by (datedAt s at k last) refl g
     where
-      tests : (r : Record) (i : Kind) (q : ℕ) (a b : Bool) → datedAt s at k last ≡ dated.At r i q
-          → cond a (Over (Refused (NoMoment Falls) at))
-          (cond b (Over (Refused TooManyRecords at)) (Going q i (timeOf r) (n + 1))) ≡ Going p j t m → (at < p)
-          × (p ≤ length s)
-      tests r i q true b e g = let z : _≡_ {A = ℕ} 0 1 = cc in absurd (omega arith)
-      tests r i q false true e g = let z : _≡_ {A = ℕ} 0 1 = cc in absurd (omega arith)
-      tests r i q false false e g = let z : q ≡ p = cc in omega (arith, dated-past s at k last r i q e)
-
       by : (x : Dated) → datedAt s at k last ≡ x → stepBy at last n x ≡ Going p j t m → (at < p) × (p ≤ length s)
       by dated.End e g = let z : _≡_ {A = ℕ} 0 1 = cc in absurd (omega arith)
       by (dated.NoRecord f) e g = let z : _≡_ {A = ℕ} 0 1 = cc in absurd (omega arith)
       by (dated.NoMoment f) e g = let z : _≡_ {A = ℕ} 0 1 = cc in absurd (omega arith)
-      by (dated.At r i q) e g = tests r i q (ltb (timeOf r .0) (last .0)) (leb mostRecords n) e g
+      by (dated.At r i q) e g =
+          let z : q ≡ p = took i (timeOf r) q at last n p j t m g .0 in omega (arith, dated-past s at k last r i q e)
 
   pub ended-fine : (f : ℕ) → length s ≤ at → checkFrom f s at k last n ≡ Fine n
   unfolding checkFrom stepAt
@@ -109,16 +112,10 @@ unfolding stepAt datedAt
 left-stays s at last n l p j t m g =
     subst (λ (k : Kind). Left s p k t m) (by (nextAt s at) g) (left-going s at Plain last n l p j t m g)
   where
-    tests : (r : Record) (q : ℕ) (a b : Bool) → cond a (Over (Refused (NoMoment Falls) at))
-        (cond b (Over (Refused TooManyRecords at)) (Going q Plain (timeOf r) (n + 1))) ≡ Going p j t m → j ≡ Plain
-    tests r q true b g = let z : _≡_ {A = ℕ} 0 1 = cc in absurd (omega arith)
-    tests r q false true g = let z : _≡_ {A = ℕ} 0 1 = cc in absurd (omega arith)
-    tests r q false false g = cc
-
     by : (x : Next) → stepBy at last n (datedBy Plain last x) ≡ Going p j t m → j ≡ Plain
     by next.End g = let z : _≡_ {A = ℕ} 0 1 = cc in absurd (omega arith)
     by (next.Refused f) g = let z : _≡_ {A = ℕ} 0 1 = cc in absurd (omega arith)
-    by (next.Handed r q) g = tests r q (ltb (timeOf r .0) (last .0)) (leb mostRecords n) g
+    by (next.Handed r q) g = sym (took Plain (timeOf r) q at last n p j t m g .1)
     by (next.Raw r q) g = let z : _≡_ {A = ℕ} 0 1 = cc in absurd (omega arith)
 
 -- the first record of a log, taken as one of a given kind
@@ -168,18 +165,11 @@ left-raw-stays s at from last n l p j t m g to z =
     subst (λ (k : Kind). Left s p k t m) (by (nextAt s at) g ∙ ap Raw (sym z))
     (left-going s at (Raw from) last n l p j t m g)
   where
-    tests : (o : Stamp) (u : Moment) (q : ℕ) (a b : Bool) → cond a (Over (Refused (NoMoment Falls) at))
-        (cond b (Over (Refused TooManyRecords at)) (Going q (Raw o) u (n + 1))) ≡ Going p j t m
-        → j ≡ Raw (stampIn j from)
-    tests o u q true b g = let z : _≡_ {A = ℕ} 0 1 = cc in absurd (omega arith)
-    tests o u q false true g = let z : _≡_ {A = ℕ} 0 1 = cc in absurd (omega arith)
-    tests o u q false false g =
-        let e : Raw o ≡ j = cc in subst (λ (k : Kind). k ≡ Raw (stampIn k from)) e refl
-
     timely : (r : RawRecord) (q : ℕ) (x : Timed) → stepBy at last n (rawBy r q x) ≡ Going p j t m
         → j ≡ Raw (stampIn j from)
     timely r q (timed.At u) g =
-        tests (stampOf r) (timeOf (atMoment r u)) q (ltb (timeOf (atMoment r u) .0) (last .0)) (leb mostRecords n) g
+        subst (λ (k : Kind). k ≡ Raw (stampIn k from))
+        (took (Raw (stampOf r)) (timeOf (atMoment r u)) q at last n p j t m g .1) refl
     timely r q (timed.Refused f) g = let z : _≡_ {A = ℕ} 0 1 = cc in absurd (omega arith)
 
     by : (x : Next) → stepBy at last n (datedBy (Raw from) last x) ≡ Going p j t m → j ≡ Raw (stampIn j from)

@@ -16,9 +16,9 @@ use Rattle.log_reader.specs.declared.Next.{Next}
 use Rattle.log_reader.specs.declared.Next.the-variants as next
 use Rattle.log_reader.specs.Record.{messageTag, timeTag, rawMessageTag, rawTimeTag, messageSize, timeSize}
 use Rattle.log_reader.specs.Record.{rawMessageAt, rawTimeAt}
-use Rattle.log_reader.specs.Next.{nextAt}
+use Rattle.log_reader.specs.Next.{nextAt, isRaw}
 use Rattle.log_reader.proofs.Offsets.{not-end}
-use Rattle.log_reader.proofs.There.{isHanded, isRawly, message-read, time-read, raw-message-read, raw-time-read}
+use Rattle.log_reader.proofs.There.{isHanded, message-read, time-read, raw-message-read, raw-time-read}
 use Rattle.log_reader.proofs.There.{is-whole, no-plain, no-raw}
 use Rattle.log_clock.specs.declared.Kind.the-variants.{Plain, Raw}
 use Rattle.log_clock.specs.declared.Timed.{Timed}
@@ -113,7 +113,7 @@ module _ (s : List ℕ) (at : ℕ) where
       unfolding stepAt datedAt
       raw-fault h v w = by (nextAt s at) refl (no-raw s at v w)
         where
-          by : (x : Next) → nextAt s at ≡ x → isRawly x ≡ false
+          by : (x : Next) → nextAt s at ≡ x → isRaw x ≡ false
               → stepBy at last n (datedBy (Raw from) last x) ≡ Over (faultBy at x)
           by next.End q z = absurd (not-end s at h q)
           by (next.Refused f) q z = refl

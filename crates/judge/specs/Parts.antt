@@ -49,13 +49,6 @@ stampIn kind.Unset from = from
 stampIn kind.Plain from = from
 stampIn (kind.Raw stamp) from = stamp
 
--- a raw record was read
-abbrev pub isRaw : Next → Bool
-isRaw next.End = false
-isRaw (next.Refused f) = false
-isRaw (next.Handed e past) = false
-isRaw (next.Raw e past) = true
-
 -- from where a log counts its ticks, of which the first record is given
 abbrev pub originOf : Next → ℕ
 originOf next.End = 0

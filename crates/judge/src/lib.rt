@@ -29,14 +29,14 @@ ghost use Rattle.chart_value.specs.WellFormed.{wellFormed};
 ghost use Rattle.chart_value.specs.View.{chartOf};
 ghost use Rattle.stepping.specs.Monitors.{monitorAt};
 ghost use Rattle.chart_value.specs.Records.{logged};
-ghost use Rattle.log_reader.specs.Next.{nextAt};
+ghost use Rattle.log_reader.specs.Next.{nextAt, isRaw};
 ghost use Rattle.log_clock.specs.declared.Kind.the-variants.{Plain, Raw};
 ghost use Rattle.log_clock.specs.Clock.{range, rawMoment};
 ghost use Rattle.log_clock.specs.Records.{recordsIn};
 ghost use Rattle.judge.specs.Check.{takeRecord, stepAt, checkLog};
 ghost use Rattle.judge.specs.Verdict.{logRefusalNumber, said};
 ghost use Rattle.judge.specs.Judge.{judgeOf};
-ghost use Rattle.judge.specs.Parts.{faultBy, takeTimed, stampIn, isRaw, originOf, sizeAt, takenAt, isFine};
+ghost use Rattle.judge.specs.Parts.{faultBy, takeTimed, stampIn, originOf, sizeAt, takenAt, isFine};
 ghost use Rattle.judge.specs.Parts.{standingBy, verdictBy};
 
 // Why a log is refused.

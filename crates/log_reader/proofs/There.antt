@@ -13,7 +13,7 @@ use Rattle.log_reader.specs.declared.Next.{Next}
 use Rattle.log_reader.specs.declared.Next.the-variants.{End, Refused, Handed, Raw}
 use Rattle.log_reader.specs.Record.{messageTag, timeTag, rawMessageTag, rawTimeTag, messageSize, timeSize}
 use Rattle.log_reader.specs.Record.{messageAt, timeAt, rawMessageAt, rawTimeAt}
-use Rattle.log_reader.specs.Next.{nextAt}
+use Rattle.log_reader.specs.Next.{nextAt, isRaw}
 use Rattle.log_reader.proofs.Offsets.{read, is-read}
 
 abbrev pub isHanded : Next → Bool
@@ -21,12 +21,6 @@ isHanded End = false
 isHanded (Refused f) = false
 isHanded (Handed e p) = true
 isHanded (Raw e p) = false
-
-abbrev pub isRawly : Next → Bool
-isRawly End = false
-isRawly (Refused f) = false
-isRawly (Handed e p) = false
-isRawly (Raw e p) = true
 
 module _ (s : List ℕ) (at : ℕ) where
   -- a byte is not two tags
@@ -84,7 +78,7 @@ module _ (s : List ℕ) (at : ℕ) where
   none-handed false false false false true m false x y = refl
   none-handed false false false false false m k x y = refl
 
-  none-raw : (a p q t u m k : Bool) → (q && m) ≡ false → (u && k) ≡ false → isRawly (read s at a p q t u m k) ≡ false
+  none-raw : (a p q t u m k : Bool) → (q && m) ≡ false → (u && k) ≡ false → isRaw (read s at a p q t u m k) ≡ false
   none-raw true p q t u m k x y = refl
   none-raw false true q t u true k x y = refl
   none-raw false true q t u false k x y = refl
@@ -106,9 +100,9 @@ module _ (s : List ℕ) (at : ℕ) where
       (leb (at + timeSize) (length s)) x y
 
   pub no-raw : (eqb (getD s at 0) rawMessageTag && leb (at + messageSize) (length s)) ≡ false
-      → (eqb (getD s at 0) rawTimeTag && leb (at + timeSize) (length s)) ≡ false → isRawly (nextAt s at) ≡ false
+      → (eqb (getD s at 0) rawTimeTag && leb (at + timeSize) (length s)) ≡ false → isRaw (nextAt s at) ≡ false
   no-raw x y =
-      ap isRawly (is-read s at)
+      ap isRaw (is-read s at)
       ∙ none-raw (leb (length s) at) (eqb (getD s at 0) messageTag) (eqb (getD s at 0) rawMessageTag)
       (eqb (getD s at 0) timeTag) (eqb (getD s at 0) rawTimeTag) (leb (at + messageSize) (length s))
       (leb (at + timeSize) (length s)) x y

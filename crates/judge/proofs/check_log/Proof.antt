@@ -1,6 +1,7 @@
 -- `judge::check_log` meets its contract: the first record decides by which loop the log is checked. Assumes nothing.
 use mathlib.Core.Path.{sym, ap, _∙_}
-use Rattle.judge.specs.Parts.{isRaw, originOf}
+use Rattle.log_reader.specs.Next.{isRaw}
+use Rattle.judge.specs.Parts.{originOf}
 use borrow.Author.Needs.{needs}
 use Rattle.judge.proofs.check_log.Statement.{statement}
 use Rattle.judge.proofs.check_log.Tie as tie
