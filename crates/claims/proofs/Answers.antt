@@ -13,7 +13,7 @@ use Rattle.log_reader.specs.declared.RecordRefusal.{RecordRefusal}
 use Rattle.log_reader.specs.declared.RecordRefusal.the-variants.{CutShort, UnknownByte}
 use Rattle.log_reader.proofs.Said.{said-tells}
 use Rattle.log_clock.specs.declared.MomentRefusal.the-variants.{Mixed, Falls, TooLate}
-use Rattle.judge.specs.declared.LogRefusal.the-variants as log
+use Rattle.log_check.specs.declared.LogRefusal.the-variants as log
 use Rattle.judge.specs.declared.JudgeAnswer.{JudgeAnswer}
 use Rattle.judge.specs.declared.JudgeAnswer.the-variants as judged
 use Rattle.judge.specs.declared.Judgement.{Judgement}

@@ -12,7 +12,7 @@ use Rattle.rounds.specs.Machine.{full, prechartDone, goOn, keepRound, dropRound
 use Rattle.rounds.specs.Machine.{fitsOpening, reopened, accept, feed, after}
 use Rattle.log_clock.specs.Dated.{datedAt}
 use Rattle.log_clock.specs.Records.{recordsFrom, recordsIn}
-use Rattle.judge.specs.Check.{stepAt, checkFrom, checkLog}
+use Rattle.log_check.specs.Check.{stepAt, checkFrom, checkLog}
 use Rattle.judge.specs.Judge.{judgeOf}
 use Rattle.judge.specs.Verdict.{standingOf}
 use Rattle.respond.specs.Respond.{partsReport}

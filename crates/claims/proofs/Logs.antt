@@ -50,16 +50,17 @@ use Rattle.log_clock.specs.Records.{recordsFrom, recordsIn}
 use Rattle.log_clock.specs.TrueTimes.{shownAt, Passing, begins, goes-on}
 use Rattle.log_clock.proofs.Records.{dated-next, dated-past, one-record}
 use Rattle.log_clock.proofs.Times.{time-at, gap-leads, gap-below, gap-only, later-at, not-before}
-use Rattle.judge.specs.declared.LogRefusal.{LogRefusal}
-use Rattle.judge.specs.declared.LogRefusal.the-variants.{NoRecord, NoMoment, TooManyRecords}
-use Rattle.judge.specs.declared.Checked.{Checked}
-use Rattle.judge.specs.declared.Checked.the-variants as checked
-use Rattle.judge.specs.declared.CheckStep.the-variants.{Over, Going}
-use Rattle.judge.specs.Check.{stepBy, stepAt, continueBy as checkOn, checkFrom, checkLog}
-use Rattle.judge.specs.Verdict.{logRefusalNumber, verdictOf}
+use Rattle.log_check.specs.declared.LogRefusal.{LogRefusal}
+use Rattle.log_check.specs.declared.LogRefusal.the-variants.{NoRecord, NoMoment, TooManyRecords}
+use Rattle.log_check.specs.declared.Checked.{Checked}
+use Rattle.log_check.specs.declared.Checked.the-variants as checked
+use Rattle.log_check.specs.declared.CheckStep.the-variants.{Over, Going}
+use Rattle.log_check.specs.Check.{stepBy, stepAt, continueBy as checkOn, checkFrom, checkLog}
+use Rattle.log_check.specs.Check.{logRefusalNumber}
+use Rattle.judge.specs.Verdict.{verdictOf}
 use Rattle.judge.specs.Verdict as judge
 use Rattle.judge.specs.Judge.{byCheck, judgeOf}
-use Rattle.judge.proofs.Laws.{Left, left-first, left-step, left-going}
+use Rattle.log_check.proofs.Laws.{Left, left-first, left-step, left-going}
 use Rattle.claims.specs.Demand1.{Just, FindsAs, ends, unknown, message-cut, time-cut, raw-message-cut}
 use Rattle.claims.specs.Demand1.{raw-time-cut, message, time, raw-message, raw-time}
 use Rattle.claims.specs.Demand1.{ComesAs, first-plain, plain, first-raw, raw, Walk, start, step}
@@ -156,20 +157,20 @@ found-refused s at k F = by (nextAt s at) refl (finds-next s at (found.refused k
         absurd (let w : found.refused k at ≡ found.handed-raw e p = N .2
         ∙ ap (said at) (sym (N .1) ∙ q) in let z : _≡_ {A = ℕ} 0 1 = cc in omega arith)
 
-abbrev moment : ℕ → Moment
+abbrev pub moment : ℕ → Moment
 moment t = record { 0 = t }
 
 -- before the first record the last moment is 0
-abbrev FirstAtZero : Kind → ℕ → Type 0
+abbrev pub FirstAtZero : Kind → ℕ → Type 0
 FirstAtZero k last = k ≡ Unset → last ≡ 0
 
 -- a record that comes is what stands there with its moment, and does not fall
 module _ (s : List ℕ) (at last : ℕ) where
-  record Dates (k : Kind) (e : Record) (kind : Kind) (past : ℕ) : Type 0 where
-    dated-there : datedAt s at k (moment last) ≡ dated.At e kind past
-    later : last ≤ timeOf e .0
+  pub record Dates (k : Kind) (e : Record) (kind : Kind) (past : ℕ) : Type 0 where
+    pub dated-there : datedAt s at k (moment last) ≡ dated.At e kind past
+    pub later : last ≤ timeOf e .0
 
-  comes-dated : (k : Kind) (e : Record) (kind : Kind) (past : ℕ) → FirstAtZero k last → ComesAs s at last k e kind past
+  pub comes-dated : (k : Kind) (e : Record) (kind : Kind) (past : ℕ) → FirstAtZero k last → ComesAs s at last k e kind past
       → Dates k e kind past
   comes-dated k e kind past z (first-plain e′ past′ F) = record {
     dated-there = dated-next s at Unset (moment last) _ (found-as s at (next.Handed e past) F);
@@ -194,7 +195,7 @@ module _ (s : List ℕ) (at last : ℕ) where
 
 -- what stands at an offset with its moment, by the cases of the claims
 module _ (s : List ℕ) (at last : ℕ) where
-  data Seen : Kind → Dated → Type 0 where
+  pub data Seen : Kind → Dated → Type 0 where
     sees-end : {k : Kind} → FindsAs s at (found.end at) → Seen k dated.End
     sees-none : {k : Kind} (f : RecordRefusal) → FindsAs s at (found.refused (recordRefusalNumber f) at)
         → Seen k (dated.NoRecord f)
@@ -239,7 +240,7 @@ module _ (s : List ℕ) (at last : ℕ) where
   seen-raw e p F (Raw from) =
       seen-later from e p F (leb halfRange (gapOf from (stampOf e))) (leb range (last + gapOf from (stampOf e))) refl refl
 
-  seen : (k : Kind) → Seen k (datedAt s at k (moment last))
+  pub seen : (k : Kind) → Seen k (datedAt s at k (moment last))
   seen k = by (nextAt s at) refl
     where
       is : (x : Next) → nextAt s at ≡ x → Seen k (datedBy k (moment last) x) → Seen k (datedAt s at k (moment last))
@@ -252,12 +253,12 @@ module _ (s : List ℕ) (at last : ℕ) where
       by (next.Raw e p) q = is _ q (seen-raw e p (finds-of s at _ q) k)
 
 -- where the records walked leave the check of the log, and the list of its records
-record Stands (s : List ℕ) (es : Snoc Record) (k : Kind) (at last : ℕ) : Type 0 where
-  first : FirstAtZero k last
-  left : Left s at k (moment last) (size es)
-  more : ℕ
-  room : length s ≤ at + more
-  rest : recordsFrom more s at k (moment last) es ≡ recordsIn s
+pub record Stands (s : List ℕ) (es : Snoc Record) (k : Kind) (at last : ℕ) : Type 0 where
+  pub first : FirstAtZero k last
+  pub left : Left (checkLog s) s at k (moment last) (size es)
+  pub more : ℕ
+  pub room : length s ≤ at + more
+  pub rest : recordsFrom more s at k (moment last) es ≡ recordsIn s
 
 comes-set : {s : List ℕ} {at last : ℕ} {k : Kind} {e : Record} {kind : Kind} {p : ℕ} → ComesAs s at last k e kind p
     → ¬ (kind ≡ Unset)
@@ -268,12 +269,12 @@ comes-set (raw from e p F g t h l) z = let w : _≡_ {A = ℕ} 0 1 = cc in omega
 
 module _ (s : List ℕ) where
   -- what the check makes of what stands at an offset
-  came-to : (at : ℕ) (k : Kind) (last : Moment) (n : ℕ) (d : Dated) → datedAt s at k last ≡ d
+  pub came-to : (at : ℕ) (k : Kind) (last : Moment) (n : ℕ) (d : Dated) → datedAt s at k last ≡ d
       → stepAt s at k last n ≡ stepBy at last n d
   unfolding stepAt
   came-to at k last n d q = ap (stepBy at last n) q
 
-  took : (at : ℕ) (k : Kind) (last : Moment) (n : ℕ) (e : Record) (kind : Kind) (p : ℕ)
+  pub took : (at : ℕ) (k : Kind) (last : Moment) (n : ℕ) (e : Record) (kind : Kind) (p : ℕ)
       → datedAt s at k last ≡ dated.At e kind p → (a b : Bool)
       → ltb (timeOf e .0) (last .0) ≡ a
       → leb mostRecords n ≡ b
@@ -281,7 +282,7 @@ module _ (s : List ℕ) where
       (cond b (Over (checked.Refused TooManyRecords at)) (Going p kind (timeOf e) (n + 1)))
   took at k last n e kind p q a b x y = came-to at k last n _ q ∙ rw (x, y)
 
-  walked : {es : Snoc Record} {k : Kind} {at last : ℕ} → Walk s es k at last → Stands s es k at last
+  pub walked : {es : Snoc Record} {k : Kind} {at last : ℕ} → Walk s es k at last → Stands s es k at last
   unfolding recordsIn
   walked start =
       record { first = λ z. refl; left = left-first s; more = length s; room = omega arith; rest = refl }
@@ -292,7 +293,7 @@ module _ (s : List ℕ) where
       let h : 0 < S .more = omega (arith, l, S .room) in
       record {
         first = λ z. absurd (comes-set C z);
-        left = subst (Left s p kind (timeOf e)) (add-one (size es))
+        left = subst (Left (checkLog s) s p kind (timeOf e)) (add-one (size es))
             (left-going s at k (moment last) (size es) (S .left) p kind (timeOf e) (size es + 1)
             (took at k (moment last) (size es) e kind p (D .dated-there) false false (le-ltb _ _ (D .later))
             (lt-leb _ _ n)));
@@ -301,7 +302,7 @@ module _ (s : List ℕ) where
         rest = sym (one-record s at (S .more) h k (moment last) es (dated.At e kind p) (D .dated-there)) ∙ S .rest;
       }
 
-  ended : (at : ℕ) (k : Kind) (last : Moment) → FindsAs s at (found.end at) → datedAt s at k last ≡ dated.End
+  pub ended : (at : ℕ) (k : Kind) (last : Moment) → FindsAs s at (found.end at) → datedAt s at k last ≡ dated.End
   ended at k last F = dated-next s at k last _ (found-as s at next.End F)
 
   -- the records of a log without a fault
@@ -322,12 +323,12 @@ module _ (s : List ℕ) where
       (came-to at k (moment last) (size es) dated.End (ended at k (moment last) F)))
 
   -- a fault is what the check ends with
-  record Ends (es : Snoc Record) (k : Kind) (at last f : ℕ) : Type 0 where
-    why : LogRefusal
-    ends-there : stepAt s at k (moment last) (size es) ≡ Over (checked.Refused why at)
-    told : f ≡ logRefusalNumber why
+  pub record Ends (es : Snoc Record) (k : Kind) (at last f : ℕ) : Type 0 where
+    pub why : LogRefusal
+    pub ends-there : stepAt s at k (moment last) (size es) ≡ Over (checked.Refused why at)
+    pub told : f ≡ logRefusalNumber why
 
-  fault-ends : {es : Snoc Record} {at last : ℕ} (k : Kind) (f : ℕ) → FirstAtZero k last → FaultAt s es at last k f
+  pub fault-ends : {es : Snoc Record} {at last : ℕ} (k : Kind) (f : ℕ) → FirstAtZero k last → FaultAt s es at last k f
       → Ends es k at last f
   fault-ends {es} {at} {last} k f z (no-record k′ f′ F) =
       let R = found-refused s at f F in

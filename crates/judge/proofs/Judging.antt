@@ -6,9 +6,11 @@ use Prim.Native.Nat.{ℕ, _≤_, _<_}
 use native.Mathlib.Omega.{arith}
 use Rattle.model.specs.declared.Chart.{Chart}
 use Rattle.model.specs.declared.Monitor.{Monitor}
+use Rattle.model.specs.declared.Record.{Record}
 use Rattle.model.specs.Chart.{mostRegions}
 use Rattle.model.specs.declared.Verdict.{Verdict}
 use Rattle.model.specs.Answers.{zeroVerdict}
+use Rattle.base.specs.Lists.{Snoc}
 use Rattle.chart_value.specs.WellFormed.{wellFormed}
 use Rattle.chart_value.specs.Given.{Given}
 use Rattle.chart_value.specs.View.{chartOf}
@@ -19,15 +21,19 @@ use Rattle.rounds.proofs.Fitness.{after-fit}
 use Rattle.stepping.specs.Monitors.{monitorAt}
 use Rattle.log_clock.specs.Records.{recordsIn}
 use Rattle.chart_value.specs.Records.{logged}
-use Rattle.judge.specs.declared.LogRefusal.{LogRefusal}
-use Rattle.judge.specs.declared.Checked.the-variants as checked
+use Rattle.log_check.specs.declared.LogRefusal.{LogRefusal}
+use Rattle.log_check.specs.declared.Checked.{Checked}
+use Rattle.log_check.specs.declared.Checked.the-variants as checked
+use Rattle.log_check.specs.Check.{checkLog}
+use Rattle.log_check.specs.Sound.{soundRecords}
+use Rattle.log_check.proofs.Laws.{isFine}
+use Rattle.log_check.proofs.Sound.{all-sound}
 use Rattle.judge.specs.declared.JudgeAnswer.the-variants.{Judged, NoChart, Refused}
 use Rattle.judge.specs.declared.Judgement.{Judgement}
-use Rattle.judge.specs.Check.{checkLog}
 use Rattle.judge.specs.Judge.{judgeOf}
 use Rattle.judge.specs.Verdict.{verdictOf, said}
 use Rattle.judge.specs.Parts.{verdictBy}
-use Rattle.judge.proofs.Fed.{verdict-same}
+use Rattle.judge.proofs.Stands.{verdict-same}
 
 pub half-fits : (c : Chart) → wellFormed c ≡ true → c .prechart ≤ mostRegions
 half-fits c e =
@@ -48,10 +54,13 @@ module _ (c : Chart) (s : List ℕ) where
   judged-refused r k o w q e = rw (w, q) (ap said e)
 
   pub judged-fine : (v : Verdict) (m : Monitor) (n : ℕ) → wellFormed c ≡ true → Given c → checkLog s ≡ checked.Fine n
-      → monitorAt m ≡ after (chartOf c) (logged (recordsIn s)) → v ≡ verdictBy (c .prechart) m
+      → monitorAt m ≡ after (chartOf c) (logged (soundRecords s)) → v ≡ verdictBy (c .prechart) m
       → said (record { answer = Judged; verdict = v }) ≡ judgeOf c s
   unfolding judgeOf
-  judged-fine v m n w g q a e =
+  judged-fine v m n w g q b e =
+      let all : soundRecords s ≡ recordsIn s = all-sound s (ap isFine q) in
+      let a : monitorAt m ≡ after (chartOf c) (logged (recordsIn s)) =
+      b ∙ ap (λ (es : Snoc Record). after (chartOf c) (logged es)) all in
       let fit : Fit (chartOf c) (monitorAt m) =
       subst (λ (x : AbstractMonitor). Fit (chartOf c) x) (sym a)
       (after-fit (chartOf c) (shown c g .accepted) (logged (recordsIn s))) in

@@ -1,6 +1,2 @@
-pub mod Laws
-pub mod Steps
-pub mod Fed
-pub mod Moments
-pub mod Going
+pub mod Stands
 pub mod Judging

@@ -1,4 +1,5 @@
--- Judging a whole log, as it is computed (J1 to J6): 20, then the whole log checked, then each record fed.
+-- Judging a whole log (J1 to J6): 20, then the whole log checked, then each record fed. It is computed in one pass; that
+-- all are checked before one is fed is said of what comes out.
 use mathlib.Core.Bool.{cond, not}
 use mathlib.Core.List.{List}
 use Prim.Native.Nat.{ℕ}
@@ -9,10 +10,10 @@ use Rattle.chart_value.specs.View.{chartOf}
 use Rattle.rounds.specs.Machine.{after}
 use Rattle.chart_value.specs.Records.{logged}
 use Rattle.log_clock.specs.Records.{recordsIn}
-use Rattle.judge.specs.declared.Checked.{Checked}
-use Rattle.judge.specs.declared.Checked.the-variants as checked
-use Rattle.judge.specs.Verdict.{logRefusalNumber, verdictOf, Said}
-use Rattle.judge.specs.Check.{checkLog}
+use Rattle.log_check.specs.declared.Checked.{Checked}
+use Rattle.log_check.specs.declared.Checked.the-variants as checked
+use Rattle.log_check.specs.Check.{logRefusalNumber, checkLog}
+use Rattle.judge.specs.Verdict.{verdictOf, Said}
 
 -- the verdict over a log that was checked: its records, fed one after the other to a fresh monitor
 abbrev pub byCheck : Chart → List ℕ → Checked → Said

@@ -1,4 +1,3 @@
 pub mod Verdict
-pub mod Check
 pub mod Judge
 pub mod Parts

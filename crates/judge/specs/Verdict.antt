@@ -1,26 +1,17 @@
--- What judging a log says: the refusals and their numbers, the standing and the verdict of a monitor (J3, J6 to J8).
+-- What judging a log says: the standing and the verdict of a monitor (J6 to J8), and the number of each answer.
 use mathlib.Core.Bool.{cond, not}
 use Prim.Native.Nat.{ℕ}
 use lib.Dec.{eqb}
 use Rattle.model.specs.declared.Verdict.{Verdict}
-use Rattle.model.specs.Answers.{notAChart, tooManyRecords, verdictFrom}
+use Rattle.model.specs.Answers.{notAChart, verdictFrom}
 use Rattle.base.specs.Lists.{allBelow}
 use Rattle.rounds.specs.Chart.{Chart as Abstract}
 use Rattle.rounds.specs.Tally.{Tally}
 use Rattle.rounds.specs.Machine.{Monitor as AbstractMonitor, prechartDone}
-use Rattle.log_reader.specs.Record.{recordRefusalNumber}
-use Rattle.log_clock.specs.Clock.{momentRefusalNumber}
-use Rattle.judge.specs.declared.LogRefusal.{LogRefusal}
-use Rattle.judge.specs.declared.LogRefusal.the-variants.{NoRecord, NoMoment, TooManyRecords}
+use Rattle.log_check.specs.Check.{logRefusalNumber}
 use Rattle.judge.specs.declared.JudgeAnswer.{JudgeAnswer}
 use Rattle.judge.specs.declared.JudgeAnswer.the-variants.{Judged, NoChart, Refused}
 use Rattle.judge.specs.declared.Judgement.{Judgement}
-
--- J3: 31 and 30 as in E, 32, 22 and 24 as a record has no moment, 23 too many records
-abbrev pub logRefusalNumber : LogRefusal → ℕ
-logRefusalNumber (NoRecord k) = recordRefusalNumber k
-logRefusalNumber (NoMoment f) = momentRefusalNumber f
-logRefusalNumber TooManyRecords = tooManyRecords
 
 -- J8: the standing
 abbrev pub broken : ℕ

@@ -13,7 +13,7 @@ use Rattle.rounds.specs.Machine.{Fit}
 use Rattle.stepping.specs.Monitors.{monitorAt}
 use Rattle.monitor.specs.Fit.{fits}
 use Rattle.judge.specs.Parts.{verdictBy}
-use Rattle.judge.proofs.Fed.{verdict-same}
+use Rattle.judge.proofs.Stands.{verdict-same}
 use Rattle.live.specs.declared.LiveVerdict.{LiveVerdict}
 use Rattle.live.specs.Live.{standingBy}
 

@@ -13,10 +13,10 @@ use Rattle.chart_reader.specs.Said.{Said}
 use Rattle.chart_value.specs.WellFormed.{wellFormed}
 use Rattle.log_reader.specs.declared.RecordRefusal.the-variants.{CutShort, UnknownByte}
 use Rattle.log_clock.specs.declared.MomentRefusal.the-variants.{Mixed, Falls, TooLate}
-use Rattle.judge.specs.declared.LogRefusal.the-variants.{NoRecord, NoMoment, TooManyRecords}
-use Rattle.judge.specs.declared.Checked.{Checked}
-use Rattle.judge.specs.declared.Checked.the-variants as checked
-use Rattle.judge.specs.Check.{checkLog}
+use Rattle.log_check.specs.declared.LogRefusal.the-variants.{NoRecord, NoMoment, TooManyRecords}
+use Rattle.log_check.specs.declared.Checked.{Checked}
+use Rattle.log_check.specs.declared.Checked.the-variants as checked
+use Rattle.log_check.specs.Check.{checkLog}
 use Rattle.judge.specs.Judge.{byCheck, judgeOf}
 use Rattle.respond.specs.Respond.{logReport, chartReport, partsReport}
 use Rattle.chart_reader.proofs.Ends.{Reads, accepts, refuses, reads}

@@ -1,4 +1,7 @@
-// V18: the exported function that reads one record. 0 is success, 12 a buffer with too few places.
+// V18, V19: the exported functions that read one record, and that ask whether a log breaks a chart. 0 is success, 12 a
+// buffer with too few places.
+use breaks::BreakAnswer;
+use chart_reader::ChartAnswer;
 use log_reader::Next;
 use model::Message;
 use model::RawRecord;
@@ -9,8 +12,11 @@ ghost use mathlib.Core.List.{[], _∷_};
 ghost use Prim.Native.Nat.{_≤_};
 ghost use lib.ListN.{length};
 ghost use Rattle.log_reader.specs.Next.{nextAt};
+ghost use Rattle.breaks.specs.Breaks.{breakNumber};
 ghost use Rattle.lsc_more.specs.More.{recordPlaces, messageNumbers, timeNumbers, plainNumbers, rawNumbers};
 ghost use Rattle.lsc_more.specs.More.{recordNumbers, nextNumber, startingWith, readNumber, readOut};
+ghost use Rattle.lsc_more.specs.Breaks.{breaksPlaces, refusalNumbers, answerNumbers};
+ghost use Rattle.lsc_more.specs.Breaks.{breaksNumber, breaksOut};
 
 // How many places of a buffer a record takes.
 const RECORD_PLACES: usize = 6;
@@ -25,6 +31,14 @@ const TIME: u64 = 2;
 const RAW_MESSAGE: u64 = 3;
 
 const RAW_TIME: u64 = 4;
+
+// How many places of a buffer the answer takes, whether a log breaks a chart.
+const BREAKS_PLACES: usize = 3;
+
+// The part that a refusal speaks of.
+const CHART_PART: u64 = 1;
+
+const LOG_PART: u64 = 2;
 
 // Puts six numbers at the start of a buffer.
 fn put_six(out: &mut [u64], a: u64, b: u64, c: u64, d: u64, e: u64, f: u64)
@@ -119,4 +133,66 @@ pub extern "C" fn lsc_read_record(log: &[u8], place: usize, out: &mut [u64]) -> 
         return TOO_SHORT;
     }
     put_next(out, place, log_reader::read_record(log, place))
+}
+
+// Puts three numbers at the start of a buffer.
+fn put_three(out: &mut [u64], a: u64, b: u64, c: u64)
+    requires { ⌜ breaksPlaces ≤ length (now out) ⌝ }
+    ensures { λ r. ⌜ now (out .exit) ≡ startingWith (a ∷ b ∷ c ∷ []) (now (out .entry)) ⌝ }
+{
+    out[0] = a;
+    out[1] = b;
+    out[2] = c;
+}
+
+// Puts a refusal's part, number and offset, and gives its number to return.
+fn put_refusal(out: &mut [u64], part: u64, number: u8, offset: usize) -> u8
+    requires { ⌜ breaksPlaces ≤ length (now out) ⌝ }
+    ensures number { λ r. ⌜ r ≡ number ⌝ }
+    ensures numbers { λ r. ⌜ now (out .exit) ≡ startingWith (refusalNumbers part number offset) (now (out .entry)) ⌝ }
+{
+    put_three(out, part, number as u64, offset as u64);
+    number
+}
+
+// Puts the numbers of an answer, and gives the number to return.
+fn put_answer(out: &mut [u64], answer: BreakAnswer) -> u8
+    requires { ⌜ breaksPlaces ≤ length (now out) ⌝ }
+    ensures number { λ r. ⌜ r ≡ breakNumber answer ⌝ }
+    ensures numbers { λ r. ⌜ now (out .exit) ≡ startingWith (answerNumbers answer) (now (out .entry)) ⌝ }
+{
+    match answer {
+        BreakAnswer::Yes => {
+            put_three(out, 1, 0, 0);
+            0
+        }
+        BreakAnswer::No => {
+            put_three(out, 0, 0, 0);
+            0
+        }
+        BreakAnswer::NoChart => put_refusal(out, LOG_PART, model::NOT_A_CHART, 0),
+        BreakAnswer::Refused(k, offset) => {
+            put_refusal(out, LOG_PART, log_check::refusal_number(k), offset)
+        }
+    }
+}
+
+// K1 to K4: asks whether a log breaks a chart.
+#[no_mangle]
+pub extern "C" fn lsc_breaks(chart: &[u8], log: &[u8], out: &mut [u64]) -> u8
+    ensures number { λ r. ⌜ r ≡ breaksNumber (now (chart .entry)) (now (log .entry)) (now (out .entry)) ⌝ }
+    ensures numbers { λ r. ⌜ now (out .exit) ≡ breaksOut (now (chart .entry)) (now (log .entry)) (now (out .entry)) ⌝ }
+    ensures unchanged { λ r. ⌜ (now (chart .exit) ≡ now (chart .entry)) × (now (log .exit) ≡ now (log .entry)) ⌝ }
+{
+    if out.len() < BREAKS_PLACES {
+        return TOO_SHORT;
+    }
+    let read = chart_reader::read(chart);
+    let answer = read.answer;
+    match answer {
+        ChartAnswer::Refused(refusal, offset) => {
+            put_refusal(out, CHART_PART, chart_step::number(refusal), offset)
+        }
+        ChartAnswer::Accepted => put_answer(out, breaks::breaks(read.chart, log)),
+    }
 }

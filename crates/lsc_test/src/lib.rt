@@ -1,6 +1,7 @@
-// V16: the exported functions that only tests use: a monitor made and fed by its image, and the check of a log. 12 is a
-// buffer with too few places.
-use judge::Checked;
+// V16: the exported functions that only tests use: a monitor made and fed by its image, the check of a log, and whether
+// a log breaks the chart in an image. 12 is a buffer with too few places.
+use breaks::BreakAnswer;
+use log_check::Checked;
 use model::Message;
 use model::Moment;
 use model::Record;
@@ -9,9 +10,11 @@ use monitor::MadeAnswer;
 ghost use mathlib.Core.Path.{_≡_};
 ghost use Rattle.model.specs.declared.Record.the-variants.{Message as MessageAt, Time as TimeAt};
 ghost use Rattle.monitor.specs.Feed.{madeNumber};
-ghost use Rattle.judge.specs.Check.{checkLog};
+ghost use Rattle.log_check.specs.Check.{checkLog};
 ghost use Rattle.lsc_test.specs.Images.{newNumber, newBytes, FedImage};
-ghost use Rattle.lsc_test.specs.Checks.{checkedCount};
+ghost use Rattle.chart_image.specs.ChartImage.{chartValue};
+ghost use Rattle.breaks.specs.Breaks.{breaksOf};
+ghost use Rattle.lsc_test.specs.Checks.{checkedCount, askedCode};
 
 // What the check returns for a refused log: more than any log without a fault has.
 const REFUSED: u32 = 1_000_001;
@@ -23,6 +26,18 @@ fn made_number(a: MadeAnswer) -> u8
     match a {
         MadeAnswer::Fresh => 0,
         MadeAnswer::NoChart => model::NOT_A_CHART,
+    }
+}
+
+// The number of the answer whether a log breaks a chart.
+fn asked_code(a: BreakAnswer) -> u8
+    ensures { λ r. ⌜ r ≡ askedCode a ⌝ }
+{
+    match a {
+        BreakAnswer::No => 0,
+        BreakAnswer::Yes => 1,
+        BreakAnswer::NoChart => model::NOT_A_CHART,
+        BreakAnswer::Refused(k, _) => log_check::refusal_number(k),
     }
 }
 
@@ -93,9 +108,18 @@ pub extern "C" fn lsc_test_check(log: &[u8]) -> u32
     ensures count { λ r. ⌜ r ≡ checkedCount (checkLog (now (log .entry))) ⌝ }
     ensures unchanged { λ r. ⌜ now (log .exit) ≡ now (log .entry) ⌝ }
 {
-    let checked = judge::check_log(log);
+    let checked = log_check::check_log(log);
     match checked {
         Checked::Fine(n) => n,
         Checked::Refused(_, _) => REFUSED,
     }
+}
+
+// Asks whether a log breaks the chart value in an image.
+#[no_mangle]
+pub extern "C" fn lsc_test_breaks(chart: &[u8], log: &[u8]) -> u8
+    ensures number { λ r. ⌜ r ≡ askedCode (breaksOf (chartValue (now (chart .entry))) (now (log .entry))) ⌝ }
+    ensures unchanged { λ r. ⌜ (now (chart .exit) ≡ now (chart .entry)) × (now (log .exit) ≡ now (log .entry)) ⌝ }
+{
+    asked_code(breaks::breaks(chart_image::chart_at(chart), log))
 }

@@ -14,11 +14,11 @@ use Rattle.chart_reader.specs.declared.ChartAnswer.the-variants as read
 use Rattle.chart_reader.specs.Said as read-specs
 use Rattle.log_reader.specs.declared.RecordRefusal.the-variants as bytes
 use Rattle.log_clock.specs.declared.MomentRefusal.the-variants as moment
-use Rattle.judge.specs.declared.LogRefusal.{LogRefusal}
-use Rattle.judge.specs.declared.LogRefusal.the-variants as log
+use Rattle.log_check.specs.declared.LogRefusal.{LogRefusal}
+use Rattle.log_check.specs.declared.LogRefusal.the-variants as log
 use Rattle.judge.specs.declared.JudgeAnswer.{JudgeAnswer}
 use Rattle.judge.specs.declared.JudgeAnswer.the-variants as judge
-use Rattle.judge.specs.Verdict.{logRefusalNumber}
+use Rattle.log_check.specs.Check.{logRefusalNumber}
 use Rattle.judge.specs.Verdict as judge-specs
 use Rattle.listing.specs.declared.Part.the-variants as part
 use Rattle.listing.specs.declared.Report.{Report}

@@ -46,7 +46,7 @@ fn report_log(j: Judgement) -> Report
         JudgeAnswer::Judged => Report::Judged(verdict),
         JudgeAnswer::NoChart => Report::Refused(Part::Log, model::NOT_A_CHART, 0),
         JudgeAnswer::Refused(k, offset) => {
-            Report::Refused(Part::Log, judge::refusal_number(k), offset)
+            Report::Refused(Part::Log, log_check::refusal_number(k), offset)
         }
     }
 }

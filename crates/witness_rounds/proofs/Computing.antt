@@ -19,7 +19,7 @@ use Rattle.paper.proofs.Offering.{unplaceable, caseFor}
 use Rattle.paper.proofs.Taking.{number}
 use Rattle.log_clock.specs.Dated.{datedAt}
 use Rattle.log_clock.specs.Records.{recordsFrom, recordsIn}
-use Rattle.judge.specs.Check.{stepAt, checkFrom, checkLog}
+use Rattle.log_check.specs.Check.{stepAt, checkFrom, checkLog}
 use Rattle.judge.specs.Judge.{judgeOf}
 use Rattle.judge.specs.Verdict.{standingOf}
 

@@ -19,9 +19,11 @@ use Rattle.monitor.specs.Fit.{fits}
 use Rattle.monitor.specs.Feed.{feedOf}
 use Rattle.log_clock.specs.Dated.{datedAt}
 use Rattle.log_clock.specs.Records.{recordsFrom, recordsIn}
-use Rattle.judge.specs.Check.{stepAt, checkFrom, checkLog}
+use Rattle.log_check.specs.Check.{stepAt, checkFrom, checkLog}
+use Rattle.log_check.specs.Sound.{soundFrom, soundRecords}
 use Rattle.judge.specs.Judge.{judgeOf}
 use Rattle.judge.specs.Verdict.{standingOf}
+use Rattle.breaks.specs.Breaks.{breaksOf}
 use Rattle.text.specs.Text.{bytesOf, digitsOf}
 use Rattle.listing.specs.Listing.{verdictLines, refusalLine}
 use Rattle.respond.specs.Respond.{partsReport, reportOf, textOf}
@@ -32,11 +34,12 @@ use Rattle.witnesses.specs.Rounds.{conditions, clocks, causes, orders, l
 use Rattle.witnesses.specs.Feeds.{Answers, feeds, fitness, Stores, breaks}
 use Rattle.witnesses.specs.Offers.{offers, offered, counts, Leads, leads}
 use Rattle.witnesses.specs.Raw.{Reads, readings, raws}
+use Rattle.witnesses.specs.Asked.{Asks, asks}
 use Rattle.witnesses.specs.Formats.{Prints, texts, Checks, checks, LogNumbers, Formats}
 
 -- every definition that the lines look into
 computed : Unit {0}
-unfolding contains single inserted union isSubset within isOver gathered aboveSets readChart readFrom advanceOf isZeroTerm termPlaced termsFit regionFits isZeroRegion touchedBefore regionPlaced wellFormed conditionOf chartMessage plain values opened ready readyFor readyPlain fire unfired tryRegion settle takeMessage opening full prechartDone goOn keepRound dropRound breakRound conclude offer missed fitsOpening reopened accept feed after closedUpward restsUnlessBroken momentsFit causeFits breakFits countsFit placeFits fits feedOf datedAt recordsFrom recordsIn stepAt checkFrom checkLog standingOf judgeOf bytesOf digitsOf verdictLines refusalLine partsReport reportOf
+unfolding contains single inserted union isSubset within isOver gathered aboveSets readChart readFrom advanceOf isZeroTerm termPlaced termsFit regionFits isZeroRegion touchedBefore regionPlaced wellFormed conditionOf chartMessage plain values opened ready readyFor readyPlain fire unfired tryRegion settle takeMessage opening full prechartDone goOn keepRound dropRound breakRound conclude offer missed fitsOpening reopened accept feed after closedUpward restsUnlessBroken momentsFit causeFits breakFits countsFit placeFits fits feedOf datedAt recordsFrom recordsIn stepAt checkFrom checkLog soundFrom soundRecords standingOf judgeOf breaksOf bytesOf digitsOf verdictLines refusalLine partsReport reportOf
 computed = tt
 
 refusals-said : Each Says refusals
@@ -262,6 +265,10 @@ records-checked = (refl, (refl, (refl, (refl, (refl, (refl, (refl, (refl, (refl,
 log-numbers : LogNumbers
 log-numbers = record { most = refl; too-many = refl; mixed = refl; falls = refl; too-late = refl }
 
+breaks-asked : Each Asks asks
+unfolding computed
+breaks-asked = (refl, (refl, (refl, (refl, (refl, (refl, (refl, (refl, (refl, (refl, (refl, (refl, (refl, (refl, (refl, (refl, (refl, (refl, (refl, (refl, (refl, (refl, (refl, (refl, (refl, (refl, (refl, (refl, (refl, (refl, (refl, (refl, (refl, (refl, (refl, tt)))))))))))))))))))))))))))))))))))
+
 pub formats-hold : Formats
 formats-hold =
     record {
@@ -283,6 +290,7 @@ formats-hold =
       raws-said = raws-said;
       records-read = records-read;
       records-checked = records-checked;
+      breaks-asked = breaks-asked;
       log-numbers = log-numbers;
       input-40 = input-40;
       input-41 = input-41;

@@ -8,13 +8,12 @@ use Rattle.model.specs.Answers.{mostRecords}
 use Rattle.log_clock.specs.declared.Kind.{Kind}
 use Rattle.log_clock.specs.declared.Kind.the-variants.{Unset, Plain, Raw}
 use Rattle.log_clock.specs.declared.MomentRefusal.the-variants as moment
-use Rattle.judge.specs.declared.LogRefusal.{LogRefusal}
-use Rattle.judge.specs.declared.LogRefusal.the-variants as log
-use Rattle.judge.specs.declared.Checked.the-variants as checked
-use Rattle.judge.specs.declared.CheckStep.{CheckStep}
-use Rattle.judge.specs.declared.CheckStep.the-variants as check
-use Rattle.judge.specs.Check.{stepAt}
-use Rattle.judge.specs.Verdict.{logRefusalNumber}
+use Rattle.log_check.specs.declared.LogRefusal.{LogRefusal}
+use Rattle.log_check.specs.declared.LogRefusal.the-variants as log
+use Rattle.log_check.specs.declared.Checked.the-variants as checked
+use Rattle.log_check.specs.declared.CheckStep.{CheckStep}
+use Rattle.log_check.specs.declared.CheckStep.the-variants as check
+use Rattle.log_check.specs.Check.{logRefusalNumber, stepAt}
 use Rattle.text.specs.Text.{bytesOf}
 use Rattle.respond.specs.Respond.{textOf}
 use Rattle.claims.specs.Examples.{chartU, Says}
@@ -25,6 +24,7 @@ use Rattle.witnesses.specs.Rounds.{conditions, clocks, causes, orders, l
 use Rattle.witnesses.specs.Feeds.{Answers, feeds, fitness, Stores, breaks}
 use Rattle.witnesses.specs.Offers.{offers, offered, counts, Leads, leads}
 use Rattle.witnesses.specs.Raw.{Reads, readings, raws}
+use Rattle.witnesses.specs.Asked.{Asks, asks}
 
 -- an input, and the text that is printed for it
 pub record Print : Type 0 where
@@ -137,6 +137,7 @@ pub record Formats : Type 0 where
   pub raws-said : Each Says raws
   pub records-read : Each Reads readings
   pub records-checked : Each Checks checks
+  pub breaks-asked : Each Asks asks
   pub log-numbers : LogNumbers
   -- an input of over 65,536 bytes is 40; of 65,536 bytes, with a length of 65,535, it is 41
   pub input-40 : (s : List ℕ) → 65536 < length s → textOf s ≡ bytesOf "refused input 40 at 0\n"

@@ -5,4 +5,5 @@ pub mod Rounds
 pub mod Feeds
 pub mod Offers
 pub mod Raw
+pub mod Asked
 pub mod Formats

@@ -1,9 +1,8 @@
--- `judge::judge` meets its contract: the tests in their order, then the verdict. Assumes nothing.
-use mathlib.Core.Path.{refl, sym, ap, _∙_}
+-- `judge::judge` meets its contract: the check from where the pass stopped gives what the whole gives. Assumes nothing.
+use mathlib.Core.Path.{refl, sym, _∙_}
 use borrow.Author.Tests.{not-true, not-false}
 use Rattle.judge.proofs.Judging.{half-fits, judged-no-chart, judged-refused, judged-fine}
 use borrow.Author.Needs.{needs}
-use Rattle.judge.specs.Parts.{isFine}
 use Rattle.judge.proofs.judge.Statement.{statement}
 use Rattle.judge.proofs.judge.Tie as tie
 
@@ -20,11 +19,14 @@ returns c = (
   refl,
 )
 
-check-log-requires : tie.Need-check-log-requires
-check-log-requires c κs = search needs
+pass-requires : tie.Need-pass-requires
+pass-requires c κs = sym (c .before .well-formed .ensures .0) ∙ not-false _ (c .if1 .left)
 
-enum-known-checked : tie.Need-enum-known-checked
-enum-known-checked c = search needs
+check-rest-requires : tie.Need-check-rest-requires
+check-rest-requires c κs = search needs
+
+enum-known-rest : tie.Need-enum-known-rest
+enum-known-rest c = search needs
 
 refused-requires-2 : tie.Need-refused-requires-2
 refused-requires-2 c κs = search needs
@@ -32,41 +34,28 @@ refused-requires-2 c κs = search needs
 enum-told : tie.Need-enum-told
 enum-told c = search needs
 
-feed-log-requires : tie.Need-feed-log-requires
-feed-log-requires c κs = (
-  sym (c .before .before .before .before .well-formed .ensures .0) ∙ not-false _ (c .before .before .before .if1 .left),
-  ap isFine (sym (c .before .before .check-log .ensures .0) ∙ c .enum-told .given .1),
-)
-
 cast-verdict-of : tie.Need-cast-verdict-of
 cast-verdict-of c = search needs
 
 verdict-of-requires : tie.Need-verdict-of-requires
 verdict-of-requires c κs =
-    half-fits (c .before .before .before .before .before .before .before .before .args .chart)
-    (sym (c .before .before .before .before .before .before .well-formed .ensures .0)
-    ∙ not-false _ (c .before .before .before .before .before .if1 .left))
+    half-fits (c .before .before .before .before .before .before .before .before .before .args .chart)
+    (sym (c .before .before .before .before .before .before .before .well-formed .ensures .0) ∙ not-false _ (c .before .before .before .before .before .before .if1 .left))
 
 returns-2 : tie.Need-returns-2
 returns-2 c = (
-  judged-refused _ _ _ _ _
-      (sym (c .before .before .before .before .before .before .well-formed .ensures .0)
-      ∙ not-false _ (c .before .before .before .before .before .if1 .left))
-      (sym (c .before .before .before .before .check-log .ensures .0) ∙ c .before .before .checked .given .1)
+  judged-refused _ _ _ _ _ (sym (c .before .before .before .before .before .before .before .before .well-formed .ensures .0) ∙ not-false _ (c .before .before .before .before .before .before .before .if1 .left))
+      (sym (c .before .before .before .before .before .before .pass .ensures .1 .0) ∙ sym (c .before .before .before .before .check-rest .ensures .0) ∙ c .before .before .rest .given .1)
       (c .refused2 .ensures),
   refl,
 )
 
 returns-3 : tie.Need-returns-3
 returns-3 c = (
-  judged-fine _ _ _ _ _
-      (sym (c .before .before .before .before .before .before .before .well-formed .ensures .0)
-      ∙ not-false _ (c .before .before .before .before .before .before .if1 .left))
-      (c .before .before .before .before .before .before .before .well-formed .ensures .1 .0
-      (not-false _ (c .before .before .before .before .before .before .if1 .left)))
-      (sym (c .before .before .before .before .before .check-log .ensures .0)
-      ∙ c .before .before .before .enum-told .given .1) (c .before .before .feed-log .ensures)
-      (c .verdict-of .ensures),
+  judged-fine _ _ _ _ _ (sym (c .before .before .before .before .before .before .before .before .well-formed .ensures .0) ∙ not-false _ (c .before .before .before .before .before .before .before .if1 .left))
+      (c .before .before .before .before .before .before .before .before .well-formed .ensures .1 .0 (not-false _ (c .before .before .before .before .before .before .before .if1 .left)))
+      (sym (c .before .before .before .before .before .before .pass .ensures .1 .0) ∙ sym (c .before .before .before .before .check-rest .ensures .0) ∙ c .before .before .enum-told .given .1)
+      (c .before .before .before .before .before .before .pass .ensures .0) (c .verdict-of .ensures),
   refl,
 )
 
@@ -77,11 +66,11 @@ judge-spec =
     well-formed-requires
     refused-requires
     returns
-    check-log-requires
-    enum-known-checked
+    pass-requires
+    check-rest-requires
+    enum-known-rest
     refused-requires-2
     enum-told
-    feed-log-requires
     cast-verdict-of
     verdict-of-requires
     returns-2

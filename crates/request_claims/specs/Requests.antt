@@ -1,0 +1,20 @@
+-- How the operations that were asked for later stand to the ones before, on one page.
+use mathlib.Core.Path.{_≡_}
+use mathlib.Core.Logic.{_≢_, _↔_}
+use mathlib.Core.List.{List}
+use Prim.Native.Nat.{ℕ}
+use Rattle.model.specs.declared.Chart.{Chart}
+use Rattle.judge.specs.Verdict as judge
+use Rattle.breaks.specs.declared.BreakAnswer.{BreakAnswer}
+use Rattle.breaks.specs.declared.BreakAnswer.the-variants.{Yes}
+use Rattle.breaks.specs.Breaks.{breakNumber, breakOffset}
+use Rattle.claims.specs.Demand1.{JudgesAs}
+use Rattle.request_claims.specs.Breaks.{BreaksAs}
+
+pub record Requests : Type 0 where
+  -- K5: of a log that judging accepts the answer is yes exactly if its verdict has a break
+  pub breaks-judged : (c : Chart) (log : List ℕ) (r : judge.Said) (b : BreakAnswer) → JudgesAs c log r → BreaksAs c log b
+      → r .number ≡ 0 → (b ≡ Yes) ↔ (r .verdict .broken ≢ 0)
+  -- and where the answer is not yes, number and offset are those that judging has
+  pub breaks-refused : (c : Chart) (log : List ℕ) (r : judge.Said) (b : BreakAnswer) → JudgesAs c log r
+      → BreaksAs c log b → b ≢ Yes → (breakNumber b ≡ r .number) × (breakOffset b ≡ r .offset)
