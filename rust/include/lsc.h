@@ -2,10 +2,10 @@
  * lsc.h: Silunovam, which watches programs by live sequence charts; proved from bytes to bytes.
  *
  * Link with liblsc.a (whole logs), liblsc_live.a (live monitors) and liblsc_more.a (one record of
- * a log). The functions keep no state and no pointer, allocate nothing, and may be called from
- * several threads at once on different bytes. Every content of the bytes is allowed; only the
- * pointers and lengths must be valid, and bytes written must not overlap bytes read. A pointer
- * with length 0 must still not be NULL.
+ * a log, and whether a log breaks a chart). The functions keep no state and no pointer, allocate
+ * nothing, and may be called from several threads at once on different bytes. Every content of the
+ * bytes is allowed; only the pointers and lengths must be valid, and bytes written must not overlap
+ * bytes read. A pointer with length 0 must still not be NULL.
  *
  * Numbers in charts, logs and live monitors stand most significant byte first.
  *
@@ -45,9 +45,10 @@ extern "C" {
 #define LSC_STANDS_OWED 2     /* the main chart is owed */
 #define LSC_STANDS_BROKEN 3   /* broken, for good */
 
-/* Places of a verdict and of a record, and the room that lsc_print wants. */
+/* Places of a verdict, of a record and of lsc_breaks, and the room that lsc_print wants. */
 #define LSC_VERDICT_PLACES 8
 #define LSC_RECORD_PLACES 6
+#define LSC_BREAKS_PLACES 3
 #define LSC_TEXT_ROOM 223
 
 /* Kinds of a record, the first number of lsc_read_record. */
@@ -57,7 +58,7 @@ extern "C" {
 #define LSC_RECORD_RAW_MESSAGE 3 /* a message with a raw stamp */
 #define LSC_RECORD_RAW_TIME 4    /* time alone, with a raw stamp */
 
-/* The part at fault, after a refused lsc_judge. */
+/* The part at fault, after a refused lsc_judge or lsc_breaks. */
 #define LSC_PART_CHART 1
 #define LSC_PART_LOG 2
 
@@ -165,6 +166,21 @@ uint8_t lsc_standing(const uint8_t *live, size_t live_length,
  */
 uint8_t lsc_read_record(const uint8_t *log, size_t log_length, size_t place,
                         uint64_t *out, size_t out_length);
+
+/*
+ * Says only whether a log breaks a chart. The chart is read first, then the log record by record,
+ * each checked and then taken, up to the end or a break: nothing behind a break is read. For every
+ * log that lsc_judge accepts, the answer is yes if its standing is LSC_STANDS_BROKEN, else no. A
+ * fault is refused as in lsc_judge unless a break comes before it; then the answer is yes.
+ *
+ * Returns 0, and out[0..2] = 1 for yes or 0 for no, and two zeros; or the refusal's number (chart 1
+ * to 11; log 22, 23, 24, 30, 31, 32), and out[0..2] = part, number, offset within the part; or 12
+ * if out has fewer than 3 places, tested first, and out stays as it was. Places of out beyond the
+ * third stay as they were.
+ */
+uint8_t lsc_breaks(const uint8_t *chart, size_t chart_length,
+                   const uint8_t *log, size_t log_length,
+                   uint64_t *out, size_t out_length);
 
 #ifdef __cplusplus
 }

@@ -1,5 +1,5 @@
 //! Links the static libraries: `lsc` for whole logs, `lsc_live` for live monitors, `lsc_more` for
-//! one record of a log.
+//! one record of a log and for whether a log breaks a chart.
 
 #[path = "../archives.rs"]
 mod archives;

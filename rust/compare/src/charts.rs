@@ -1,9 +1,9 @@
 //! Fixed charts, and long logs that mostly keep their rounds.
 
 use crate::fast::{Plan, State};
-use crate::random::{self, log_pieces, Rng, Size};
+use crate::random::{self, Rng, Size};
 use lsc_reference::examples::CHART_U;
-use lsc_reference::log::read_log;
+use lsc_reference::log::{read_log, write_log};
 use lsc_reference::reader::read_chart;
 use lsc_reference::record::{LogRecord, RawRecord, Stamp};
 use lsc_reference::value::*;
@@ -124,28 +124,23 @@ pub fn raw_log(log: &[u8], first: u32) -> Vec<u8> {
 }
 
 /// The given log with one record changed so that it breaks its chart, one with a prechart, as
-/// soon as the main chart is owed: the message of region 1 comes once more.
-pub fn breaking_log(chart: &ChartValue, log: &[u8]) -> Vec<u8> {
+/// soon as the main chart is owed from record `from` (from 0) on: the message of region 1 comes
+/// once more.
+pub fn breaking_log(chart: &ChartValue, log: &[u8], from: usize) -> Vec<u8> {
     let plan = Plan::of(chart).expect("an accepted chart");
+    let mut records = read_log(log).expect("the log has no fault");
     let mut state = State::FRESH;
-    let mut broken = Vec::with_capacity(log.len());
-    for piece in log_pieces(log) {
-        let Some(record) = RecordValue::from_bytes(&piece) else {
-            continue;
-        };
-        if state.broken.is_some() {
-            broken.extend(piece);
-            continue;
-        }
-        let mut next = record;
+    for (place, record) in records.iter_mut().enumerate() {
         let again = message(&chart.regions[0], record.time());
-        if let Answer::Broken(_) = plan.take_record(&mut state.clone(), &again) {
-            next = again;
+        if place >= from {
+            if let Answer::Broken(_) = plan.take_record(&mut state.clone(), &again) {
+                *record = again;
+                break;
+            }
         }
-        plan.take_record(&mut state, &next);
-        broken.extend(next.to_bytes());
+        plan.take_record(&mut state, record);
     }
-    broken
+    write_log(&records)
 }
 
 fn next_record(rng: &mut Rng, chart: &ChartValue, plan: &Plan, state: &State) -> RecordValue {
@@ -202,9 +197,11 @@ mod tests {
         assert_eq!((chart.count, chart.prechart), (32, 8));
         assert!(chart.regions.iter().all(|region| region.term_count == 4));
         let log = keeping_log(&chart, 10_000, 1);
-        let verdict = judge(&chart, &breaking_log(&chart, &log)).unwrap();
-        let (record, ..) = Break::numbers(verdict.broken);
-        assert!((7..40).contains(&record), "{verdict:?}");
+        for (from, breaks_at) in [(0, 7..40), (5_000, 5_001..5_040)] {
+            let verdict = judge(&chart, &breaking_log(&chart, &log, from)).unwrap();
+            let (record, ..) = Break::numbers(verdict.broken);
+            assert!(breaks_at.contains(&record), "{verdict:?}");
+        }
         let verdict = judge(&chart, &log).unwrap();
         assert_eq!(judge(&chart, &raw_log(&log, u32::MAX - 99)), Ok(verdict));
         assert!(verdict.kept > 350, "{verdict:?}");

@@ -1,11 +1,13 @@
 //! Counts of what a run of tests has reached.
 
+use crate::asked::{self, Asked};
 use crate::fitness::{self, FIT, UNFIT};
 use crate::outcomes::{outcomes, Outcome};
 use lsc_reference::log::Verdict;
 use lsc_reference::monitor::{feed_fit, Order};
 use lsc_reference::value::*;
 use std::collections::BTreeMap;
+use std::fmt::Display;
 
 /// The refusals of N9 except 12.
 pub const REFUSALS: [u8; 21] = [
@@ -33,6 +35,8 @@ pub struct Coverage {
     pub logs: Counts<(&'static str, Outcome)>,
     /// What reading one record came to.
     pub reads: Counts<&'static str>,
+    /// Kinds of comparison, and what asking whether a log breaks a chart came to in them.
+    pub asked: Counts<(&'static str, Asked)>,
 }
 
 /// The answers' names, broken once for each reason.
@@ -103,6 +107,19 @@ fn uncounted(what: &str, counts: &Counts<&'static str>, names: &[&'static str]) 
         .collect()
 }
 
+/// The names that were not counted in a kind of comparison.
+fn uncounted_in<K: Ord + Copy + Display>(
+    kind: &'static str,
+    counts: &Counts<(&'static str, K)>,
+    names: &[K],
+) -> Vec<String> {
+    names
+        .iter()
+        .filter(|name| !counts.contains_key(&(kind, **name)))
+        .map(|name| format!("{name}: {kind}"))
+        .collect()
+}
+
 impl Coverage {
     pub fn refusal(&mut self, code: u8) {
         count(&mut self.refusals, Some(code));
@@ -163,6 +180,25 @@ impl Coverage {
         count(&mut self.reads, Some(name));
     }
 
+    /// What asking came to, in a comparison of this kind.
+    pub fn asked(&mut self, kind: &'static str, name: Asked) {
+        count(&mut self.asked, Some((kind, name)));
+    }
+
+    /// The same for a log to which asking and judging answer so.
+    pub fn answered(
+        &mut self,
+        kind: &'static str,
+        chart: &ChartValue,
+        log: &[u8],
+        answer: &Result<bool, (u8, usize)>,
+        judged: &Result<Verdict, (u8, usize)>,
+    ) {
+        for name in asked::names(chart, log, answer, judged) {
+            self.asked(kind, name);
+        }
+    }
+
     /// An answer, to a round that was broken before or not.
     pub fn told(&mut self, again: bool, answer: &Answer) {
         self.answer(answer);
@@ -214,9 +250,10 @@ impl Coverage {
         add(&mut self.unfit, &other.unfit);
         add(&mut self.logs, &other.logs);
         add(&mut self.reads, &other.reads);
+        add(&mut self.asked, &other.asked);
     }
 
-    /// What was never reached; second offers, logs and single records aside.
+    /// What was never reached; second offers, logs, single records and yes or no aside.
     pub fn missing(&self) -> Vec<String> {
         let mut missing = Vec::new();
         for code in REFUSALS {
@@ -258,14 +295,16 @@ impl Coverage {
 
     /// What no log came to, in a kind of comparison.
     pub fn missing_logs(&self, kind: &'static str, names: &[Outcome]) -> Vec<String> {
-        let all = names.iter().map(|name| (kind, *name));
-        all.filter(|name| !self.logs.contains_key(name))
-            .map(|(kind, name)| format!("{name}: {kind}"))
-            .collect()
+        uncounted_in(kind, &self.logs, names)
     }
 
     /// What reading one record never came to.
     pub fn missing_reads(&self, names: &[&'static str]) -> Vec<String> {
         uncounted("read:", &self.reads, names)
+    }
+
+    /// What asking never came to, in a kind of comparison.
+    pub fn missing_asked(&self, kind: &'static str, names: &[Asked]) -> Vec<String> {
+        uncounted_in(kind, &self.asked, names)
     }
 }

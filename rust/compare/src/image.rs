@@ -93,6 +93,8 @@ fn put_region(region: &RegionValue, place: &mut [u8]) {
     }
 }
 
+/// Inlined as the term's is: a call would copy the value once more, and the benchmark times it.
+#[inline]
 fn get_region(place: &[u8]) -> Option<RegionValue> {
     let event = match place[..5] {
         [0, high, low, 0, 0] => EventValue::Plain(u16::from_be_bytes([high, low])),
@@ -115,6 +117,7 @@ fn get_region(place: &[u8]) -> Option<RegionValue> {
     Some(region)
 }
 
+#[inline]
 fn get_term(part: &[u8]) -> Option<TermValue> {
     let left = match part[..3] {
         [0, clock, 0] => LeftValue::Clock(clock),

@@ -1,10 +1,12 @@
-//! Fixed inputs at the limits: 1,000,000 records, plain and raw, twice as many rounds, the longest
-//! input, sizes that overflow.
+//! Fixed inputs at the limits: 1,000,000 records, plain and raw, that break or not, twice as many
+//! rounds, the longest input, sizes that overflow.
 
 use crate::charts;
 use crate::difference::{same, Both, Difference};
 use crate::image::{live_bytes, Image, LIVE_HEAD};
-use crate::kinds::{compare_bytes, compare_judge, compare_print, compare_values, Compare};
+use crate::kinds::{
+    compare_breaks, compare_bytes, compare_judge, compare_print, compare_values, Compare,
+};
 use crate::seen::Seen;
 use lsc::call;
 use lsc_reference::examples::{message, undo, CHART_U};
@@ -20,6 +22,7 @@ type Case = (&'static str, Compare, Vec<u8>, Vec<u8>);
 pub fn run(seen: &mut Seen) -> Result<(), Box<Difference>> {
     let mut cases = judged();
     cases.extend(judged_raw());
+    cases.extend(asked());
     cases.extend(printed());
     cases.extend(fed());
     cases.extend(fed_twice());
@@ -96,6 +99,44 @@ fn judged_raw() -> Vec<Case> {
         ("raw, cut at 1,000,001", with(&full, &stamp(7)[..4])),
     ];
     let case = |(name, log)| -> Case { (name, compare_judge, CHART_U.to_vec(), log) };
+    logs.map(case).into()
+}
+
+/// Logs of 1,000,000 and of 1,000,001 records, plain and raw, that break at record 2, at record
+/// 1,000,000 and nowhere. The record beyond falls, is cut, would break, or is only too many.
+fn asked() -> Vec<Case> {
+    let mut cases = asked_of(LogRecord::Plain);
+    cases.extend(asked_of(|record| {
+        LogRecord::Raw(RawRecord {
+            message: record.message(),
+            stamp: Stamp(record.time()),
+        })
+    }));
+    cases
+}
+
+/// These logs of one kind.
+fn asked_of(kind: fn(RecordValue) -> LogRecord) -> Vec<Case> {
+    let time = kind(RecordValue::Time(5)).to_bytes();
+    let fall = kind(RecordValue::Time(4)).to_bytes();
+    let first = kind(undo(5)).to_bytes();
+    let times = |fewer: usize| time.repeat(MAX_RECORDS as usize - fewer);
+    let full = times(0);
+    let owed = [&times(1)[..], &first].concat();
+    let early = [&first[..], &first, &times(2)].concat();
+    let last = [&times(2)[..], &first, &first].concat();
+    let with = |log: &[u8], last: &[u8]| [log, last].concat();
+    let logs = [
+        ("no break in 1,000,000", full.clone()),
+        ("1,000,001, no break", with(&full, &time)),
+        ("no break, falls at 1,000,001", with(&full, &fall)),
+        ("no break, cut at 1,000,001", with(&full, &time[..4])),
+        ("would break at 1,000,001", with(&owed, &first)),
+        ("breaks at 2 of 1,000,001", with(&early, &time)),
+        ("breaks at 1,000,000", last.clone()),
+        ("breaks at 1,000,000 of 1,000,001", with(&last, &time)),
+    ];
+    let case = |(name, log)| -> Case { (name, compare_breaks, CHART_U.to_vec(), log) };
     logs.map(case).into()
 }
 

@@ -11,6 +11,17 @@ pub enum Times {
     Raw,
 }
 
+impl Times {
+    /// The kind of this log; none if no record starts it.
+    pub fn of(log: &[u8]) -> Option<Times> {
+        match log.first() {
+            Some(1 | 2) => Some(Plain),
+            Some(3 | 4) => Some(Raw),
+            _ => None,
+        }
+    }
+}
+
 /// What a log came to.
 #[derive(Clone, Copy, Debug, PartialEq, Eq, PartialOrd, Ord)]
 pub enum Outcome {
@@ -60,10 +71,8 @@ pub const FULL_OUTCOMES: [Outcome; 2] = [Refused(Plain, 23), Refused(Raw, 23)];
 
 /// What a log came to that was judged so, by its first refusal or its verdict.
 pub fn outcomes(log: &[u8], judged: &Result<Verdict, (u8, usize)>) -> Vec<Outcome> {
-    let times = match log.first() {
-        Some(1 | 2) => Plain,
-        Some(3 | 4) => Raw,
-        _ => return Vec::new(),
+    let Some(times) = Times::of(log) else {
+        return Vec::new();
     };
     let stamps = stamps(log, judged.as_ref().err().map(|fault| fault.1));
     let pairs = stamps.windows(2);

@@ -1,10 +1,11 @@
 //! What a run has reached: refusals, answers, standings and terms that the library gave, second
 //! offers in each kind of comparison, monitors at the limits of M10, what plain and raw logs came
-//! to, and single records.
+//! to, single records, and whether logs break their charts.
 
+use crate::asked::{ASKED, ASKED_BYTES, ASKED_VALUES};
 use crate::coverage::{Counts, Coverage, ANSWERS, DECIDED_TERMS, OFFERS, REFUSALS};
 use crate::fitness::{FIT, UNFIT};
-use crate::kinds::{taking, JUDGE, PRINT, READS};
+use crate::kinds::{taking, BREAKS, BREAKS_IMAGE, JUDGE, PRINT, READS};
 use crate::outcomes::{FULL_OUTCOMES, OUTCOMES};
 use std::fmt;
 
@@ -41,6 +42,11 @@ impl Seen {
         }
         missing.extend(self.coverage.missing_logs(JUDGE, &FULL_OUTCOMES));
         missing.extend(self.coverage.missing_reads(&READS));
+        for kind in [BREAKS, BREAKS_IMAGE] {
+            missing.extend(self.coverage.missing_asked(kind, &ASKED));
+        }
+        missing.extend(self.coverage.missing_asked(BREAKS, &ASKED_BYTES));
+        missing.extend(self.coverage.missing_asked(BREAKS_IMAGE, &ASKED_VALUES));
         missing
     }
 
@@ -56,7 +62,10 @@ impl Seen {
             + UNFIT.len()
             + 2 * OUTCOMES.len()
             + FULL_OUTCOMES.len()
-            + READS.len();
+            + READS.len()
+            + 2 * ASKED.len()
+            + ASKED_BYTES.len()
+            + ASKED_VALUES.len();
         (all - self.missing().len(), all)
     }
 }
@@ -94,6 +103,9 @@ impl fmt::Display for Seen {
         }
         for (name, times) in &self.coverage.reads {
             writeln!(f, "| read: {name} | {times} |")?;
+        }
+        for ((kind, name), times) in &self.coverage.asked {
+            writeln!(f, "| {name}: {kind} | {times} |")?;
         }
         Ok(())
     }

@@ -1,5 +1,5 @@
 //! The functions of `liblsc_test.a`, which only tests use, over slices: a chart and a monitor
-//! by their images, and the check of a whole log.
+//! by their images, the check of a whole log, and whether it breaks a chart's image.
 //!
 //! They have no preconditions beyond valid pointers and lengths: they are proved safe for
 //! every content of the bytes lent to them. They keep no pointer and no state.
@@ -33,6 +33,13 @@ extern "C" {
     ) -> u8;
 
     fn lsc_test_check(log: *const u8, log_length: usize) -> u32;
+
+    fn lsc_test_breaks(
+        chart: *const u8,
+        chart_length: usize,
+        log: *const u8,
+        log_length: usize,
+    ) -> u8;
 }
 
 /// `lsc_test_new`: a monitor of zeros and 0, or 20 for no chart; 12 for a short `monitor`.
@@ -93,4 +100,10 @@ pub fn feed_time(chart: &[u8], monitor: &mut [u8], time: u32) -> u8 {
 pub fn check(log: &[u8]) -> u32 {
     // SAFETY: the pointer and the length are those of a slice borrowed for the whole call.
     unsafe { lsc_test_check(log.as_ptr(), log.len()) }
+}
+
+/// `lsc_test_breaks`: 1 if the log breaks the chart, 0 if not; or a refusal, 20 for no chart.
+pub fn breaks(chart: &[u8], log: &[u8]) -> u8 {
+    // SAFETY: the pointers and lengths are those of slices borrowed for the whole call.
+    unsafe { lsc_test_breaks(chart.as_ptr(), chart.len(), log.as_ptr(), log.len()) }
 }

@@ -1,12 +1,14 @@
-//! The fast judge on the examples of the rules (X), on raw logs and at its limits.
+//! The fast judge and its yes or no on the examples of the rules (X), on raw logs and at their
+//! limits.
 
+use lsc_compare::asked::ASKED;
 use lsc_compare::charts::TWO_THEN_ONE;
 use lsc_compare::coverage::Coverage;
 use lsc_compare::fast;
 use lsc_compare::outcomes::OUTCOMES;
 use lsc_compare::random::{self, Rng};
 use lsc_reference::examples::{message, undo, CHART_U, OVER_CHART_U, WIDEST};
-use lsc_reference::log::{judge, write_log};
+use lsc_reference::log::{breaks, judge, write_log};
 use lsc_reference::monitor;
 use lsc_reference::reader::read_chart;
 use lsc_reference::value::*;
@@ -18,6 +20,8 @@ fn chart_u() {
         let log = write_log(records);
         let verdict = fast::judge(&chart, &log);
         assert_eq!(verdict, judge(&chart, &log), "{expected}");
+        let answer = fast::breaks(&chart, &log);
+        assert_eq!(answer, breaks(&chart, &log), "{expected}");
     }
 }
 
@@ -74,6 +78,8 @@ fn the_millionth_record_and_the_next() {
         let log = [&full[..], &after].concat();
         let verdict = fast::judge(&chart, &log);
         assert_eq!(verdict, judge(&chart, &log));
+        let answer = fast::breaks(&chart, &log);
+        assert_eq!(answer, verdict.map(|_| false));
         verdict.map(|verdict| verdict.records)
     });
     let refused = [23, 22, 30, 31, 32].map(|number| Err((number, 5_000_000)));
@@ -100,6 +106,8 @@ fn the_millionth_raw_record_and_the_next() {
         let log = [&full[..], after].concat();
         let verdict = fast::judge(&chart, &log);
         assert_eq!(verdict, judge(&chart, &log));
+        let answer = fast::breaks(&chart, &log);
+        assert_eq!(answer, verdict.map(|_| false));
         let expected = said.map_err(|number| (number, 5_000_000));
         assert_eq!(verdict.map(|verdict| verdict.records), expected);
     }
@@ -118,4 +126,36 @@ fn raw_logs() {
         seen.judged("fast", &log, &judged);
     }
     assert_eq!(seen.missing_logs("fast", &OUTCOMES), Vec::<String>::new());
+}
+
+#[test]
+fn yes_or_no() {
+    let mut rng = Rng::new(13);
+    let mut seen = Coverage::default();
+    for _ in 0..20_000 {
+        let size = random::some_size(&mut rng);
+        let (_, chart) = random::chart(&mut rng, size);
+        let count = rng.below(24);
+        let log = random::faulty_log_bytes(&mut rng, &chart, count);
+        let answer = breaks(&chart, &log);
+        assert_eq!(fast::breaks(&chart, &log), answer, "{log:02X?}");
+        let judged = judge(&chart, &log);
+        seen.answered("fast", &chart, &log, &answer, &judged);
+    }
+    assert_eq!(seen.missing_asked("fast", &ASKED), Vec::<String>::new());
+    assert_eq!(fast::breaks(&ChartValue::ZERO, &[]), Err((20, 0)));
+}
+
+#[test]
+fn yes_before_the_millionth_record_and_the_next() {
+    let chart = read_chart(&CHART_U).unwrap();
+    let times = RecordValue::Time(9).to_bytes().repeat(999_999);
+    let undo = undo(9).to_bytes();
+    let broken = [&undo[..], &undo, &times].concat();
+    assert_eq!(fast::breaks(&chart, &broken), Ok(true));
+    // Undo as record 1,000,000: the next would break.
+    let owed = [&times[..], &undo].concat();
+    assert_eq!(fast::breaks(&chart, &owed), Ok(false));
+    let next = [&owed[..], &undo].concat();
+    assert_eq!(fast::breaks(&chart, &next), Err((23, 5_000_004)));
 }

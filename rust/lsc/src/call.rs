@@ -13,6 +13,9 @@ pub const VERDICT_PLACES: usize = 8;
 /// The places that `lsc_read_record` wants.
 pub const RECORD_PLACES: usize = 6;
 
+/// The places that `lsc_breaks` wants.
+pub const BREAKS_PLACES: usize = 3;
+
 /// The bytes that `lsc_print` wants: no text is longer.
 pub const TEXT_ROOM: usize = 223;
 
@@ -128,4 +131,21 @@ pub fn read_record(log: &[u8], place: usize, out: &mut [u64]) -> u8 {
     // SAFETY: the pointers and lengths are those of slices borrowed for the whole call,
     // `out` alone as mutable; `place` is a number that need not be in the log.
     unsafe { raw::lsc_read_record(log.as_ptr(), log.len(), place, out.as_mut_ptr(), out.len()) }
+}
+
+/// `lsc_breaks`: 0 and whether the log breaks the chart, or the refusal's number and where; 12 for
+/// a short `out`.
+pub fn breaks(chart: &[u8], log: &[u8], out: &mut [u64]) -> u8 {
+    // SAFETY: the pointers and lengths are those of slices borrowed for the whole call,
+    // `out` alone as mutable.
+    unsafe {
+        raw::lsc_breaks(
+            chart.as_ptr(),
+            chart.len(),
+            log.as_ptr(),
+            log.len(),
+            out.as_mut_ptr(),
+            out.len(),
+        )
+    }
 }

@@ -6,8 +6,8 @@
 //! which record broke it. It is proved, and stands in the static libraries `liblsc.a`,
 //! `liblsc_live.a` and `liblsc_more.a`: this crate calls them and decides nothing by itself.
 //!
-//! [`judge`] takes a whole log, [`read_record`] reads one record of it. [`LiveMonitor`] takes one
-//! record at a time:
+//! [`judge`] takes a whole log, [`breaks`] says only whether it breaks the chart, [`read_record`]
+//! reads one record of it. [`LiveMonitor`] takes one record at a time:
 //!
 //! ```
 //! use lsc::{Answer, LiveMonitor, Standing};
@@ -45,6 +45,9 @@
 //! let cause = lsc::judge(&chart, &late)?.cause.unwrap();
 //! assert_eq!((cause.region, cause.term), (2, 1));
 //!
+//! // Only yes or no.
+//! assert!(!lsc::breaks(&chart, &log)? && lsc::breaks(&chart, &late)?);
+//!
 //! // The first log as a counter of 32 bits shows it that returns to 0 at tick 116: raw records,
 //! // 3 instead of 1, whose first is moment 0.
 //! let raw = [
@@ -69,7 +72,7 @@ pub use live::LiveMonitor;
 pub use records::{read_record, LogRecord, RecordRefusal, Stamp};
 pub use values::{Answer, Cause, FeedRefusal, Part, Reason, Refusal, Standing, Verdict};
 
-use call::{TEXT_ROOM, VERDICT_PLACES};
+use call::{BREAKS_PLACES, TEXT_ROOM, VERDICT_PLACES};
 
 /// Judges a whole log by a chart; both as bytes.
 ///
@@ -78,11 +81,21 @@ pub fn judge(chart: &[u8], log: &[u8]) -> Result<Verdict, Refusal> {
     let mut out = [0; VERDICT_PLACES];
     match call::judge(chart, log, &mut out) {
         0 => Ok(Verdict::of(&out)),
-        number => Err(Refusal {
-            part: if out[0] == 1 { Part::Chart } else { Part::Log },
-            number,
-            offset: out[2] as usize,
-        }),
+        number => Err(Refusal::of(number, out[0], out[2])),
+    }
+}
+
+/// Whether a log breaks a chart; both as bytes.
+///
+/// The chart is read first, then the log record by record, each checked and then taken, up to the
+/// end or a break. A fault before a break is refused as [`judge`] refuses it; one behind a break is
+/// not seen. For every log that [`judge`] accepts, this is whether its verdict is
+/// [`Standing::Broken`].
+pub fn breaks(chart: &[u8], log: &[u8]) -> Result<bool, Refusal> {
+    let mut out = [0; BREAKS_PLACES];
+    match call::breaks(chart, log, &mut out) {
+        0 => Ok(out[0] == 1),
+        number => Err(Refusal::of(number, out[0], out[2])),
     }
 }
 

@@ -67,4 +67,13 @@ extern "C" {
         out: *mut u64,
         out_length: usize,
     ) -> u8;
+
+    pub fn lsc_breaks(
+        chart: *const u8,
+        chart_length: usize,
+        log: *const u8,
+        log_length: usize,
+        out: *mut u64,
+        out_length: usize,
+    ) -> u8;
 }

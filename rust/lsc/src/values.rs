@@ -199,6 +199,17 @@ pub struct Refusal {
     pub offset: usize,
 }
 
+impl Refusal {
+    /// The refusal of the number, the part and the offset that the library gives.
+    pub(crate) fn of(number: u8, part: u64, offset: u64) -> Refusal {
+        Refusal {
+            part: if part == 1 { Part::Chart } else { Part::Log },
+            number,
+            offset: offset as usize,
+        }
+    }
+}
+
 impl fmt::Display for Refusal {
     fn fmt(&self, f: &mut fmt::Formatter<'_>) -> fmt::Result {
         let part = match self.part {

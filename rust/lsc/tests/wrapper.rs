@@ -209,6 +209,92 @@ fn raw_logs_over_chart_u() {
     assert_eq!(lsc::print(&input), "refused log 32 at 5\n");
 }
 
+/// What the safe call says of a log over chart U, as text.
+fn yes_or_no(log: &[u8]) -> String {
+    match lsc::breaks(&CHART_U, log) {
+        Ok(broken) => if broken { "yes" } else { "no" }.to_string(),
+        Err(refusal) => refusal.to_string(),
+    }
+}
+
+#[test]
+fn yes_or_no_over_chart_u() {
+    for (records, expected) in OVER_CHART_U {
+        let expected = match expected.split_once(' ') {
+            Some(("refused", _)) => expected,
+            Some(("3", _)) => "yes",
+            _ => "no",
+        };
+        assert_eq!(yes_or_no(&write_log(records)), expected);
+    }
+    assert_eq!(yes_or_no(&across_the_wrap(24)), "no");
+    assert_eq!(yes_or_no(&across_the_wrap(25)), "yes");
+}
+
+#[test]
+fn a_fault_before_a_break_and_one_behind_it() {
+    let undo = [1, 0, 1, 0, 1, 0, 0, 0, 9];
+    for (fault, number) in [
+        (&[5][..], 31),
+        (&[2, 0, 0, 0], 30),
+        (&[4, 0, 0, 0, 9], 32),
+        (&[2, 0, 0, 0, 8], 22),
+    ] {
+        let before = [&undo, fault].concat();
+        let refused = format!("refused log {number} at 9");
+        assert_eq!(yes_or_no(&before), refused);
+        let behind = [&undo, &undo, fault].concat();
+        assert_eq!(yes_or_no(&behind), "yes");
+        let judged = lsc::judge(&CHART_U, &behind).unwrap_err().to_string();
+        assert_eq!(judged, format!("refused log {number} at 18"));
+    }
+    // Undo at the last moment, 2^32 - 1, of a raw log; the next record is a tick later.
+    let far = [
+        4, 0, 0, 0, 9, 4, 0x80, 0, 0, 8, 4, 0, 0, 0, 7, 3, 0, 1, 0, 1, 0, 0, 0, 8,
+    ];
+    let late = [4, 0, 0, 0, 9];
+    let before = [&far[..], &late].concat();
+    assert_eq!(yes_or_no(&before), "refused log 24 at 24");
+    let behind = [&far[..], &far[15..], &late].concat();
+    assert_eq!(yes_or_no(&behind), "yes");
+}
+
+#[test]
+fn yes_or_no_by_charts_that_are_refused() {
+    let refused = |number, offset| {
+        Err(Refusal {
+            part: Part::Chart,
+            number,
+            offset,
+        })
+    };
+    assert_eq!(lsc::breaks(&[], &[9]), refused(1, 0));
+    assert_eq!(lsc::breaks(&CHART_U[..37], &[]), refused(1, 37));
+    let plain = [0x10, 2, 1, 0x21, 0, 1, 0x40, 1, 0x50, 0x7F];
+    assert_eq!(lsc::breaks(&plain, &[]), refused(9, 3));
+}
+
+#[test]
+fn yes_or_no_in_places_of_the_caller() {
+    let undo = [1, 0, 1, 0, 1, 0, 0, 0, 9];
+    let twice = undo.repeat(2);
+    for room in 0..3 {
+        let mut out = vec![7; room];
+        assert_eq!(lsc::call::breaks(&CHART_U, &twice, &mut out), 12);
+        assert_eq!(lsc::call::breaks(&[], &[0], &mut out), 12);
+        assert_eq!(out, vec![7; room]);
+    }
+    let mut out = [7; 5];
+    assert_eq!(lsc::call::breaks(&CHART_U, &twice, &mut out), 0);
+    assert_eq!(out, [1, 0, 0, 7, 7]);
+    assert_eq!(lsc::call::breaks(&CHART_U, &undo, &mut out), 0);
+    assert_eq!(out, [0, 0, 0, 7, 7]);
+    assert_eq!(lsc::call::breaks(&CHART_U, &twice[..17], &mut out), 30);
+    assert_eq!(out, [2, 30, 9, 7, 7]);
+    assert_eq!(lsc::call::breaks(&[0x10, 1, 0], &undo, &mut out), 4);
+    assert_eq!(out, [1, 4, 0, 7, 7]);
+}
+
 #[test]
 fn one_record_after_another() {
     let log = [

@@ -1,4 +1,4 @@
-//! Reading one record, and judging a whole log.
+//! Reading one record, judging a whole log, and asking only whether it breaks the chart.
 
 use crate::monitor::{feed_fit, in_prechart, Order};
 use crate::record::LogRecord;
@@ -76,23 +76,54 @@ pub fn read_record(bytes: &[u8], offset: usize) -> Next {
 
 /// The log's records at their moments, or its first fault (J2, J3).
 pub fn read_log(bytes: &[u8]) -> Result<Vec<RecordValue>, (u8, usize)> {
-    let mut records = Vec::new();
-    let mut before = None;
-    let mut offset = 0;
-    loop {
-        match read_record(bytes, offset) {
-            Next::End => return Ok(records),
-            Next::Refused(code) => return Err((code, offset)),
-            Next::Taken(record, after) => {
-                let timed = timed(before, &record).map_err(|code| (code, offset))?;
-                if records.len() == MAX_RECORDS as usize {
-                    return Err((23, offset));
-                }
-                records.push(timed);
-                before = Some((record, timed.time()));
-                offset = after;
-            }
+    Records::of(bytes).collect()
+}
+
+/// The records of a log from the left, each checked and at its moment. It does not move on from a
+/// fault.
+struct Records<'a> {
+    bytes: &'a [u8],
+    offset: usize,
+    /// How many were handed out.
+    count: u32,
+    /// The last of them, and its moment.
+    before: Option<(LogRecord, u32)>,
+}
+
+impl Records<'_> {
+    fn of(bytes: &[u8]) -> Records<'_> {
+        Records {
+            bytes,
+            offset: 0,
+            count: 0,
+            before: None,
         }
+    }
+
+    /// The record at the offset, none at the end; or its refusal (J3).
+    fn checked(&mut self) -> Result<Option<RecordValue>, u8> {
+        let (record, after) = match read_record(self.bytes, self.offset) {
+            Next::End => return Ok(None),
+            Next::Refused(code) => return Err(code),
+            Next::Taken(record, after) => (record, after),
+        };
+        let timed = timed(self.before, &record)?;
+        if self.count == MAX_RECORDS {
+            return Err(23);
+        }
+        self.offset = after;
+        self.count += 1;
+        self.before = Some((record, timed.time()));
+        Ok(Some(timed))
+    }
+}
+
+impl Iterator for Records<'_> {
+    type Item = Result<RecordValue, (u8, usize)>;
+
+    fn next(&mut self) -> Option<Self::Item> {
+        let checked = self.checked().map_err(|code| (code, self.offset));
+        checked.transpose()
     }
 }
 
@@ -165,4 +196,21 @@ pub fn judge(chart: &ChartValue, bytes: &[u8]) -> Result<Verdict, (u8, usize)> {
         monitor = feed_fit(chart, &order, monitor, record).1;
     }
     Ok(verdict(chart, &monitor))
+}
+
+/// Whether the log breaks the chart, or the refusal and its offset. Record by record, each is
+/// checked and then fed; the first break ends it, so that a fault behind it is not seen.
+pub fn breaks(chart: &ChartValue, bytes: &[u8]) -> Result<bool, (u8, usize)> {
+    if !is_given(chart) {
+        return Err((20, 0));
+    }
+    let order = Order::of(chart);
+    let mut monitor = MonitorValue::ZERO;
+    for record in Records::of(bytes) {
+        monitor = feed_fit(chart, &order, monitor, record?).1;
+        if monitor.broken().is_some() {
+            return Ok(true);
+        }
+    }
+    Ok(false)
 }

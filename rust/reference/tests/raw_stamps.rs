@@ -1,51 +1,16 @@
 //! Logs with raw stamps: moments, refusals and verdicts worked out by hand.
 
+#[path = "common/logs.rs"]
+mod logs;
+
+use logs::{foreign, log, plain, raw, raw_log, time, to_the_end, HALF, LAST, LONGEST};
 use lsc_reference::declarative::Rows;
-use lsc_reference::examples::{headings, message, references, undo, CHART_U};
+use lsc_reference::examples::{headings, references, undo, CHART_U};
 use lsc_reference::log::{judge, read_log, read_record, verdict, write_log, Next};
 use lsc_reference::print::{input_of, respond, HEADER};
 use lsc_reference::reader::read_chart;
 use lsc_reference::record::{LogRecord, RawRecord, Stamp};
 use lsc_reference::value::*;
-
-/// 2,147,483,647, the longest gap that is taken.
-const LONGEST: u32 = (1 << 31) - 1;
-const HALF: u32 = 1 << 31;
-const LAST: u32 = u32::MAX;
-
-/// The record with its time as a raw stamp.
-fn raw(record: RecordValue) -> LogRecord {
-    LogRecord::Raw(RawRecord {
-        message: record.message(),
-        stamp: Stamp(record.time()),
-    })
-}
-
-fn plain(record: RecordValue) -> LogRecord {
-    LogRecord::Plain(record)
-}
-
-fn time(time: u32) -> RecordValue {
-    RecordValue::Time(time)
-}
-
-/// A message that chart U has not.
-fn foreign(time: u32) -> RecordValue {
-    message(3, 2, 3, time)
-}
-
-/// The records as a log.
-fn log(records: &[LogRecord]) -> Vec<u8> {
-    records.iter().flat_map(LogRecord::to_bytes).collect()
-}
-
-/// The records as a raw log.
-fn raw_log(records: &[RecordValue]) -> Vec<u8> {
-    records
-        .iter()
-        .flat_map(|&record| raw(record).to_bytes())
-        .collect()
-}
 
 /// The moments of a log, or its fault.
 fn moments_in(log: &[u8]) -> Result<Vec<u32>, (u8, usize)> {
@@ -204,11 +169,6 @@ fn the_difference_is_to_the_record_before() {
     // Both between, over the whole range: the moments end at 4,294,967,294.
     let far = raw_log(&[undo(9), time(9 + LONGEST), foreign(7), headings(8)]);
     assert_eq!(moments_in(&far), Ok(vec![0, LONGEST, LAST - 1, LAST]));
-}
-
-/// Raw stamps of four records of time whose last moment is 4,294,967,295.
-fn to_the_end(first: u32) -> [u32; 4] {
-    [0, LONGEST, LAST - 1, LAST].map(|moment| first.wrapping_add(moment))
 }
 
 #[test]

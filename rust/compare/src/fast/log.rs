@@ -3,7 +3,7 @@
 use lsc_reference::value::MAX_RECORDS;
 
 /// A refusal's number and its offset.
-type Fault = (u8, usize);
+pub type Fault = (u8, usize);
 
 /// The next plain record's time and the bytes after it; none at the log's end, at any other
 /// record byte and at a cut record. One arm for both kinds would make every walk slower.
@@ -28,6 +28,11 @@ fn next_raw(rest: &[u8]) -> Option<(u32, &[u8])> {
         [4, t0, t1, t2, t3, after @ ..] => Some((u32::from_be_bytes([*t0, *t1, *t2, *t3]), after)),
         _ => None,
     }
+}
+
+/// The first stamp of a raw log; 0 if its first record is cut.
+pub fn first_stamp(log: &[u8]) -> u32 {
+    next_raw(log).map_or(0, |(stamp, _)| stamp)
 }
 
 /// Whether the log is raw, by its first record byte; if not, it is checked and fed as a plain one.
@@ -60,7 +65,7 @@ pub fn check_log(log: &[u8]) -> Result<u32, Fault> {
 /// are the stamps less the first, taken round the wrap.
 pub fn check_raw_log(log: &[u8]) -> Result<u32, Fault> {
     let mut rest = log;
-    let first = next_raw(log).map_or(0, |(stamp, _)| stamp);
+    let first = first_stamp(log);
     let (mut last, mut moment) = (first, 0u32);
     let mut records = 0;
     while let Some((stamp, after)) = next_raw(rest) {
@@ -84,7 +89,7 @@ pub fn check_raw_log(log: &[u8]) -> Result<u32, Fault> {
 
 /// What is wrong with the bytes that a walk over a log leaves: nothing if none are left, else 31,
 /// 30, or 32 for a whole record of the other kind.
-fn check_rest(log: &[u8], rest: &[u8]) -> Result<(), Fault> {
+pub fn check_rest(log: &[u8], rest: &[u8]) -> Result<(), Fault> {
     let number = match rest {
         [] => return Ok(()),
         [1 | 3, rest @ ..] if rest.len() < 8 => 30,

@@ -4,11 +4,13 @@
 mod keys;
 mod log;
 mod masks;
+mod own;
 mod plan;
 mod stamped;
 mod state;
 mod steps;
 mod term;
+mod yes_no;
 
 use lsc_reference::log::Verdict;
 use lsc_reference::monitor::not_taken;
@@ -23,6 +25,11 @@ pub use state::State;
 /// Judging a whole log over a chart value, plain or raw.
 pub fn judge(chart: &ChartValue, log: &[u8]) -> Result<Verdict, (u8, usize)> {
     Plan::of(chart).ok_or((20, 0))?.judge(log)
+}
+
+/// Whether a log breaks a chart value, plain or raw.
+pub fn breaks(chart: &ChartValue, log: &[u8]) -> Result<bool, (u8, usize)> {
+    Plan::of(chart).ok_or((20, 0))?.breaks(log)
 }
 
 /// Feeding one record, every refusal tested.

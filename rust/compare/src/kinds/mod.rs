@@ -7,6 +7,7 @@ mod reading;
 mod rows;
 mod values;
 mod whole;
+mod yes_no;
 
 use crate::difference::{Both, Difference};
 use crate::random::{shrink, Rng};
@@ -19,6 +20,7 @@ pub use printing::{compare as compare_print, NAME as PRINT};
 pub use reading::{NAME as READ, READS};
 pub use values::{compare as compare_values, feed_images};
 pub use whole::{compare as compare_judge, NAME as JUDGE};
+pub use yes_no::{compare as compare_breaks, IMAGE_NAME as BREAKS_IMAGE, NAME as BREAKS};
 
 /// Makes an input's two parts.
 pub type Make = fn(&mut Rng) -> (Vec<u8>, Vec<u8>);
@@ -39,7 +41,7 @@ pub struct Kind {
 
 /// All kinds.
 #[rustfmt::skip]
-pub static KINDS: [Kind; 7] = [
+pub static KINDS: [Kind; 9] = [
     kind(whole::NAME, 34, ["chart", "log"], whole::make, whole::compare),
     kind(printing::NAME, 14, ["nothing", "input"], printing::make, printing::compare),
     kind(values::NAME, 30, ["chart image", "monitor and record"], values::make, values::compare),
@@ -47,6 +49,8 @@ pub static KINDS: [Kind; 7] = [
     kind(bytes::NAME, 10, ["live bytes", "record"], bytes::make, bytes::compare),
     kind(rows::NAME, 3, ["chart", "records"], rows::make, rows::compare),
     kind(reading::NAME, 4, ["log", "place"], reading::make, reading::compare),
+    kind(yes_no::NAME, 12, ["chart", "log"], yes_no::make, yes_no::compare),
+    kind(yes_no::IMAGE_NAME, 6, ["chart image", "log"], yes_no::make_image, yes_no::compare_image),
 ];
 
 /// The names of those in which a monitor takes records.

@@ -14,6 +14,16 @@ use lsc_reference::value::*;
 pub const NAME: &str = "values";
 
 pub fn make(rng: &mut Rng) -> (Vec<u8>, Vec<u8>) {
+    let (chart, image) = some_image(rng);
+    let monitor = random::monitor_value(rng, &chart);
+    let record = random::record_value(rng, &chart, &monitor);
+    let mut second = monitor.to_image().to_vec();
+    second.extend(record.to_bytes());
+    (image, second)
+}
+
+/// A chart value, mostly a chart, and its image, now and then damaged.
+pub fn some_image(rng: &mut Rng) -> (ChartValue, Vec<u8>) {
     let chart = if rng.chance(60) {
         let size = random::some_size(rng);
         random::chart(rng, size).1
@@ -33,11 +43,7 @@ pub fn make(rng: &mut Rng) -> (Vec<u8>, Vec<u8>) {
         5 => image.truncate(rng.below(image.len())),
         _ => {}
     }
-    let monitor = random::monitor_value(rng, &chart);
-    let record = random::record_value(rng, &chart, &monitor);
-    let mut second = monitor.to_image().to_vec();
-    second.extend(record.to_bytes());
-    (image, second)
+    (chart, image)
 }
 
 /// Feeds a record to the images, whichever of the two it is.

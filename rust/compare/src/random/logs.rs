@@ -201,6 +201,52 @@ pub(super) fn records_from(
     records
 }
 
+/// A message of the chart that breaks it in this state, now or later, if there is one.
+fn breaking_message(
+    rng: &mut Rng,
+    chart: &ChartValue,
+    plan: &Plan,
+    state: &State,
+) -> Option<RecordValue> {
+    let time = state.now().saturating_add(rng.pick(&[0, 0, 1, 61]));
+    let messages = chart.regions[..usize::from(chart.count)]
+        .iter()
+        .filter_map(|region| message_of(region, time));
+    let breaks = |record: &RecordValue| {
+        let answer = plan.take_record(&mut state.clone(), record);
+        matches!(answer, Answer::Broken(_))
+    };
+    let breaking: Vec<RecordValue> = messages.filter(breaks).collect();
+    (!breaking.is_empty()).then(|| rng.pick(&breaking))
+}
+
+/// Puts a message that breaks the chart among the records, at the first place that allows it from
+/// some place on, mostly an early one. No time falls.
+pub(super) fn break_somewhere(rng: &mut Rng, chart: &ChartValue, records: &mut Vec<RecordValue>) {
+    let Some(plan) = Plan::of(chart) else {
+        return;
+    };
+    let most = rng.below(records.len() + 1);
+    let from = rng.below(most + 1);
+    let mut state = State::FRESH;
+    for place in 0..=records.len() {
+        if place >= from {
+            if let Some(breaking) = breaking_message(rng, chart, &plan, &state) {
+                for later in &mut records[place..] {
+                    *later = later.with_time(later.time().max(breaking.time()));
+                }
+                return records.insert(place, breaking);
+            }
+        }
+        match records.get(place) {
+            Some(record) if state.broken.is_none() => {
+                plan.take_record(&mut state, record);
+            }
+            _ => return,
+        }
+    }
+}
+
 /// Random records with, now and then, one whose time falls: a list of feeds, some refused.
 pub fn feeds(rng: &mut Rng, chart: &ChartValue, count: usize) -> Vec<RecordValue> {
     let mut list = records(rng, chart, count);

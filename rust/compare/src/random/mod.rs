@@ -1,6 +1,7 @@
 //! Seeded random inputs, plausible and damaged, and the shrinking of failing ones.
 
 mod charts;
+mod faults;
 mod hostile;
 mod logs;
 mod pieces;
@@ -10,6 +11,7 @@ mod stamps;
 mod values;
 
 pub use charts::{chart, some_size, Size};
+pub use faults::faulty_log_bytes;
 pub use hostile::{damage, hostile_chart_bytes, hostile_input, hostile_log_bytes};
 pub use logs::{feeds, records};
 pub use pieces::{commands, log_pieces};

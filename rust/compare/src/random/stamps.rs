@@ -7,7 +7,7 @@ use lsc_reference::record::{LogRecord, RawRecord, Stamp};
 use lsc_reference::value::*;
 
 /// The longest gap that a raw log may have.
-const LONGEST: u64 = (1 << 31) - 1;
+pub(super) const LONGEST: u64 = (1 << 31) - 1;
 
 /// True gaps at the limits. One of 2^32 + 5 looks like 5.
 const GAPS: [u64; 10] = [
@@ -34,19 +34,26 @@ const ENDS: [u64; 6] = [
 ];
 
 /// A record at a true time, which has more than 32 bits.
-struct Timed {
+pub(super) struct Timed {
     message: Option<Message>,
     time: u64,
+}
+
+impl Timed {
+    /// The record at its time.
+    pub(super) fn of(record: &RecordValue) -> Timed {
+        Timed {
+            message: record.message(),
+            time: record.time().into(),
+        }
+    }
 }
 
 /// Random records over a chart with raw stamps, mostly without a fault.
 fn raw_records(rng: &mut Rng, chart: &ChartValue, count: usize) -> Vec<LogRecord> {
     let mut timed: Vec<Timed> = records_from(rng, chart, count, 0)
         .iter()
-        .map(|record| Timed {
-            message: record.message(),
-            time: record.time().into(),
-        })
+        .map(Timed::of)
         .collect();
     match rng.below(10) {
         0..=5 => {}
@@ -57,7 +64,7 @@ fn raw_records(rng: &mut Rng, chart: &ChartValue, count: usize) -> Vec<LogRecord
 }
 
 /// The stamps of a counter that shows `first` at the first record.
-fn stamped(first: u32, timed: &[Timed]) -> Vec<LogRecord> {
+pub(super) fn stamped(first: u32, timed: &[Timed]) -> Vec<LogRecord> {
     let start = timed.first().map_or(0, |record| record.time);
     let stamp = |time: u64| Stamp(first.wrapping_add((time - start) as u32));
     timed
@@ -72,7 +79,7 @@ fn stamped(first: u32, timed: &[Timed]) -> Vec<LogRecord> {
 }
 
 /// A stamp for a log's first record: anywhere, mostly a little before the wrap.
-fn first_stamp(rng: &mut Rng) -> u32 {
+pub(super) fn first_stamp(rng: &mut Rng) -> u32 {
     match rng.below(10) {
         0 => 0,
         1..=2 => rng.draw() as u32,
@@ -141,7 +148,7 @@ fn change_stamps(rng: &mut Rng, list: &mut [LogRecord]) {
 }
 
 /// The record of the other kind with the same number.
-fn other_kind(record: LogRecord) -> LogRecord {
+pub(super) fn other_kind(record: LogRecord) -> LogRecord {
     match record {
         LogRecord::Raw(raw) => LogRecord::Plain(raw.at(raw.stamp.0)),
         LogRecord::Plain(plain) => LogRecord::Raw(RawRecord {

@@ -10,7 +10,7 @@ use lsc_compare::plot::Plot;
 use lsc_reference::examples::CHART_U;
 use std::path::PathBuf;
 use std::process::ExitCode;
-use subject::{Subject, FED, LONG, ROUNDS};
+use subject::{Subject, FED, LONG, MIDWAY, ROUNDS};
 
 fn explain(subjects: &[Subject]) {
     println!("Charts:");
@@ -40,6 +40,11 @@ times, the limit of every judge.
 chart's image of 1,348 bytes and the monitor's at each, and write the monitor's.
 - feeding live: the same records through live bytes; both sides read the chart's bytes and the \
 monitor's image at each, and write the image.
+- yes or no, breaks first, midway, nowhere: from the chart's bytes and the log's bytes to yes or \
+no, in a log that breaks as early as it can, in one that breaks about record {MIDWAY}, and in \
+one that keeps its rounds; both sides read the chart and stop at the break. Times are for a whole \
+call: behind the break no record is read.
+- the same, beside judging: the second column is the proved judge of the same log.
 
 Both sides run in one process, in turn, {ROUNDS} rounds, the one that goes first changing. One \
 round before is not counted, so charts, logs and code were touched; nothing is cleared between. \
@@ -66,12 +71,17 @@ fn main() -> ExitCode {
         Subject::of("large chart", charts::large()),
     ];
     explain(&subjects);
-    rows::heading();
+    rows::heading("ns a record");
     for subject in &subjects {
         rows::judging(subject);
         rows::checking(subject);
         rows::feeding_values(subject);
         rows::feeding_live(subject);
+    }
+    println!();
+    rows::heading("µs a call");
+    for subject in &subjects {
+        rows::yes_or_no(subject);
     }
     let plot = Plot {
         title: "Judging a log: time against its length".into(),

@@ -1,6 +1,7 @@
 //! The table's rows.
 
-use crate::subject::{check, proved, reference, scan, Subject, FED, LONG, ROUNDS};
+use crate::subject::{check, proved, proved_breaks, reference, reference_breaks, scan};
+use crate::subject::{Subject, FED, LONG, ROUNDS};
 use lsc::call;
 use lsc_compare::fast;
 use lsc_compare::image::{Image, LIVE_HEAD, MONITOR_IMAGE};
@@ -10,20 +11,39 @@ use lsc_reference::reader::read_chart;
 use lsc_reference::value::*;
 use std::hint::black_box;
 
-pub fn heading() {
-    println!("| what | proved, ns a record | beside it, ns a record | ratio | from, to |");
+/// The heading of a table with times in this unit.
+pub fn heading(unit: &str) {
+    println!("| what | proved, {unit} | beside it, {unit} | ratio | from, to |");
     println!("|---|---:|---:|---:|---:|");
+}
+
+/// The median of the rounds' ratios, the lowest and the highest.
+fn spread(times: &[Vec<f64>]) -> [f64; 3] {
+    let mut ratios = ratios(&times[0], &times[1]);
+    ratios.sort_by(f64::total_cmp);
+    [median(&ratios), ratios[0], ratios[ratios.len() - 1]]
 }
 
 /// What was done, nanoseconds for each record on both sides, and the ratio.
 fn row(what: &str, subject: &Subject, records: usize, times: &[Vec<f64>]) {
     let each = |place: usize| median(&times[place]) * 1e9 / records as f64;
     let (proved, beside) = (each(0), each(1));
-    let mut ratios = ratios(&times[0], &times[1]);
-    ratios.sort_by(f64::total_cmp);
-    let (low, high) = (ratios[0], ratios[ratios.len() - 1]);
-    let (name, ratio) = (subject.name, median(&ratios));
+    let (name, [ratio, low, high]) = (subject.name, spread(times));
     println!("| {what}: {name} | {proved:.1} | {beside:.1} | {ratio:.2} | {low:.2}, {high:.2} |");
+}
+
+/// What was done, microseconds for each call on both sides, and the ratio.
+fn row_of_calls(what: &str, subject: &Subject, times: &[Vec<f64>]) {
+    let each = |place: usize| digits(median(&times[place]) * 1e6);
+    let (proved, beside) = (each(0), each(1));
+    let (name, [ratio, low, high]) = (subject.name, spread(times).map(digits));
+    println!("| {what}: {name} | {proved} | {beside} | {ratio} | {low}, {high} |");
+}
+
+/// A positive number with three digits that count.
+fn digits(number: f64) -> String {
+    let places = (2.0 - number.log10().floor()).clamp(0.0, 9.0);
+    format!("{number:.*}", places as usize)
 }
 
 /// Whole logs of bytes.
@@ -50,6 +70,32 @@ pub fn checking(subject: &Subject) {
     let log = &subject.log;
     let times = interleaved(ROUNDS, &mut [&mut || check(log), &mut || scan(log)]);
     row("checking, beside the scan", subject, LONG, &times);
+}
+
+/// Only yes or no, beside judging the same log and beside the fast yes or no.
+pub fn yes_or_no(subject: &Subject) {
+    let chart = &subject.chart;
+    for (what, log) in [
+        ("breaks first", &subject.broken),
+        ("breaks midway", &subject.midway),
+        ("breaks nowhere", &subject.log),
+    ] {
+        let times = interleaved(
+            ROUNDS,
+            &mut [&mut || proved_breaks(chart, log), &mut || {
+                proved(chart, log)
+            }],
+        );
+        let beside_judging = format!("yes or no, {what}, beside judging");
+        row_of_calls(&beside_judging, subject, &times);
+        let times = interleaved(
+            ROUNDS,
+            &mut [&mut || proved_breaks(chart, log), &mut || {
+                reference_breaks(chart, log)
+            }],
+        );
+        row_of_calls(&format!("yes or no, {what}"), subject, &times);
+    }
 }
 
 /// One record at a time over images, from a fresh monitor.

@@ -1,6 +1,6 @@
 //! A chart with its logs, and what is timed on them.
 
-use lsc::call::{self, VERDICT_PLACES};
+use lsc::call::{self, BREAKS_PLACES, VERDICT_PLACES};
 use lsc_compare::charts;
 use lsc_compare::fast;
 use lsc_compare::testing;
@@ -13,11 +13,13 @@ use std::hint::black_box;
 pub const ROUNDS: usize = 31;
 /// Records of the long logs.
 pub const LONG: usize = 1_000_000;
+/// Where a long log breaks midway, or a little later.
+pub const MIDWAY: usize = LONG / 2;
 /// Records of the lists fed one by one.
 pub const FED: usize = 20_000;
 
-/// A chart with a long log that keeps its rounds, the same with raw stamps, and one that breaks
-/// early.
+/// A chart with a long log that keeps its rounds, the same with raw stamps, one that breaks as
+/// early as it can, and one that breaks midway.
 pub struct Subject {
     pub name: &'static str,
     pub chart: Vec<u8>,
@@ -25,6 +27,7 @@ pub struct Subject {
     pub log: Vec<u8>,
     pub raw: Vec<u8>,
     pub broken: Vec<u8>,
+    pub midway: Vec<u8>,
     pub records: Vec<RecordValue>,
 }
 
@@ -33,7 +36,8 @@ impl Subject {
         let value = read_chart(&chart).expect("the chart is read");
         let log = charts::keeping_log(&value, LONG, 1);
         let raw = charts::raw_log(&log, u32::MAX - LONG as u32);
-        let broken = charts::breaking_log(&value, &log);
+        let broken = charts::breaking_log(&value, &log, 0);
+        let midway = charts::breaking_log(&value, &log, MIDWAY);
         let records = read_log(&log).expect("the log has no fault");
         Subject {
             name,
@@ -42,6 +46,7 @@ impl Subject {
             log,
             raw,
             broken,
+            midway,
             records,
         }
     }
@@ -77,6 +82,19 @@ pub fn proved(chart: &[u8], log: &[u8]) {
 pub fn reference(chart: &[u8], log: &[u8]) {
     let value = read_chart(black_box(chart)).expect("the chart is read");
     let _ = black_box(fast::judge(&value, black_box(log)));
+}
+
+/// The proved yes or no.
+pub fn proved_breaks(chart: &[u8], log: &[u8]) {
+    let mut out = [0; BREAKS_PLACES];
+    black_box(call::breaks(black_box(chart), black_box(log), &mut out));
+    black_box(out);
+}
+
+/// The fast yes or no beside it, likewise from the chart's bytes.
+pub fn reference_breaks(chart: &[u8], log: &[u8]) {
+    let value = read_chart(black_box(chart)).expect("the chart is read");
+    let _ = black_box(fast::breaks(&value, black_box(log)));
 }
 
 /// The proved check of a log, without judging it.
