@@ -4,30 +4,16 @@ use mathlib.Core.List.{List}
 use Prim.Native.Nat.{ℕ}
 use lib.Dec.{eqb}
 use Rattle.model.specs.declared.Chart.{Chart}
-use Rattle.model.specs.Answers.{notAChart}
 use Rattle.chart_value.specs.WellFormed.{wellFormed}
 use Rattle.chart_value.specs.View.{chartOf}
 use Rattle.chart_value.specs.Records.{logged}
 use Rattle.rounds.specs.Machine.{Monitor as AbstractMonitor, after}
 use Rattle.log_check.specs.declared.Checked.{Checked}
 use Rattle.log_check.specs.declared.Checked.the-variants as checked
-use Rattle.log_check.specs.Check.{logRefusalNumber, checkLog}
+use Rattle.log_check.specs.Check.{checkLog}
 use Rattle.log_check.specs.Sound.{soundRecords}
 use Rattle.breaks.specs.declared.BreakAnswer.{BreakAnswer}
 use Rattle.breaks.specs.declared.BreakAnswer.the-variants.{Yes, No, NoChart, Refused}
-
--- the number and the offset of each answer, as judging has them
-abbrev pub breakNumber : BreakAnswer → ℕ
-breakNumber Yes = 0
-breakNumber No = 0
-breakNumber NoChart = notAChart
-breakNumber (Refused k offset) = logRefusalNumber k
-
-abbrev pub breakOffset : BreakAnswer → ℕ
-breakOffset Yes = 0
-breakOffset No = 0
-breakOffset NoChart = 0
-breakOffset (Refused k offset) = offset
 
 -- without a break: the first fault, or no
 abbrev pub byFault : Checked → BreakAnswer

@@ -56,7 +56,7 @@ use Rattle.log_check.specs.declared.Checked.{Checked}
 use Rattle.log_check.specs.declared.Checked.the-variants as checked
 use Rattle.log_check.specs.declared.CheckStep.the-variants.{Over, Going}
 use Rattle.log_check.specs.Check.{stepBy, stepAt, continueBy as checkOn, checkFrom, checkLog}
-use Rattle.log_check.specs.Check.{logRefusalNumber}
+use Rattle.log_check.specs.Refusal.{logRefusalNumber}
 use Rattle.judge.specs.Verdict.{verdictOf}
 use Rattle.judge.specs.Verdict as judge
 use Rattle.judge.specs.Judge.{byCheck, judgeOf}

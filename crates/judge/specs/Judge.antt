@@ -12,7 +12,8 @@ use Rattle.chart_value.specs.Records.{logged}
 use Rattle.log_clock.specs.Records.{recordsIn}
 use Rattle.log_check.specs.declared.Checked.{Checked}
 use Rattle.log_check.specs.declared.Checked.the-variants as checked
-use Rattle.log_check.specs.Check.{logRefusalNumber, checkLog}
+use Rattle.log_check.specs.Refusal.{logRefusalNumber}
+use Rattle.log_check.specs.Check.{checkLog}
 use Rattle.judge.specs.Verdict.{verdictOf, Said}
 
 -- the verdict over a log that was checked: its records, fed one after the other to a fresh monitor

@@ -8,7 +8,7 @@ use Rattle.base.specs.Lists.{allBelow}
 use Rattle.rounds.specs.Chart.{Chart as Abstract}
 use Rattle.rounds.specs.Tally.{Tally}
 use Rattle.rounds.specs.Machine.{Monitor as AbstractMonitor, prechartDone}
-use Rattle.log_check.specs.Check.{logRefusalNumber}
+use Rattle.log_check.specs.Refusal.{logRefusalNumber}
 use Rattle.judge.specs.declared.JudgeAnswer.{JudgeAnswer}
 use Rattle.judge.specs.declared.JudgeAnswer.the-variants.{Judged, NoChart, Refused}
 use Rattle.judge.specs.declared.Judgement.{Judgement}

@@ -54,6 +54,10 @@ ticks-in p P t last d h l m q = by (leb last t) refl
         ap (λ (y : ℕ). leb y (p .most)) e
     by false x = let b = leb-false last t x in lt-leb d (p .most) (omega (arith, b, small p P))
 
+pub small-byte : (p : Pace) → Paced p → p .message < 255
+small-byte p plainly = omega arith
+small-byte p (rawly o) = omega arith
+
 -- what is met at an offset
 pub record Meets (s : List ℕ) (at : ℕ) (p : Pace) (last : Moment) (n : ℕ) (r : Met) : Type 0 where
   pub met : r ≡ metAt s at p last n
@@ -187,7 +191,7 @@ module _ (s : List ℕ) (at : ℕ) where
       is p plainly e = rw e
       is p (rawly o) e = rw e
 
-  pub time-code : (p : Pace) → Paced p → getD s at 0 ≡ p .time → 0 ≡ codeAt s at
+  pub time-code : (p : Pace) → Paced p → getD s at 0 ≡ p .message + 1 → 0 ≡ codeAt s at
   time-code p plainly e = rw e
   time-code p (rawly o) e = rw e
 
@@ -204,7 +208,7 @@ module _ (s : List ℕ) (at : ℕ) where
   no-byte tag size d = rw (ne-eqb (getD s at 0) tag d)
 
   -- a message's byte is not a time's
-  pub other-byte : (p : Pace) → Paced p → getD s at 0 ≡ p .message → whole s at (p .time) timeSize ≡ false
+  pub other-byte : (p : Pace) → Paced p → getD s at 0 ≡ p .message → whole s at (p .message + 1) timeSize ≡ false
   other-byte p plainly e = no-byte timeTag timeSize (λ z. omega (arith, e, z))
   other-byte p (rawly o) e = no-byte rawTimeTag timeSize (λ z. omega (arith, e, z))
 
@@ -223,7 +227,7 @@ module _ (s : List ℕ) (at : ℕ) (last : Moment) (n : ℕ) where
       raw-met s at last n o (word32 s (at + 5)) t (at + messageSize) h z q
       (raw-message s at last n (from s at last n o) (is-whole rawMessageTag messageSize e l))
 
-  pub time-meets : (p : Pace) → Paced p → last .0 < range → eqb (getD s at 0) (p .time) ≡ true
+  pub time-meets : (p : Pace) → Paced p → last .0 < range → eqb (getD s at 0) (p .message + 1) ≡ true
       → at + timeSize ≤ length s → (t : Moment) → t .0 < range → (t .0 + p .origin) % range ≡ word32 s (at + 1)
       → Meets s at p last n (metIf p last n (codeAt s at) t (at + timeSize))
   time-meets p plainly z e l t h q =
@@ -234,7 +238,7 @@ module _ (s : List ℕ) (at : ℕ) (last : Moment) (n : ℕ) where
       (raw-time s at last n (from s at last n o) (is-whole rawTimeTag timeSize e l))
 
   pub other-meets : (p : Pace) → Paced p → at < length s → whole s at (p .message) messageSize ≡ false
-      → whole s at (p .time) timeSize ≡ false → Meets s at p last n Other
+      → whole s at (p .message + 1) timeSize ≡ false → Meets s at p last n Other
   other-meets p plainly h v w = meets-over s at plainPace last n _ (plain-fault s at last n h v w)
   other-meets p (rawly o) h v w =
       meets-over s at (rawPace o) last n _ (raw-fault s at last n (from s at last n o) h v w)

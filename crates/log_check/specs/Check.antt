@@ -5,28 +5,19 @@ use mathlib.Core.List.{List}
 use lib.ListN.{length}
 use lib.Dec.{leb, ltb}
 use Rattle.model.specs.declared.Moment.{Moment}
-use Rattle.model.specs.Answers.{mostRecords, tooManyRecords}
+use Rattle.model.specs.Answers.{mostRecords}
 use Rattle.model.specs.Monitor.{timeOf}
-use Rattle.log_reader.specs.Record.{recordRefusalNumber}
 use Rattle.log_clock.specs.declared.Kind.{Kind}
 use Rattle.log_clock.specs.declared.Kind.the-variants.{Unset}
 use Rattle.log_clock.specs.declared.MomentRefusal.the-variants.{Falls}
 use Rattle.log_clock.specs.declared.Dated.{Dated}
 use Rattle.log_clock.specs.declared.Dated.the-variants as dated
-use Rattle.log_clock.specs.Clock.{momentRefusalNumber}
 use Rattle.log_clock.specs.Dated.{datedAt}
-use Rattle.log_check.specs.declared.LogRefusal.{LogRefusal}
 use Rattle.log_check.specs.declared.LogRefusal.the-variants.{NoRecord, NoMoment, TooManyRecords}
 use Rattle.log_check.specs.declared.Checked.{Checked}
 use Rattle.log_check.specs.declared.Checked.the-variants.{Fine, Refused}
 use Rattle.log_check.specs.declared.CheckStep.{CheckStep}
 use Rattle.log_check.specs.declared.CheckStep.the-variants.{Over, Going}
-
--- J3: 31 and 30 as in E, 32, 22 and 24 as a record has no moment, 23 too many records
-abbrev pub logRefusalNumber : LogRefusal → ℕ
-logRefusalNumber (NoRecord k) = recordRefusalNumber k
-logRefusalNumber (NoMoment f) = momentRefusalNumber f
-logRefusalNumber TooManyRecords = tooManyRecords
 
 -- J3: 22 of a plain record and 23, of a record at its moment that was read at `at`, after n records, the last of them
 -- at the moment `last`; the log is then of this kind

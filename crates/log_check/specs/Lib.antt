@@ -1,3 +1,4 @@
+pub mod Refusal
 pub mod Check
 pub mod Sound
 pub mod Met

@@ -11,7 +11,7 @@ use Rattle.model.specs.Answers.{mostRecords}
 use Rattle.model.specs.Monitor.{stampOf}
 use Rattle.log_reader.specs.declared.Next.{Next}
 use Rattle.log_reader.specs.declared.Next.the-variants as next
-use Rattle.log_reader.specs.Record.{messageTag, timeTag, rawMessageTag, rawTimeTag}
+use Rattle.log_reader.specs.Record.{messageTag, rawMessageTag}
 use Rattle.log_clock.specs.declared.Kind.{Kind}
 use Rattle.log_clock.specs.declared.Kind.the-variants.{Plain, Raw}
 use Rattle.log_clock.specs.Clock.{range}
@@ -26,10 +26,10 @@ use Rattle.log_check.specs.Check.{stepAt}
 
 -- the pace of a plain log, and of a raw one whose first stamp is o
 abbrev pub plainPace : Pace
-plainPace = record { message = messageTag; time = timeTag; origin = 0; most = 0xFFFF_FFFF }
+plainPace = record { message = messageTag; origin = 0; most = 0xFFFF_FFFF }
 
 abbrev pub rawPace : ℕ → Pace
-rawPace o = record { message = rawMessageTag; time = rawTimeTag; origin = o; most = 0x7FFF_FFFF }
+rawPace o = record { message = rawMessageTag; origin = o; most = 0x7FFF_FFFF }
 
 -- the first record decides
 abbrev pub paceOf : Next → Pace

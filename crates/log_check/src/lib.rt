@@ -7,10 +7,8 @@ use log_reader::MESSAGE_SIZE;
 use log_reader::MESSAGE_TAG;
 use log_reader::Next;
 use log_reader::RAW_MESSAGE_TAG;
-use log_reader::RAW_TIME_TAG;
 use log_reader::RecordRefusal;
 use log_reader::TIME_SIZE;
-use log_reader::TIME_TAG;
 use model::MOST_RECORDS;
 use model::Moment;
 use model::Stamp;
@@ -20,7 +18,8 @@ ghost use Prim.Native.Nat.{_≤_, _<_, _+_, _%_};
 ghost use lib.ListN.{length};
 ghost use Rattle.log_reader.specs.Next.{nextAt};
 ghost use Rattle.log_clock.specs.Clock.{range};
-ghost use Rattle.log_check.specs.Check.{logRefusalNumber, takeRecord, stepBy, stepAt, checkFrom, checkLog};
+ghost use Rattle.log_check.specs.Refusal.{logRefusalNumber};
+ghost use Rattle.log_check.specs.Check.{takeRecord, stepBy, stepAt, checkFrom, checkLog};
 ghost use Rattle.log_check.specs.Met.{plainPace, rawPace, paceOf, Paced, kindIn, inTime, metIf, metAt, Steady};
 ghost use Rattle.log_check.specs.Met.{codeOf, endedBy};
 
@@ -97,11 +96,10 @@ fn ended_at(log: &[u8], at: usize, kind: Kind, last: Moment, records: u32) -> Ch
     }
 }
 
-// What all records of a log have in common: the bytes of its messages and of its times, the time or stamp at which it
-// counts moment 0, and the most ticks from a record to the next.
+// What all records of a log have in common: the byte of its messages, which for its times is one more, the time or
+// stamp at which it counts moment 0, and the most ticks from a record to the next.
 pub struct Pace {
     pub message: u8,
-    pub time: u8,
     pub origin: u32,
     pub most: u64,
 }
@@ -116,7 +114,6 @@ fn plain_pace() -> Pace
 {
     Pace {
         message: MESSAGE_TAG,
-        time: TIME_TAG,
         origin: 0,
         most: MOST_TICKS,
     }
@@ -132,7 +129,6 @@ pub fn pace_of(first: Next) -> Pace
         Next::Handed(_, _) => plain_pace(),
         Next::Raw(e, _) => Pace {
             message: RAW_MESSAGE_TAG,
-            time: RAW_TIME_TAG,
             origin: model::stamp_of(e).0,
             most: MOST_RAW_TICKS,
         },
@@ -213,7 +209,7 @@ pub fn met_at(log: &[u8], at: usize, pace: Pace, last: Moment, records: u32) -> 
         }
         return Met::Other;
     }
-    if tag == pace.time {
+    if tag == pace.message + 1 {
         if at + TIME_SIZE <= log.len() {
             let t = moment_of(wire::word32_in(log, at + 1), pace.origin);
             return met_if(pace, last, records, 0, t, at + TIME_SIZE);

@@ -17,7 +17,8 @@ use Rattle.chart_reader.specs.declared.ChartRead.{ChartRead}
 use Rattle.chart_reader.specs.Read.{readChart}
 use Rattle.chart_reader.specs.Said.{Said, said, numberOf, offsetOf}
 use Rattle.breaks.specs.declared.BreakAnswer.{BreakAnswer}
-use Rattle.breaks.specs.Breaks.{breakNumber, breaksOf}
+use Rattle.breaks.specs.Numbers.{breakNumber}
+use Rattle.breaks.specs.Breaks.{breaksOf}
 use Rattle.lsc_more.specs.More.{startingWith}
 use Rattle.lsc_more.specs.Breaks.{breaksPlaces, chartPart, refusalNumbers, answerNumbers}
 use Rattle.lsc_more.specs.Breaks.{askedNumbers, askedNumber, breaksNumber, breaksOut}

@@ -7,10 +7,11 @@ use lib.ListN.{length}
 use Rattle.model.specs.Answers.{tooShort, notAChart}
 use Rattle.chart_reader.specs.Said as read
 use Rattle.chart_reader.specs.Read.{readChart}
-use Rattle.log_check.specs.Check.{logRefusalNumber}
+use Rattle.log_check.specs.Refusal.{logRefusalNumber}
 use Rattle.breaks.specs.declared.BreakAnswer.{BreakAnswer}
 use Rattle.breaks.specs.declared.BreakAnswer.the-variants.{Yes, No, NoChart, Refused}
-use Rattle.breaks.specs.Breaks.{breakNumber, breaksOf}
+use Rattle.breaks.specs.Numbers.{breakNumber}
+use Rattle.breaks.specs.Breaks.{breaksOf}
 use Rattle.lsc_more.specs.More.{startingWith}
 
 -- how many places of a buffer the answer takes

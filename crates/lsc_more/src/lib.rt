@@ -12,7 +12,7 @@ ghost use mathlib.Core.List.{[], _∷_};
 ghost use Prim.Native.Nat.{_≤_};
 ghost use lib.ListN.{length};
 ghost use Rattle.log_reader.specs.Next.{nextAt};
-ghost use Rattle.breaks.specs.Breaks.{breakNumber};
+ghost use Rattle.breaks.specs.Numbers.{breakNumber};
 ghost use Rattle.lsc_more.specs.More.{recordPlaces, messageNumbers, timeNumbers, plainNumbers, rawNumbers};
 ghost use Rattle.lsc_more.specs.More.{recordNumbers, nextNumber, startingWith, readNumber, readOut};
 ghost use Rattle.lsc_more.specs.Breaks.{breaksPlaces, refusalNumbers, answerNumbers};

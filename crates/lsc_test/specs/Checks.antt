@@ -3,7 +3,7 @@ use Prim.Native.Nat.{ℕ, suc}
 use Rattle.model.specs.Answers.{mostRecords, notAChart}
 use Rattle.log_check.specs.declared.Checked.{Checked}
 use Rattle.log_check.specs.declared.Checked.the-variants as checked
-use Rattle.log_check.specs.Check.{logRefusalNumber}
+use Rattle.log_check.specs.Refusal.{logRefusalNumber}
 use Rattle.breaks.specs.declared.BreakAnswer.{BreakAnswer}
 use Rattle.breaks.specs.declared.BreakAnswer.the-variants as asked
 

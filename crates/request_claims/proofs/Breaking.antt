@@ -38,7 +38,8 @@ use Rattle.log_check.specs.declared.Checked.{Checked}
 use Rattle.log_check.specs.declared.Checked.the-variants as checked
 use Rattle.log_check.specs.declared.CheckStep.{CheckStep}
 use Rattle.log_check.specs.declared.CheckStep.the-variants.{Over, Going}
-use Rattle.log_check.specs.Check.{logRefusalNumber, stepBy, stepAt, continueBy, checkFrom, checkLog}
+use Rattle.log_check.specs.Refusal.{logRefusalNumber}
+use Rattle.log_check.specs.Check.{stepBy, stepAt, continueBy, checkFrom, checkLog}
 use Rattle.log_check.specs.Sound.{onTaken, onSound, soundFrom, soundRecords}
 use Rattle.log_check.proofs.Laws.{isFine, Went, left-step}
 use Rattle.log_check.proofs.Sound.{sound-over, sound-going, all-sound}
@@ -50,7 +51,8 @@ use Rattle.judge.specs.Verdict as judge
 use Rattle.judge.specs.Judge.{byCheck, judgeOf}
 use Rattle.breaks.specs.declared.BreakAnswer.{BreakAnswer}
 use Rattle.breaks.specs.declared.BreakAnswer.the-variants.{Yes, No, NoChart, Refused}
-use Rattle.breaks.specs.Breaks.{breakNumber, breakOffset, byFault, answerBy, breaksOf}
+use Rattle.breaks.specs.Numbers.{breakNumber, breakOffset}
+use Rattle.breaks.specs.Breaks.{byFault, answerBy, breaksOf}
 use Rattle.claims.specs.Demand1.{Just, FindsAs, ends, Walk, start, step, FaultAt, no-record, overflows, JudgesAs}
 use Rattle.claims.specs.Demand1 as judging
 use Rattle.claims.proofs.Demand1.{given-not}

@@ -13,7 +13,7 @@ use Rattle.rounds.specs.Machine.{after}
 use Rattle.log_reader.specs.Record as found
 use Rattle.log_clock.specs.declared.Kind.{Kind}
 use Rattle.log_check.specs.declared.LogRefusal.{LogRefusal}
-use Rattle.log_check.specs.Check.{logRefusalNumber}
+use Rattle.log_check.specs.Refusal.{logRefusalNumber}
 use Rattle.breaks.specs.declared.BreakAnswer.{BreakAnswer}
 use Rattle.breaks.specs.declared.BreakAnswer.the-variants.{Yes, No, NoChart, Refused}
 use Rattle.claims.specs.Demand1.{FindsAs, Walk, FaultAt}

@@ -7,7 +7,7 @@ use Rattle.model.specs.declared.Chart.{Chart}
 use Rattle.judge.specs.Verdict as judge
 use Rattle.breaks.specs.declared.BreakAnswer.{BreakAnswer}
 use Rattle.breaks.specs.declared.BreakAnswer.the-variants.{Yes}
-use Rattle.breaks.specs.Breaks.{breakNumber, breakOffset}
+use Rattle.breaks.specs.Numbers.{breakNumber, breakOffset}
 use Rattle.claims.specs.Demand1.{JudgesAs}
 use Rattle.request_claims.specs.Breaks.{BreaksAs}
 

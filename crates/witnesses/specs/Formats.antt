@@ -13,7 +13,8 @@ use Rattle.log_check.specs.declared.LogRefusal.the-variants as log
 use Rattle.log_check.specs.declared.Checked.the-variants as checked
 use Rattle.log_check.specs.declared.CheckStep.{CheckStep}
 use Rattle.log_check.specs.declared.CheckStep.the-variants as check
-use Rattle.log_check.specs.Check.{logRefusalNumber, stepAt}
+use Rattle.log_check.specs.Refusal.{logRefusalNumber}
+use Rattle.log_check.specs.Check.{stepAt}
 use Rattle.text.specs.Text.{bytesOf}
 use Rattle.respond.specs.Respond.{textOf}
 use Rattle.claims.specs.Examples.{chartU, Says}

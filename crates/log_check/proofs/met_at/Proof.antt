@@ -2,11 +2,12 @@
 -- nothing.
 use mathlib.Core.Path.{ap, _∙_}
 use Prim.Native.Nat.{ℕ, _+_}
+use native.Mathlib.Omega.{arith}
 use borrow.Author.Tests.{eq-eqb}
 use Rattle.log_reader.specs.Record.{messageSize, timeSize}
 use Rattle.log_check.specs.Met.{metIf}
 use Rattle.log_check.proofs.Meets.{message-code, time-code, message-meets, time-meets, other-meets}
-use Rattle.log_check.proofs.Meets.{cut-short, no-byte, other-byte}
+use Rattle.log_check.proofs.Meets.{cut-short, no-byte, other-byte, small-byte}
 use borrow.Author.Needs.{needs}
 use Rattle.log_check.proofs.met_at.Statement.{statement}
 use Rattle.log_check.proofs.met_at.Tie as tie
@@ -58,6 +59,11 @@ returns-2 c =
     (cut-short (a .args .log .now) (a .args .at) (a .args .pace .message) messageSize (c .if2 .left)) (other-byte (a .args .log .now) (a .args .at) (a .args .pace) (a .pre .1) (c .before .if1 .taken)) in
     (M .met, M .steady)
 
+add-if3 : tie.Need-add-if3
+add-if3 c =
+    let a = c .before .before .before .before .before in
+    omega (arith, small-byte (a .args .pace) (a .pre .1))
+
 add-if4 : tie.Need-add-if4
 add-if4 c = search needs
 
@@ -88,14 +94,14 @@ returns-4 : tie.Need-returns-4
 returns-4 c =
     let a = c .before .before .before .before .before .before .before in
     let M = other-meets (a .args .log .now) (a .args .at) (a .args .last) (a .args .records) (a .args .pace) (a .pre .1) (a .pre .0)
-    (no-byte (a .args .log .now) (a .args .at) (a .args .pace .message) messageSize (c .before .before .before .if1 .left)) (cut-short (a .args .log .now) (a .args .at) (a .args .pace .time) timeSize (c .if4 .left)) in
+    (no-byte (a .args .log .now) (a .args .at) (a .args .pace .message) messageSize (c .before .before .before .if1 .left)) (cut-short (a .args .log .now) (a .args .at) (a .args .pace .message + 1) timeSize (c .if4 .left)) in
     (M .met, M .steady)
 
 returns-5 : tie.Need-returns-5
 returns-5 c =
     let a = c .before .before .before .before .before .before in
     let M = other-meets (a .args .log .now) (a .args .at) (a .args .last) (a .args .records) (a .args .pace) (a .pre .1) (a .pre .0)
-    (no-byte (a .args .log .now) (a .args .at) (a .args .pace .message) messageSize (c .before .before .if1 .left)) (no-byte (a .args .log .now) (a .args .at) (a .args .pace .time) timeSize (c .if3 .left)) in
+    (no-byte (a .args .log .now) (a .args .at) (a .args .pace .message) messageSize (c .before .before .if1 .left)) (no-byte (a .args .log .now) (a .args .at) (a .args .pace .message + 1) timeSize (c .if3 .left)) in
     (M .met, M .steady)
 
 pub met-at-spec : {M : Type 1} → statement M
@@ -114,6 +120,7 @@ met-at-spec =
     met-if-requires
     returns
     returns-2
+    add-if3
     add-if4
     add-word32-in-3
     word32-in-requires-3

@@ -1,7 +1,7 @@
 -- `lsc_more::put_answer` meets its contract: by the four cases of the answer. Assumes nothing.
 use mathlib.Core.Path.{sym, ap, _∙_}
 use Prim.Native.Nat.{ℕ}
-use Rattle.breaks.specs.Breaks.{breakNumber}
+use Rattle.breaks.specs.Numbers.{breakNumber}
 use Rattle.lsc_more.specs.Breaks.{logPart, refusalNumbers, answerNumbers}
 use Rattle.lsc_more.proofs.Laws.{written}
 use borrow.Author.Needs.{needs}
