@@ -63,8 +63,8 @@ extern "C" {
 #define LSC_PART_LOG 2
 
 /*
- * Judges a whole log by a chart. The chart is read first, then the whole log is checked,
- * then its records are taken up to the end or a break.
+ * Judges a whole log by a chart. The chart is read first. A fault anywhere in the log refuses it,
+ * after a break too; otherwise its records are taken up to the end or a break.
  *
  * Returns 0, and out[0..7] = standing, kept, dropped, records, break, reason, region, term; or
  * the refusal's number (chart 1 to 11; log 22, 23, 24, 30, 31, 32), and out[0..7] = part, number,

@@ -76,7 +76,7 @@ use call::{BREAKS_PLACES, TEXT_ROOM, VERDICT_PLACES};
 
 /// Judges a whole log by a chart; both as bytes.
 ///
-/// The chart is read first, then the whole log is checked, and only then are records taken.
+/// The chart is read first. A fault anywhere in the log refuses it, after a break too.
 pub fn judge(chart: &[u8], log: &[u8]) -> Result<Verdict, Refusal> {
     let mut out = [0; VERDICT_PLACES];
     match call::judge(chart, log, &mut out) {

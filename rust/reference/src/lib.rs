@@ -3,7 +3,7 @@
 //!
 //! `command` and `reader` read charts (B, R), `well_formed` has refusal 20 (M4), `monitor`
 //! takes records (O, M, T), `record` has those of a log, plain and raw (L), `log` reads and judges
-//! logs (E, J) and says whether they break a chart, `print` makes the printed text (P).
+//! logs (E, J) and asks whether they break a chart (K), `print` makes the printed text (P).
 //! `declarative` decides the same by trying every row (W). `examples` has chart U and logs over it
 //! (X).
 #![forbid(unsafe_code)]

@@ -198,8 +198,8 @@ pub fn judge(chart: &ChartValue, bytes: &[u8]) -> Result<Verdict, (u8, usize)> {
     Ok(verdict(chart, &monitor))
 }
 
-/// Whether the log breaks the chart, or the refusal and its offset. Record by record, each is
-/// checked and then fed; the first break ends it, so that a fault behind it is not seen.
+/// Whether the log breaks the chart, or the refusal and its offset (K1 to K4). Record by record,
+/// each is checked and then fed; the first break ends it, so that a fault after it is not seen.
 pub fn breaks(chart: &ChartValue, bytes: &[u8]) -> Result<bool, (u8, usize)> {
     if !is_given(chart) {
         return Err((20, 0));
