@@ -15,9 +15,8 @@ use Rattle.stepping.specs.Monitors.{monitorAt}
 use Rattle.log_check.specs.declared.Checked.{Checked}
 use Rattle.log_check.specs.Check.{checkLog}
 use Rattle.log_check.specs.Sound.{soundRecords}
-use Rattle.breaks.specs.declared.BreakAnswer.{BreakAnswer}
 use Rattle.breaks.specs.declared.BreakAnswer.the-variants.{Yes, NoChart}
-use Rattle.breaks.specs.Breaks.{byFault, answerBy, breaksOf}
+use Rattle.breaks.specs.Breaks.{byFault, breaksOf}
 
 module _ (c : Chart) (s : List ℕ) where
   pub no-chart : wellFormed c ≡ false → NoChart ≡ breaksOf c s

@@ -22,7 +22,6 @@ use Rattle.stepping.specs.Monitors.{monitorAt}
 use Rattle.log_clock.specs.Records.{recordsIn}
 use Rattle.chart_value.specs.Records.{logged}
 use Rattle.log_check.specs.declared.LogRefusal.{LogRefusal}
-use Rattle.log_check.specs.declared.Checked.{Checked}
 use Rattle.log_check.specs.declared.Checked.the-variants as checked
 use Rattle.log_check.specs.Check.{checkLog}
 use Rattle.log_check.specs.Sound.{soundRecords}

@@ -21,7 +21,7 @@ use Rattle.log_clock.specs.declared.Kind.the-variants.{Plain, Raw}
 use Rattle.log_clock.specs.declared.MomentRefusal.the-variants.{Falls, TooLate}
 use Rattle.log_clock.specs.declared.Timed.{Timed}
 use Rattle.log_clock.specs.declared.Timed.the-variants as timed
-use Rattle.log_clock.specs.Clock.{range, halfRange, gapOf, laterMoment, rawMoment}
+use Rattle.log_clock.specs.Clock.{range, halfRange, gapOf, laterMoment}
 use Rattle.log_clock.proofs.Times.{gap-only, later-at}
 use Rattle.log_check.specs.declared.LogRefusal.the-variants.{NoMoment, TooManyRecords}
 use Rattle.log_check.specs.declared.Checked.{Checked}
@@ -32,9 +32,9 @@ use Rattle.log_check.specs.declared.Pace.{Pace}
 use Rattle.log_check.specs.declared.Met.{Met}
 use Rattle.log_check.specs.declared.Met.the-variants.{Other, Sound}
 use Rattle.log_check.specs.Check.{takeRecord, stepAt}
-use Rattle.log_check.specs.Met.{plainPace, rawPace, Paced, plainly, rawly, kindIn, inTime, metIf, codeOf, codeAt}
+use Rattle.log_check.specs.Met.{plainPace, rawPace, Paced, plainly, rawly, kindIn, metIf, codeOf, codeAt}
 use Rattle.log_check.specs.Met.{isMessage, metBy, metAt, Steady, endedBy, paceOf}
-use Rattle.log_check.proofs.Laws.{took, Went, went, Left, left-step}
+use Rattle.log_check.proofs.Laws.{took, went, Left, left-step}
 use Rattle.log_check.proofs.Steps.{whole, takeTimed, plain-message, plain-time, plain-fault}
 use Rattle.log_check.proofs.Steps.{raw-message, raw-time, raw-fault}
 

@@ -23,7 +23,6 @@ use Rattle.log_clock.specs.Records.{onRecord, recordsFrom, recordsIn}
 use Rattle.log_check.specs.declared.LogRefusal.the-variants.{NoMoment, TooManyRecords}
 use Rattle.log_check.specs.declared.Checked.{Checked}
 use Rattle.log_check.specs.declared.Checked.the-variants.{Refused}
-use Rattle.log_check.specs.declared.CheckStep.{CheckStep}
 use Rattle.log_check.specs.declared.CheckStep.the-variants.{Over, Going}
 use Rattle.log_check.specs.Check.{takeRecord, stepBy, stepAt, continueBy, checkFrom, checkLog}
 use Rattle.log_check.specs.Met.{paceOf, kindIn}

@@ -14,13 +14,13 @@ use model::Moment;
 use model::Stamp;
 use model::TOO_MANY_RECORDS;
 ghost use mathlib.Core.Path.{_≡_};
-ghost use Prim.Native.Nat.{_≤_, _<_, _+_, _%_};
+ghost use Prim.Native.Nat.{_<_, _+_, _%_};
 ghost use lib.ListN.{length};
 ghost use Rattle.log_reader.specs.Next.{nextAt};
 ghost use Rattle.log_clock.specs.Clock.{range};
 ghost use Rattle.log_check.specs.Refusal.{logRefusalNumber};
 ghost use Rattle.log_check.specs.Check.{takeRecord, stepBy, stepAt, checkFrom, checkLog};
-ghost use Rattle.log_check.specs.Met.{plainPace, rawPace, paceOf, Paced, kindIn, inTime, metIf, metAt, Steady};
+ghost use Rattle.log_check.specs.Met.{plainPace, paceOf, Paced, kindIn, inTime, metIf, metAt, Steady};
 ghost use Rattle.log_check.specs.Met.{codeOf, endedBy};
 
 // Why a log is refused.

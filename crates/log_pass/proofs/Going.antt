@@ -1,11 +1,10 @@
 -- The pass so far: the records before an offset were taken, the rest is still to be checked and taken, and nothing is
 -- broken. Assumes nothing.
-use mathlib.Core.Path.{_≡_, refl, sym, ap, ap₂, subst, _∙_}
+use mathlib.Core.Path.{_≡_, sym, ap, ap₂, subst, _∙_}
 use mathlib.Core.Logic.{_≢_}
 use mathlib.Core.List.{List}
 use Prim.Native.Nat.{ℕ, suc, _+_, _-_, _≤_, _<_}
 use native.Mathlib.Omega.{arith}
-use lib.Dec.{leb, ltb}
 use lib.ListN.{length}
 use borrow.Author.Tests.{ltb-false, leb-false}
 use Rattle.model.specs.declared.Moment.{Moment}
@@ -23,7 +22,6 @@ use Rattle.stepping.specs.Monitors.{monitorAt, stepOf, recordOf}
 use Rattle.stepping.proofs.Zeros.{zero-fresh}
 use Rattle.chart_value.specs.Records.{recordCode, logRecord, logged}
 use Rattle.log_reader.specs.Next.{nextAt}
-use Rattle.log_clock.specs.declared.Kind.{Kind}
 use Rattle.log_check.specs.declared.Checked.{Checked}
 use Rattle.log_check.specs.declared.CheckStep.the-variants.{Over}
 use Rattle.log_check.specs.declared.Pace.{Pace}
@@ -103,9 +101,6 @@ module _ {C : Abstract} {s : List ℕ} {p : Pace} {m : Monitor} {at : ℕ} (G : 
   -- a record that was met is taken
   module _ (h : at < length s) (code : ℕ) (t : Moment) (past : ℕ)
       (M : Goes s at p (m .tally .now) (m .tally .records) code t past) where
-    k : Kind
-    k = kindIn p (m .tally .now)
-
     met : Went s at (kindIn p (m .tally .now)) (m .tally .now) (m .tally .records) past (kindIn p t) t
         (m .tally .records + 1)
     met =

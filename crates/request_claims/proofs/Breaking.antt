@@ -1,14 +1,14 @@
 -- The cases of yes and no are those of the definition, and the answers stand to judging as claimed. Assumes nothing.
-use mathlib.Core.Path.{_≡_, refl, sym, ap, ap₂, subst, _∙_}
+use mathlib.Core.Path.{_≡_, refl, sym, ap, subst, _∙_}
 use mathlib.Core.Logic.{_≢_, inl, inr, _↔_}
-use mathlib.Core.Bool.{Bool, true, false, cond, not}
+use mathlib.Core.Bool.{Bool, true, false, cond}
 use mathlib.Core.List.{List}
-use Prim.Native.Nat.{ℕ, zero, suc, _+_, _-_, _≤_, _<_}
+use Prim.Native.Nat.{ℕ, zero, suc, _+_, _-_, _≤_}
 use native.Mathlib.Decide.{ℕ-discrete}
 use native.Mathlib.Omega.{arith}
 use native.Mathlib.Numerals.{add-one}
 use borrow.Author.Tests.{ltb-true, ltb-false, leb-true, leb-false, le-ltb, lt-leb, eq-eqb, ne-eqb}
-use lib.Dec.{eqb, leb, ltb}
+use lib.Dec.{leb, ltb}
 use lib.ListN.{length}
 use Rattle.model.specs.declared.Chart.{Chart}
 use Rattle.model.specs.declared.Moment.{Moment}
@@ -36,7 +36,6 @@ use Rattle.log_check.specs.declared.LogRefusal.{LogRefusal}
 use Rattle.log_check.specs.declared.LogRefusal.the-variants.{NoRecord, NoMoment, TooManyRecords}
 use Rattle.log_check.specs.declared.Checked.{Checked}
 use Rattle.log_check.specs.declared.Checked.the-variants as checked
-use Rattle.log_check.specs.declared.CheckStep.{CheckStep}
 use Rattle.log_check.specs.declared.CheckStep.the-variants.{Over, Going}
 use Rattle.log_check.specs.Refusal.{logRefusalNumber}
 use Rattle.log_check.specs.Check.{stepBy, stepAt, continueBy, checkFrom, checkLog}
@@ -53,7 +52,7 @@ use Rattle.breaks.specs.declared.BreakAnswer.{BreakAnswer}
 use Rattle.breaks.specs.declared.BreakAnswer.the-variants.{Yes, No, NoChart, Refused}
 use Rattle.breaks.specs.Numbers.{breakNumber, breakOffset}
 use Rattle.breaks.specs.Breaks.{byFault, answerBy, breaksOf}
-use Rattle.claims.specs.Demand1.{Just, FindsAs, ends, Walk, start, step, FaultAt, no-record, overflows, JudgesAs}
+use Rattle.claims.specs.Demand1.{Just, ends, Walk, start, step, no-record, overflows, JudgesAs}
 use Rattle.claims.specs.Demand1 as judging
 use Rattle.claims.proofs.Demand1.{given-not}
 use Rattle.claims.proofs.Answers.{answers-tell}

@@ -20,7 +20,11 @@ pass-requires : tie.Need-pass-requires
 pass-requires c κs = sym (c .before .well-formed .ensures .0) ∙ not-false _ (c .if1 .left)
 
 returns-2 : tie.Need-returns-2
-returns-2 c = (yes _ _ (c .before .before .before .pass .result .monitor) (sym (c .before .before .before .before .before .well-formed .ensures .0) ∙ not-false _ (c .before .before .before .before .if1 .left)) (c .before .before .before .pass .ensures .0) (c .if2 .taken), refl)
+returns-2 c =
+    let w = sym (c .before .before .before .before .before .well-formed .ensures .0)
+    ∙ not-false _ (c .before .before .before .before .if1 .left) in
+    let p = c .before .before .before .pass in
+    (yes _ _ (p .result .monitor) w (p .ensures .0) (c .if2 .taken), refl)
 
 check-rest-requires : tie.Need-check-rest-requires
 check-rest-requires c κs = search needs
@@ -32,18 +36,26 @@ enum-told : tie.Need-enum-told
 enum-told c = search needs
 
 returns-3 : tie.Need-returns-3
-returns-3 c = (
-  no-break _ _ (c .before .before .before .before .before .before .before .pass .result .monitor) (sym (c .before .before .before .before .before .before .before .before .before .well-formed .ensures .0) ∙ not-false _ (c .before .before .before .before .before .before .before .before .if1 .left)) (c .before .before .before .before .before .before .before .pass .ensures .0) (c .before .before .before .before .if2 .left) _
-      (sym (c .before .before .before .before .before .before .before .pass .ensures .1 .0) ∙ sym (c .before .before .before .check-rest .ensures .0) ∙ c .before .rest .given .1),
-  refl,
-)
+returns-3 c =
+    let a = c .before .before .before in
+    let p = a .before .before .before .before .pass in
+    let w = sym (a .before .before .before .before .before .before .well-formed .ensures .0)
+    ∙ not-false _ (a .before .before .before .before .before .if1 .left) in (
+      no-break _ _ (p .result .monitor) w (p .ensures .0) (a .before .if2 .left) _
+          (sym (p .ensures .1 .0) ∙ sym (a .check-rest .ensures .0) ∙ c .before .rest .given .1),
+      refl,
+    )
 
 returns-4 : tie.Need-returns-4
-returns-4 c = (
-  no-break _ _ (c .before .before .before .before .before .before .pass .result .monitor) (sym (c .before .before .before .before .before .before .before .before .well-formed .ensures .0) ∙ not-false _ (c .before .before .before .before .before .before .before .if1 .left)) (c .before .before .before .before .before .before .pass .ensures .0) (c .before .before .before .if2 .left) _
-      (sym (c .before .before .before .before .before .before .pass .ensures .1 .0) ∙ sym (c .before .before .check-rest .ensures .0) ∙ c .enum-told .given .1),
-  refl,
-)
+returns-4 c =
+    let a = c .before .before in
+    let p = a .before .before .before .before .pass in
+    let w = sym (a .before .before .before .before .before .before .well-formed .ensures .0)
+    ∙ not-false _ (a .before .before .before .before .before .if1 .left) in (
+      no-break _ _ (p .result .monitor) w (p .ensures .0) (a .before .if2 .left) _
+          (sym (p .ensures .1 .0) ∙ sym (a .check-rest .ensures .0) ∙ c .enum-told .given .1),
+      refl,
+    )
 
 pub breaks-spec : {M : Type 1} → statement M
 breaks-spec =
