@@ -1,7 +1,9 @@
 // Feeds logs to charts record by record. Standard input has a line for each: a name, ':', the chart's bytes in
 // hexadecimal, '/', the log's. For each record it writes the answer's number, its region and term, and of the monitor
 // then handed back: fired regions as a set, now, records, kept, dropped, break, reason, region, term, and each clock's
-// reset moment. The expected lines, in the file stdout, are worked out from the rules.
+// reset moment; then, of the whole log, whether it breaks the chart: yes, no, or the refusal's number and offset. The
+// expected lines, in the file stdout, are worked out from the rules.
+use breaks::BreakAnswer;
 use hex::COLON;
 use hex::LINE_FEED;
 use libc::STDIN_FILENO;
@@ -88,10 +90,31 @@ fn put_feeds(chart: &[u8], log: &[u8]) {
     }
 }
 
+fn put_refusal(number: u8, offset: usize) {
+    put(b" refused");
+    put_number(number as u32);
+    put(b" at ");
+    io::print_decimal(STDOUT_FILENO, offset as u64);
+    put(b"\n");
+}
+
+// Whether the log breaks the chart.
+fn put_asked(chart: &[u8], log: &[u8]) {
+    let read = chart_reader::read(chart);
+    let answer = breaks::breaks(read.chart, log);
+    match answer {
+        BreakAnswer::Yes => put(b" yes\n"),
+        BreakAnswer::No => put(b" no\n"),
+        BreakAnswer::NoChart => put_refusal(model::NOT_A_CHART, 0),
+        BreakAnswer::Refused(k, offset) => put_refusal(log_check::refusal_number(k), offset),
+    }
+}
+
 fn put_log(chart: &[u8], digits: &[u8]) {
     let mut log = [0u8; 256];
     let n = hex::put_bytes(digits, &mut log);
     put_feeds(chart, &log[..n]);
+    put_asked(chart, &log[..n]);
 }
 
 // One line: the name, the chart's digits and the log's.
