@@ -60,7 +60,7 @@ use Rattle.log_check.specs.Refusal.{logRefusalNumber}
 use Rattle.judge.specs.Verdict.{verdictOf}
 use Rattle.judge.specs.Verdict as judge
 use Rattle.judge.specs.Judge.{byCheck, judgeOf}
-use Rattle.log_check.proofs.Laws.{Left, left-first, left-step, left-going}
+use Rattle.log_check.proofs.Laws.{came-to, Left, left-first, left-step, left-going}
 use Rattle.claims.specs.Demand1.{Just, FindsAs, ends, unknown, message-cut, time-cut, raw-message-cut}
 use Rattle.claims.specs.Demand1.{raw-time-cut, message, time, raw-message, raw-time}
 use Rattle.claims.specs.Demand1.{ComesAs, first-plain, plain, first-raw, raw, Walk, start, step}
@@ -268,19 +268,13 @@ comes-set (first-raw e p F) z = let w : _≡_ {A = ℕ} 0 1 = cc in omega arith
 comes-set (raw from e p F g t h l) z = let w : _≡_ {A = ℕ} 0 1 = cc in omega arith
 
 module _ (s : List ℕ) where
-  -- what the check makes of what stands at an offset
-  pub came-to : (at : ℕ) (k : Kind) (last : Moment) (n : ℕ) (d : Dated) → datedAt s at k last ≡ d
-      → stepAt s at k last n ≡ stepBy at last n d
-  unfolding stepAt
-  came-to at k last n d q = ap (stepBy at last n) q
-
   pub took : (at : ℕ) (k : Kind) (last : Moment) (n : ℕ) (e : Record) (kind : Kind) (p : ℕ)
       → datedAt s at k last ≡ dated.At e kind p → (a b : Bool)
       → ltb (timeOf e .0) (last .0) ≡ a
       → leb mostRecords n ≡ b
       → stepAt s at k last n ≡ cond a (Over (checked.Refused (NoMoment Falls) at))
       (cond b (Over (checked.Refused TooManyRecords at)) (Going p kind (timeOf e) (n + 1)))
-  took at k last n e kind p q a b x y = came-to at k last n _ q ∙ rw (x, y)
+  took at k last n e kind p q a b x y = came-to s at k last n _ q ∙ rw (x, y)
 
   pub walked : {es : Snoc Record} {k : Kind} {at last : ℕ} → Walk s es k at last → Stands s es k at last
   unfolding recordsIn
@@ -320,7 +314,7 @@ module _ (s : List ℕ) where
       → checkLog s ≡ checked.Fine (size es)
   walk-fine {es} {k} {at} {last} W F =
       sym (left-step s at k (moment last) (size es) (walked W .left) (Over (checked.Fine (size es)))
-      (came-to at k (moment last) (size es) dated.End (ended at k (moment last) F)))
+      (came-to s at k (moment last) (size es) dated.End (ended at k (moment last) F)))
 
   -- a fault is what the check ends with
   pub record Ends (es : Snoc Record) (k : Kind) (at last f : ℕ) : Type 0 where
@@ -334,20 +328,20 @@ module _ (s : List ℕ) where
       let R = found-refused s at f F in
       record {
         why = NoRecord (R .0);
-        ends-there = came-to at k (moment last) (size es) _ (dated-next s at k (moment last) _ (R .1));
+        ends-there = came-to s at k (moment last) (size es) _ (dated-next s at k (moment last) _ (R .1));
         told = R .2;
       }
   fault-ends {es} {at} {last} k f z (raw-in-plain e p F) = record {
     why = NoMoment Mixed;
     ends-there =
-        came-to at Plain (moment last) (size es) _
+        came-to s at Plain (moment last) (size es) _
         (dated-next s at Plain (moment last) _ (found-as s at (next.Raw e p) F));
     told = refl;
   }
   fault-ends {es} {at} {last} k f z (plain-in-raw from e p F) = record {
     why = NoMoment Mixed;
     ends-there =
-        came-to at (Raw from) (moment last) (size es) _
+        came-to s at (Raw from) (moment last) (size es) _
         (dated-next s at (Raw from) (moment last) _ (found-as s at (next.Handed e p) F));
     told = refl;
   }
@@ -364,7 +358,7 @@ module _ (s : List ℕ) where
       record {
         why = NoMoment Falls;
         ends-there =
-            came-to at (Raw from) (moment last) (size es) (dated.NoMoment Falls)
+            came-to s at (Raw from) (moment last) (size es) (dated.NoMoment Falls)
             (dated-next s at (Raw from) (moment last) _ (found-as s at (next.Raw e p) F)
             ∙ ap (λ (x : ℕ). rawBy e p (laterMoment (moment last) x)) m
             ∙ rw (le-leb _ _ h));
@@ -375,7 +369,7 @@ module _ (s : List ℕ) where
       record {
         why = NoMoment TooLate;
         ends-there =
-            came-to at (Raw from) (moment last) (size es) (dated.NoMoment TooLate)
+            came-to s at (Raw from) (moment last) (size es) (dated.NoMoment TooLate)
             (dated-next s at (Raw from) (moment last) _ (found-as s at (next.Raw e p) F)
             ∙ ap (λ (x : ℕ). rawBy e p (laterMoment (moment last) x)) m
             ∙ rw (lt-leb _ _ h, le-leb _ _ r));

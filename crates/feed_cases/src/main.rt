@@ -1,8 +1,9 @@
 // Feeds logs to charts record by record. Standard input has a line for each: a name, ':', the chart's bytes in
-// hexadecimal, '/', the log's. For each record it writes the answer's number, its region and term, and of the monitor
-// then handed back: fired regions as a set, now, records, kept, dropped, break, reason, region, term, and each clock's
-// reset moment; then, of the whole log, whether it breaks the chart: yes, no, or the refusal's number and offset. The
-// expected lines, in the file stdout, are worked out from the rules.
+// hexadecimal, '/', the log's. Before each record it writes what is shown at its moment: 0 or the refusal's number, a
+// byte for each region, and the byte after them, which was 9 before. Then, of the feed, the answer's number, its region
+// and term, and of the monitor handed back: fired regions as a set, now, records, kept, dropped, break, reason, region,
+// term, and each clock's reset moment. At last, of the whole log, whether it breaks the chart: yes, no, or the refusal's
+// number and offset. The expected lines, in the file stdout, are worked out from the rules.
 use breaks::BreakAnswer;
 use hex::COLON;
 use hex::LINE_FEED;
@@ -12,11 +13,19 @@ use log_clock::Dated;
 use log_clock::Kind;
 use model::CLOCK_PLACES;
 use model::Cause;
+use model::Chart;
+use model::MOST_REGIONS;
 use model::Moment;
 use model::Monitor;
 use stepping::Step;
 
 const SLASH: u8 = b'/';
+
+// One byte for each region, and one more.
+const ROOM: usize = MOST_REGIONS + 1;
+
+// What the buffer holds before.
+const STAYS: u8 = 9;
 
 fn put(text: &[u8]) {
     io::write_all(STDOUT_FILENO, text);
@@ -65,6 +74,27 @@ fn put_step(s: Step) {
     put(b"\n");
 }
 
+fn put_bytes(bytes: [u8; ROOM], count: usize) {
+    let mut i: usize = 0;
+    while i < ROOM {
+        if count < i {
+            return;
+        }
+        put_number(bytes[i] as u32);
+        i += 1;
+    }
+}
+
+// What is shown at a moment, and the byte after it.
+fn put_preview(c: Chart, m: Monitor, t: Moment) {
+    let mut bytes = [STAYS; ROOM];
+    let answer = preview::preview(c, m, t, &mut bytes);
+    put(b" shows");
+    put_number(preview::number(answer) as u32);
+    put_bytes(bytes, c.count as usize);
+    put(b"\n");
+}
+
 // Feeds the log's records from the left, each at its moment, as far as there are records with moments.
 fn put_feeds(chart: &[u8], log: &[u8]) {
     let read = chart_reader::read(chart);
@@ -80,6 +110,7 @@ fn put_feeds(chart: &[u8], log: &[u8]) {
         let Dated::At(e, then, past) = dated else {
             return;
         };
+        put_preview(c, m, model::time_of(e));
         let s = monitor::feed(c, m, e);
         put_step(s);
         m = s.next;

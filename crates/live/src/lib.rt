@@ -87,7 +87,7 @@ pub fn open(chart: &[u8], live: &mut [u8]) -> Opened
 }
 
 // The chart in the bytes; zeros if they hold no chart.
-fn chart_in(live: &[u8]) -> Chart
+pub fn chart_in(live: &[u8]) -> Chart
     ensures { λ r. ⌜ r ≡ chartIn (now (live .entry)) ⌝ }
 {
     if live.len() < HEAD_SIZE {

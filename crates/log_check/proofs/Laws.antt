@@ -55,9 +55,9 @@ took i u q at last n p j t m = by (ltb (u .0) (last .0)) (leb mostRecords n) ref
 
 module _ (s : List ℕ) (at : ℕ) (k : Kind) (last : Moment) (n : ℕ) where
   -- what stands there decides
-  pub by-dated : (d : Dated) → d ≡ datedAt s at k last → stepBy at last n d ≡ stepAt s at k last n
+  pub came-to : (d : Dated) → datedAt s at k last ≡ d → stepAt s at k last n ≡ stepBy at last n d
   unfolding stepAt
-  by-dated d q = ap (stepBy at last n) q
+  came-to d q = ap (stepBy at last n) q
 
   -- the record that the check takes
   pub record Went (p : ℕ) (j : Kind) (t : Moment) (m : ℕ) : Type 0 where

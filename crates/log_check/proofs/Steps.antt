@@ -16,9 +16,9 @@ use Rattle.log_reader.specs.declared.Next.{Next}
 use Rattle.log_reader.specs.declared.Next.the-variants as next
 use Rattle.log_reader.specs.Record.{messageTag, timeTag, rawMessageTag, rawTimeTag, messageSize, timeSize}
 use Rattle.log_reader.specs.Record.{rawMessageAt, rawTimeAt}
-use Rattle.log_reader.specs.Next.{nextAt, isRaw}
+use Rattle.log_reader.specs.Next.{nextAt}
 use Rattle.log_reader.proofs.Offsets.{not-end}
-use Rattle.log_reader.proofs.There.{isHanded, message-read, time-read, raw-message-read, raw-time-read}
+use Rattle.log_reader.proofs.There.{isHanded, isRaw, message-read, time-read, raw-message-read, raw-time-read}
 use Rattle.log_reader.proofs.There.{is-whole, no-plain, no-raw}
 use Rattle.log_clock.specs.declared.Kind.{Kind}
 use Rattle.log_clock.specs.declared.Kind.the-variants.{Plain, Raw}

@@ -13,14 +13,21 @@ use Rattle.log_reader.specs.declared.Next.{Next}
 use Rattle.log_reader.specs.declared.Next.the-variants.{End, Refused, Handed, Raw}
 use Rattle.log_reader.specs.Record.{messageTag, timeTag, rawMessageTag, rawTimeTag, messageSize, timeSize}
 use Rattle.log_reader.specs.Record.{messageAt, timeAt, rawMessageAt, rawTimeAt}
-use Rattle.log_reader.specs.Next.{nextAt, isRaw}
+use Rattle.log_reader.specs.Next.{nextAt}
 use Rattle.log_reader.proofs.Offsets.{read, is-read}
 
+-- a plain record was read, and a raw one
 abbrev pub isHanded : Next → Bool
 isHanded End = false
 isHanded (Refused f) = false
 isHanded (Handed e p) = true
 isHanded (Raw e p) = false
+
+abbrev pub isRaw : Next → Bool
+isRaw End = false
+isRaw (Refused f) = false
+isRaw (Handed e p) = false
+isRaw (Raw e p) = true
 
 module _ (s : List ℕ) (at : ℕ) where
   -- a byte is not two tags

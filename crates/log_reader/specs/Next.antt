@@ -1,6 +1,6 @@
 -- The record at an offset, as it is computed (E2 to E4).
 use Prim.Native.Nat.{ℕ, _+_}
-use mathlib.Core.Bool.{Bool, true, false, cond, _||_}
+use mathlib.Core.Bool.{cond, _||_}
 use mathlib.Core.List.{List}
 use lib.ListN.{getD, length}
 use lib.Dec.{eqb, leb, ltb}
@@ -30,10 +30,3 @@ recordBy s at b =
 -- E2 to E4: the end where no byte is left, else a refusal, or the record with the offset just after it
 abbrev pub nextAt : List ℕ → ℕ → Next
 nextAt s at = cond (leb (length s) at) End (recordBy s at (getD s at 0))
-
--- a raw record was read
-abbrev pub isRaw : Next → Bool
-isRaw End = false
-isRaw (Refused f) = false
-isRaw (Handed e past) = false
-isRaw (Raw e past) = true

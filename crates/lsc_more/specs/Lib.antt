@@ -1,2 +1,3 @@
 pub mod More
 pub mod Breaks
+pub mod Preview

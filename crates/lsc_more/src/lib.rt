@@ -1,12 +1,14 @@
-// V18, V19: the exported functions that read one record, and that ask whether a log breaks a chart. 0 is success, 12 a
-// buffer with too few places.
+// V18 to V20: the exported functions that read one record, that ask whether a log breaks a chart, and that show what a
+// live monitor would answer. 0 is success, 12 a buffer with too few places.
 use breaks::BreakAnswer;
 use chart_reader::ChartAnswer;
 use log_reader::Next;
 use model::Message;
+use model::Moment;
 use model::RawRecord;
 use model::Record;
 use model::TOO_SHORT;
+use preview::PreviewAnswer;
 ghost use mathlib.Core.Path.{_≡_};
 ghost use mathlib.Core.List.{[], _∷_};
 ghost use Prim.Native.Nat.{_≤_};
@@ -17,6 +19,10 @@ ghost use Rattle.lsc_more.specs.More.{recordPlaces, messageNumbers, time
 ghost use Rattle.lsc_more.specs.More.{recordNumbers, nextNumber, startingWith, readNumber, readOut};
 ghost use Rattle.lsc_more.specs.Breaks.{breaksPlaces, refusalNumbers, answerNumbers};
 ghost use Rattle.lsc_more.specs.Breaks.{breaksNumber, breaksOut};
+ghost use Rattle.preview.specs.Preview.{previewNumber, bufferOf};
+ghost use Rattle.monitor_image.specs.MonitorImage.{monitorIn};
+ghost use Rattle.live.specs.Live.{chartIn};
+ghost use Rattle.lsc_more.specs.Preview.{previewIn, regionsTold, Foretells};
 
 // How many places of a buffer a record takes.
 const RECORD_PLACES: usize = 6;
@@ -195,4 +201,35 @@ pub extern "C" fn lsc_breaks(chart: &[u8], log: &[u8], out: &mut [u64]) -> u8
         }
         ChartAnswer::Accepted => put_answer(out, breaks::breaks(read.chart, log)),
     }
+}
+
+// How many regions the chart has, told if it can be shown or the buffer is too short; else 0.
+fn regions_told(count: u8, answer: PreviewAnswer) -> u64
+    ensures { λ r. ⌜ r ≡ regionsTold count answer ⌝ }
+{
+    match answer {
+        PreviewAnswer::Shown => count as u64,
+        PreviewAnswer::TooShort => count as u64,
+        PreviewAnswer::Refused(_) => 0,
+    }
+}
+
+// F1 to F5: shows what the live monitor would answer to each region's message at a moment.
+#[no_mangle]
+pub extern "C" fn lsc_preview(live: &[u8], time: u32, out: &mut [u8], regions: &mut u64) -> u8
+    ensures number { λ r. ⌜ r ≡ previewNumber (previewIn (now (live .entry)) time (length (now (out .entry)))) ⌝ }
+    ensures bytes { λ r. ⌜ now (out .exit)
+        ≡ bufferOf (chartIn (now (live .entry))) (monitorIn (now (live .entry))) (record { 0 = time })
+        (now (out .entry)) ⌝ }
+    ensures regions { λ r. ⌜ now (regions .exit)
+        ≡ regionsTold (chartIn (now (live .entry)) .count)
+        (previewIn (now (live .entry)) time (length (now (out .entry)))) ⌝ }
+    ensures fed { λ r. ⌜ Foretells (now (live .entry)) time r (now (out .exit)) ⌝ }
+    ensures unchanged { λ r. ⌜ now (live .exit) ≡ now (live .entry) ⌝ }
+{
+    let chart = live::chart_in(live);
+    let m = monitor_image::monitor_at(live);
+    let answer = preview::preview(chart, m, Moment(time), out);
+    *regions = regions_told(chart.count, answer);
+    preview::number(answer)
 }

@@ -40,7 +40,7 @@ use Rattle.log_check.specs.declared.CheckStep.the-variants.{Over, Going}
 use Rattle.log_check.specs.Refusal.{logRefusalNumber}
 use Rattle.log_check.specs.Check.{stepBy, stepAt, continueBy, checkFrom, checkLog}
 use Rattle.log_check.specs.Sound.{onTaken, onSound, soundFrom, soundRecords}
-use Rattle.log_check.proofs.Laws.{isFine, Went, left-step}
+use Rattle.log_check.proofs.Laws.{isFine, came-to, Went, left-step}
 use Rattle.log_check.proofs.Sound.{sound-over, sound-going, all-sound}
 use Rattle.log_pass.proofs.Fed.{still}
 use Rattle.judge.specs.declared.JudgeAnswer.{JudgeAnswer}
@@ -56,7 +56,7 @@ use Rattle.claims.specs.Demand1.{Just, ends, Walk, start, step, no-record, over
 use Rattle.claims.specs.Demand1 as judging
 use Rattle.claims.proofs.Demand1.{given-not}
 use Rattle.claims.proofs.Answers.{answers-tell}
-use Rattle.claims.proofs.Logs.{moment, comes-dated, Seen, sees-end, sees-none, sees-fault, sees-record, seen, came-to}
+use Rattle.claims.proofs.Logs.{moment, comes-dated, Seen, sees-end, sees-none, sees-fault, sees-record, seen}
 use Rattle.claims.proofs.Logs.{took, walked, ended, fault-ends, walk-fine, judges-just}
 use Rattle.request_claims.specs.Breaks as case
 use Rattle.request_claims.specs.Breaks.{Broken, Unbroken, BreaksAs}

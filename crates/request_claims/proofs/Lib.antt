@@ -1,1 +1,2 @@
 pub mod Breaking
+pub mod Previewing

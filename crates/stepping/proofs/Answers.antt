@@ -1,4 +1,4 @@
--- What the theory has of an answer fixes it: refusals are told apart by their numbers. Assumes nothing.
+-- What the theory has of an answer fixes it, and has its number: refusals are told apart by theirs. Assumes nothing.
 use mathlib.Core.Path.{_≡_, refl, sym, ap, _∙_}
 use mathlib.Core.Bool.{cond}
 use Prim.Native.Nat.{ℕ}
@@ -7,9 +7,9 @@ use Rattle.model.specs.declared.FeedRefusal.{FeedRefusal}
 use Rattle.model.specs.declared.FeedRefusal.the-variants.{NotAChart, Unfit, TimeFalls, TooManyRecords}
 use Rattle.model.specs.declared.Answer.{Answer}
 use Rattle.model.specs.declared.Answer.the-variants.{Refused, Broken, Kept, Dropped, Entered, Moved, Quiet}
-use Rattle.model.specs.Answers.{feedRefusalNumber}
+use Rattle.model.specs.Answers.{feedRefusalNumber, answerNumber}
 use Rattle.rounds.specs.Feeds.{Answer as AbstractAnswer, refused, brokenAt, keptNow, droppedNow, entered, moved, quiet}
-use Rattle.stepping.specs.Answers.{answerOf}
+use Rattle.stepping.specs.Answers.{answerOf, toldNumber}
 
 -- the refusal with a number
 feedRefusal : ℕ → FeedRefusal
@@ -44,3 +44,12 @@ answered-answer Quiet = refl
 
 pub answer-told : (x y : Answer) → answerOf x ≡ answerOf y → x ≡ y
 answer-told x y e = sym (answered-answer x) ∙ ap ans e ∙ answered-answer y
+
+pub told-number : (x : Answer) → toldNumber (answerOf x) ≡ answerNumber x
+told-number (Refused k) = refl
+told-number (Broken n k x) = refl
+told-number Kept = refl
+told-number (Dropped x) = refl
+told-number Entered = refl
+told-number Moved = refl
+told-number Quiet = refl

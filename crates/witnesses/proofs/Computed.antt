@@ -24,6 +24,7 @@ use Rattle.log_check.specs.Sound.{soundFrom, soundRecords}
 use Rattle.judge.specs.Judge.{judgeOf}
 use Rattle.judge.specs.Verdict.{standingOf}
 use Rattle.breaks.specs.Breaks.{breaksOf}
+use Rattle.preview.specs.Preview.{previewBytes, previewOf, bufferOf}
 use Rattle.text.specs.Text.{bytesOf, digitsOf}
 use Rattle.listing.specs.Listing.{verdictLines, refusalLine}
 use Rattle.respond.specs.Respond.{partsReport, reportOf, textOf}
@@ -35,11 +36,12 @@ use Rattle.witnesses.specs.Feeds.{Answers, feeds, fitness, Stores, break
 use Rattle.witnesses.specs.Offers.{offers, offered, counts, Leads, leads}
 use Rattle.witnesses.specs.Raw.{Reads, readings, raws}
 use Rattle.witnesses.specs.Asked.{Asks, asks}
+use Rattle.witnesses.specs.Foreseen.{Previews, previews}
 use Rattle.witnesses.specs.Formats.{Prints, texts, Checks, checks, LogNumbers, Formats}
 
 -- every definition that the lines look into
 computed : Unit {0}
-unfolding contains single inserted union isSubset within isOver gathered aboveSets readChart readFrom advanceOf isZeroTerm termPlaced termsFit regionFits isZeroRegion touchedBefore regionPlaced wellFormed conditionOf chartMessage plain values opened ready readyFor readyPlain fire unfired tryRegion settle takeMessage opening full prechartDone goOn keepRound dropRound breakRound conclude offer missed fitsOpening reopened accept feed after closedUpward restsUnlessBroken momentsFit causeFits breakFits countsFit placeFits fits feedOf datedAt recordsFrom recordsIn stepAt checkFrom checkLog soundFrom soundRecords standingOf judgeOf breaksOf bytesOf digitsOf verdictLines refusalLine partsReport reportOf
+unfolding contains single inserted union isSubset within isOver gathered aboveSets readChart readFrom advanceOf isZeroTerm termPlaced termsFit regionFits isZeroRegion touchedBefore regionPlaced wellFormed conditionOf chartMessage plain values opened ready readyFor readyPlain fire unfired tryRegion settle takeMessage opening full prechartDone goOn keepRound dropRound breakRound conclude offer missed fitsOpening reopened accept feed after closedUpward restsUnlessBroken momentsFit causeFits breakFits countsFit placeFits fits feedOf datedAt recordsFrom recordsIn stepAt checkFrom checkLog soundFrom soundRecords standingOf judgeOf breaksOf previewBytes previewOf bufferOf bytesOf digitsOf verdictLines refusalLine partsReport reportOf
 computed = tt
 
 refusals-said : Each Says refusals
@@ -269,6 +271,10 @@ breaks-asked : Each Asks asks
 unfolding computed
 breaks-asked = (refl, (refl, (refl, (refl, (refl, (refl, (refl, (refl, (refl, (refl, (refl, (refl, (refl, (refl, (refl, (refl, (refl, (refl, (refl, (refl, (refl, (refl, (refl, (refl, (refl, (refl, (refl, (refl, (refl, (refl, (refl, (refl, (refl, (refl, (refl, tt)))))))))))))))))))))))))))))))))))
 
+previews-shown : Each Previews previews
+unfolding computed
+previews-shown = ((refl, refl), ((refl, refl), ((refl, refl), ((refl, refl), ((refl, refl), ((refl, refl), ((refl, refl), ((refl, refl), ((refl, refl), ((refl, refl), ((refl, refl), ((refl, refl), ((refl, refl), ((refl, refl), ((refl, refl), ((refl, refl), ((refl, refl), ((refl, refl), ((refl, refl), ((refl, refl), ((refl, refl), ((refl, refl), ((refl, refl), ((refl, refl), ((refl, refl), ((refl, refl), ((refl, refl), ((refl, refl), ((refl, refl), ((refl, refl), ((refl, refl), ((refl, refl), ((refl, refl), ((refl, refl), ((refl, refl), ((refl, refl), ((refl, refl), ((refl, refl), ((refl, refl), ((refl, refl), tt))))))))))))))))))))))))))))))))))))))))
+
 pub formats-hold : Formats
 formats-hold =
     record {
@@ -291,6 +297,7 @@ formats-hold =
       records-read = records-read;
       records-checked = records-checked;
       breaks-asked = breaks-asked;
+      previews-shown = previews-shown;
       log-numbers = log-numbers;
       input-40 = input-40;
       input-41 = input-41;

@@ -6,4 +6,5 @@ pub mod Feeds
 pub mod Offers
 pub mod Raw
 pub mod Asked
+pub mod Foreseen
 pub mod Formats

@@ -27,14 +27,20 @@ enum-known-dated c = search needs
 returns : tie.Need-returns Inv-loop μ-loop
 returns c = search needs
 
+time-of-requires : tie.Need-time-of-requires Inv-loop μ-loop
+time-of-requires c κs = search needs
+
+put-preview-requires : tie.Need-put-preview-requires Inv-loop μ-loop
+put-preview-requires c κs = search needs
+
 feed-requires : tie.Need-feed-requires Inv-loop μ-loop
 feed-requires c κs = search needs
 
 put-step-requires : tie.Need-put-step-requires Inv-loop μ-loop
 put-step-requires c κs = search needs
 
-time-of-requires : tie.Need-time-of-requires Inv-loop μ-loop
-time-of-requires c κs = search needs
+time-of-requires-2 : tie.Need-time-of-requires-2 Inv-loop μ-loop
+time-of-requires-2 c κs = search needs
 
 sub-left : tie.Need-sub-left Inv-loop μ-loop
 sub-left c = search needs
@@ -60,9 +66,11 @@ put-feeds-spec =
     record-at-requires
     enum-known-dated
     returns
+    time-of-requires
+    put-preview-requires
     feed-requires
     put-step-requires
-    time-of-requires
+    time-of-requires-2
     sub-left
     loop-less
     loop-again

@@ -1,6 +1,6 @@
 use mathlib.Core.Path.{sym, ap, _∙_}
 use Rattle.log_check.specs.Met.{endedBy}
-use Rattle.log_check.proofs.Laws.{by-dated}
+use Rattle.log_check.proofs.Laws.{came-to}
 use borrow.Author.Needs.{needs}
 use Rattle.log_check.proofs.ended_at.Statement.{statement}
 use Rattle.log_check.proofs.ended_at.Tie as tie
@@ -21,13 +21,13 @@ returns : tie.Need-returns
 returns c =
     let a = c .before .before .before in
     ap (endedBy _)
-    (sym (c .before .step .given .1) ∙ a .step-by .ensures ∙ by-dated _ _ _ _ _ _ (a .before .record-at .ensures))
+    (sym (c .before .step .given .1) ∙ a .step-by .ensures ∙ sym (came-to _ _ _ _ _ _ (sym (a .before .record-at .ensures))))
 
 returns-2 : tie.Need-returns-2
 returns-2 c =
     let a = c .before .before in
     ap (endedBy _)
-    (sym (c .enum-told .given .1) ∙ a .step-by .ensures ∙ by-dated _ _ _ _ _ _ (a .before .record-at .ensures))
+    (sym (c .enum-told .given .1) ∙ a .step-by .ensures ∙ sym (came-to _ _ _ _ _ _ (sym (a .before .record-at .ensures))))
 
 pub ended-at-spec : {M : Type 1} → statement M
 ended-at-spec =

@@ -1,0 +1,108 @@
+-- Where the bytes are shown: the tests that were passed, and each byte of the buffer. Assumes nothing.
+use mathlib.Core.Path.{_≡_, refl, sym, ap, _∙_}
+use mathlib.Core.Logic.{inl, inr}
+use mathlib.Core.Bool.{true, false}
+use mathlib.Core.List.{List, _++_}
+use Prim.Native.Nat.{ℕ, _+_, _-_, _≤_, _<_}
+use native.Mathlib.Omega.{arith}
+use borrow.Author.Tests.{ltb-false}
+use lib.Dec.{ltb}
+use lib.ListN.{length, getD, drop, length-append, length-drop, List·getD-append}
+use lib.Seq.{getD-append-add, getD-drop}
+use Rattle.base.specs.Table.{table}
+use Rattle.base.proofs.Bools.{split, clash}
+use Rattle.base.proofs.Table.{length-table, getD-table}
+use Rattle.model.specs.declared.Chart.{Chart}
+use Rattle.model.specs.declared.Event.{Event}
+use Rattle.model.specs.declared.Event.the-variants as event
+use Rattle.model.specs.declared.Message.{Message}
+use Rattle.model.specs.declared.Moment.{Moment}
+use Rattle.model.specs.declared.Monitor.{Monitor}
+use Rattle.model.specs.declared.Record.the-variants as a-record
+use Rattle.model.specs.declared.FeedRefusal.the-variants.{NotAChart, Unfit, TimeFalls, TooManyRecords}
+use Rattle.model.specs.Chart.{regionAt}
+use Rattle.model.specs.Answers.{answerNumber}
+use Rattle.chart_value.specs.WellFormed.{wellFormed}
+use Rattle.chart_value.specs.View.{chartOf}
+use Rattle.rounds.specs.Machine as machine
+use Rattle.stepping.specs.declared.Step.{Step}
+use Rattle.stepping.specs.Answers.{toldNumber}
+use Rattle.stepping.specs.Monitors.{stepOf}
+use Rattle.stepping.proofs.Answers.{told-number}
+use Rattle.monitor.specs.Fit.{fits}
+use Rattle.monitor.specs.Feed.{feedOf}
+use Rattle.preview.specs.declared.PreviewAnswer.{PreviewAnswer}
+use Rattle.preview.specs.declared.PreviewAnswer.the-variants.{Shown, TooShort, Refused}
+use Rattle.preview.specs.Preview.{previewNumber, foreseenOf, foreseen, previewBytes, timely, previewOf, isShown}
+use Rattle.preview.specs.Preview.{bufferOf}
+
+-- only with 0 is anything shown
+pub zero-shown : (a : PreviewAnswer) → previewNumber a ≡ 0 → isShown a ≡ true
+zero-shown Shown e = refl
+zero-shown TooShort e = absurd (omega arith)
+zero-shown (Refused NotAChart) e = absurd (omega arith)
+zero-shown (Refused Unfit) e = absurd (omega arith)
+zero-shown (Refused TimeFalls) e = absurd (omega arith)
+zero-shown (Refused TooManyRecords) e = absurd (omega arith)
+
+-- the tests, all passed
+pub record Passed (c : Chart) (m : Monitor) (t : Moment) (room : ℕ) : Type 0 where
+  pub chart : wellFormed c ≡ true
+  pub fit : fits (chartOf c) m ≡ true
+  pub enough : c .count ≤ room
+  pub on-time : isShown (timely (m .tally) t) ≡ true
+
+pub passed : (c : Chart) (m : Monitor) (t : Moment) (room : ℕ) → isShown (previewOf c m t room) ≡ true
+    → Passed c m t room
+unfolding previewOf
+passed c m t room s = elim (split (wellFormed c)) [
+  | inr w ↦ absurd (clash s (rw w))
+  | inl w ↦ elim (split (fits (chartOf c) m)) [
+    | inr f ↦ absurd (clash s (rw (w, f)))
+    | inl f ↦ elim (split (ltb room (c .count))) [
+      | inl l ↦ absurd (clash s (rw (w, f, l)))
+      | inr l ↦ record { chart = w; fit = f; enough = ltb-false room (c .count) l; on-time = rw (w, f, l) at s }
+    ]
+  ]
+]
+
+module _ (c : Chart) (m : Monitor) (t : Moment) (l : List ℕ) (s : isShown (previewOf c m t (length l)) ≡ true) where
+  regions : length (previewBytes c m t) ≡ c .count
+  unfolding previewBytes
+  regions = length-table (c .count) (foreseen c m t)
+
+  filled : bufferOf c m t l ≡ previewBytes c m t ++ drop (c .count) l
+  unfolding bufferOf
+  filled = rw s
+
+  pub same-size : length (bufferOf c m t l) ≡ length l
+  same-size =
+      let h = passed c m t (length l) s .enough in
+      ap length filled ∙ length-append (previewBytes c m t) (drop (c .count) l)
+      ∙ omega (arith, h, regions, length-drop (c .count) l)
+
+  pub shown-byte : (i : ℕ) → i < c .count → getD (bufferOf c m t l) i 0 ≡ foreseen c m t i
+  unfolding previewBytes
+  shown-byte i h =
+      ap (λ (x : List ℕ). getD x i 0) filled
+      ∙ List·getD-append (previewBytes c m t) (drop (c .count) l) 0 i (rw regions h)
+      ∙ getD-table (c .count) i (foreseen c m t) 0 h
+
+  pub byte-beyond : (i : ℕ) → c .count ≤ i → getD (bufferOf c m t l) i 0 ≡ getD l i 0
+  byte-beyond i h =
+      let k : length (previewBytes c m t) + (i - c .count) ≡ i = omega (arith, regions) in
+      let j : c .count + (i - c .count) ≡ i = omega arith in
+      ap (λ (x : List ℕ). getD x i 0) filled
+      ∙ ap (λ (n : ℕ). getD (previewBytes c m t ++ drop (c .count) l) n 0) (sym k)
+      ∙ getD-append-add (previewBytes c m t) (drop (c .count) l) (i - c .count) 0
+      ∙ getD-drop (c .count) l (i - c .count) 0
+      ∙ ap (λ (n : ℕ). getD l n 0) j
+
+  -- a message region's byte is the number of the answer to its message, fed
+  pub byte-fed : (i : ℕ) → i < c .count → (x : Message) → regionAt c i .event ≡ event.Message x → (r : Step)
+      → stepOf r ≡ feedOf c m (a-record.Message x t) → getD (bufferOf c m t l) i 0 ≡ answerNumber (r .answer)
+  byte-fed i h x e r q =
+      shown-byte i h
+      ∙ ap (λ (y : Event). foreseenOf c m t y) e
+      ∙ ap (λ (y : machine.Step). toldNumber (y .answer)) (sym q)
+      ∙ told-number (r .answer)
