@@ -2,10 +2,11 @@
  * lsc.h: Silunovam, which watches programs by live sequence charts; proved from bytes to bytes.
  *
  * Link with liblsc.a (whole logs), liblsc_live.a (live monitors) and liblsc_more.a (one record of
- * a log, and whether a log breaks a chart). The functions keep no state and no pointer, allocate
- * nothing, and may be called from several threads at once on different bytes. Every content of the
- * bytes is allowed; only the pointers and lengths must be valid, and bytes written must not overlap
- * bytes read. A pointer with length 0 must still not be NULL.
+ * a log, whether a log breaks a chart, and what a live monitor would answer). The functions keep no
+ * state and no pointer, allocate nothing, and may be called from several threads at once on
+ * different bytes. Every content of the bytes is allowed; only the pointers and lengths must be
+ * valid, and bytes written must not overlap bytes read. A pointer with length 0 must still not be
+ * NULL.
  *
  * Numbers in charts, logs and live monitors stand most significant byte first.
  *
@@ -31,7 +32,7 @@
 extern "C" {
 #endif
 
-/* Answers to a record. */
+/* Answers to a record; lsc_preview shows all but the last. */
 #define LSC_BROKEN 1  /* the chart is broken, now or earlier; see lsc_standing */
 #define LSC_KEPT 2    /* the round is complete */
 #define LSC_DROPPED 3 /* the round is given up */
@@ -50,6 +51,9 @@ extern "C" {
 #define LSC_RECORD_PLACES 6
 #define LSC_BREAKS_PLACES 3
 #define LSC_TEXT_ROOM 223
+
+/* Bytes that are enough for lsc_preview, whatever the chart: none has more regions. */
+#define LSC_PREVIEW_ROOM 32
 
 /* Kinds of a record, the first number of lsc_read_record. */
 #define LSC_RECORD_END 0         /* no record: the place is at the log's end or beyond */
@@ -181,6 +185,27 @@ uint8_t lsc_read_record(const uint8_t *log, size_t log_length, size_t place,
 uint8_t lsc_breaks(const uint8_t *chart, size_t chart_length,
                    const uint8_t *log, size_t log_length,
                    uint64_t *out, size_t out_length);
+
+/*
+ * Shows what a live monitor would answer to the chart's messages at a moment. It changes nothing
+ * in live.
+ *
+ * Returns 0, and out[i] for the chart's region i + 1, in the order of its bytes: 0 for a plain
+ * region, else what lsc_feed_message would return for the region's message at this time, 1 to 5
+ * (LSC_BROKEN to LSC_MOVED). It is the answer to the message, whichever region would fire: regions
+ * with one message show the same, and a fired region shows what its message would do again. A
+ * broken monitor shows 1 for every message, whatever the time, and after 1,000,000 records too.
+ *
+ * Or 20 if live holds no live monitor, 21 if the monitor is unfit, 12 if out has fewer bytes than
+ * the chart has regions; then, unless the monitor is broken, 22 if the time falls, 23 after
+ * 1,000,000 records. A refusal leaves out as it was. Bytes of out beyond the regions stay as they
+ * were.
+ *
+ * *regions is the number of the chart's regions with 0 and with 12, and 0 with every other refusal.
+ * It is always written.
+ */
+uint8_t lsc_preview(const uint8_t *live, size_t live_length, uint32_t time,
+                    uint8_t *out, size_t out_length, uint64_t *regions);
 
 #ifdef __cplusplus
 }

@@ -1,5 +1,5 @@
 //! Links the static libraries: `lsc` for whole logs, `lsc_live` for live monitors, `lsc_more` for
-//! one record of a log and for whether a log breaks a chart.
+//! one record of a log, for whether a log breaks a chart and for what a live monitor would answer.
 
 #[path = "../archives.rs"]
 mod archives;

@@ -26,6 +26,12 @@ const SENT_AGAIN: [u8; 51] = [
     0x7F,
 ];
 
+/// The prechart's only message makes a plain region of the main chart ready: x at least 3, hot.
+const SETTLES_AT_ONCE: [u8; 26] = [
+    0x10, 2, 1, 0x20, 0, 1, 0, 1, 0x50, 0x21, 0, 1, 0x30, 0, 3, 0, 0, 0, 3, 0x32, 0x20, 1, 0, 0, 2,
+    0x7F,
+];
+
 /// No prechart; the first and the last region are ordered by way of the middle one (O4).
 const THROUGH_A_THIRD: [u8; 20] = [
     0x10, 4, 0, 0x50, 0x20, 0, 1, 0, 1, 0x20, 1, 2, 0, 2, 0x20, 2, 3, 0, 3, 0x7F,
@@ -39,11 +45,12 @@ pub const TWO_OPENINGS: [u8; 42] = [
 ];
 
 /// Small charts for trying every row.
-pub const SMALL: [&[u8]; 6] = [
+pub const SMALL: [&[u8]; 7] = [
     &CHART_U,
     &EITHER_ORDER,
     &TWO_THEN_ONE,
     &SENT_AGAIN,
+    &SETTLES_AT_ONCE,
     &THROUGH_A_THIRD,
     &TWO_OPENINGS,
 ];

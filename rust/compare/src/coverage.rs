@@ -3,6 +3,7 @@
 use crate::asked::{self, Asked};
 use crate::fitness::{self, FIT, UNFIT};
 use crate::outcomes::{outcomes, Outcome};
+use crate::previewed::Previewed;
 use lsc_reference::log::Verdict;
 use lsc_reference::monitor::{feed_fit, Order};
 use lsc_reference::value::*;
@@ -37,6 +38,8 @@ pub struct Coverage {
     pub reads: Counts<&'static str>,
     /// Kinds of comparison, and what asking whether a log breaks a chart came to in them.
     pub asked: Counts<(&'static str, Asked)>,
+    /// Kinds of comparison, and what previews came to in them.
+    pub previewed: Counts<(&'static str, Previewed)>,
 }
 
 /// The answers' names, broken once for each reason.
@@ -199,6 +202,11 @@ impl Coverage {
         }
     }
 
+    /// What a preview came to, in a comparison of this kind.
+    pub fn previewed(&mut self, kind: &'static str, name: Previewed) {
+        count(&mut self.previewed, Some((kind, name)));
+    }
+
     /// An answer, to a round that was broken before or not.
     pub fn told(&mut self, again: bool, answer: &Answer) {
         self.answer(answer);
@@ -251,9 +259,10 @@ impl Coverage {
         add(&mut self.logs, &other.logs);
         add(&mut self.reads, &other.reads);
         add(&mut self.asked, &other.asked);
+        add(&mut self.previewed, &other.previewed);
     }
 
-    /// What was never reached; second offers, logs, single records and yes or no aside.
+    /// What was never reached; second offers, logs, single records, yes or no and previews aside.
     pub fn missing(&self) -> Vec<String> {
         let mut missing = Vec::new();
         for code in REFUSALS {
@@ -306,5 +315,10 @@ impl Coverage {
     /// What asking never came to, in a kind of comparison.
     pub fn missing_asked(&self, kind: &'static str, names: &[Asked]) -> Vec<String> {
         uncounted_in(kind, &self.asked, names)
+    }
+
+    /// What no preview came to, in a kind of comparison.
+    pub fn missing_previewed(&self, kind: &'static str, names: &[Previewed]) -> Vec<String> {
+        uncounted_in(kind, &self.previewed, names)
     }
 }

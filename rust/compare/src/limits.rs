@@ -1,11 +1,12 @@
-//! Fixed inputs at the limits: 1,000,000 records, plain and raw, that break or not, twice as many
-//! rounds, the longest input, sizes that overflow.
+//! Fixed inputs at the limits: 1,000,000 records, plain and raw, that break or not, previews after
+//! them, twice as many rounds, the longest input, sizes that overflow.
 
 use crate::charts;
 use crate::difference::{same, Both, Difference};
 use crate::image::{live_bytes, Image, LIVE_HEAD};
 use crate::kinds::{
-    compare_breaks, compare_bytes, compare_judge, compare_print, compare_values, Compare,
+    compare_breaks, compare_bytes, compare_judge, compare_preview, compare_print, compare_values,
+    Compare,
 };
 use crate::seen::Seen;
 use lsc::call;
@@ -26,6 +27,7 @@ pub fn run(seen: &mut Seen) -> Result<(), Box<Difference>> {
     cases.extend(printed());
     cases.extend(fed());
     cases.extend(fed_twice());
+    cases.extend(previewed());
     cases.push(("live sizes", live_sizes, Vec::new(), Vec::new()));
     for (name, compare, first, second) in cases {
         compare(&first, &second, seen).map_err(|both| {
@@ -219,6 +221,30 @@ fn fed_twice() -> Vec<Case> {
         ] {
             let monitor = MonitorValue { fired, ..monitor };
             cases.extend(both_ways(&charts::TWO_OPENINGS, &monitor, &record));
+        }
+    }
+    cases
+}
+
+/// Monitors with 999,999, 1,000,000 and 1,000,001 records, at the opening, owed and broken; at
+/// moments before now, now and later.
+fn previewed() -> Vec<Case> {
+    let mut cases: Vec<Case> = Vec::new();
+    for records in [999_999, 1_000_000, 1_000_001] {
+        for (fired, break_record, reason) in [(0, 0, 0), (1, 0, 0), (1, 7, 1), (1, 1_000_000, 1)] {
+            let monitor = MonitorValue {
+                fired,
+                records,
+                now: 10,
+                break_record,
+                reason,
+                ..MonitorValue::ZERO
+            };
+            let live = live_bytes(&CHART_U, &monitor);
+            for time in [0u32, 9, 10, 11, u32::MAX] {
+                let (name, moment) = ("a preview at a limit", time.to_be_bytes().to_vec());
+                cases.push((name, compare_preview, live.clone(), moment));
+            }
         }
     }
     cases

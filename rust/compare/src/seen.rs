@@ -1,12 +1,13 @@
 //! What a run has reached: refusals, answers, standings and terms that the library gave, second
 //! offers in each kind of comparison, monitors at the limits of M10, what plain and raw logs came
-//! to, single records, and whether logs break their charts.
+//! to, single records, whether logs break their charts, and what previews came to.
 
 use crate::asked::{ASKED, ASKED_BYTES, ASKED_VALUES};
 use crate::coverage::{Counts, Coverage, ANSWERS, DECIDED_TERMS, OFFERS, REFUSALS};
 use crate::fitness::{FIT, UNFIT};
-use crate::kinds::{taking, BREAKS, BREAKS_IMAGE, JUDGE, PRINT, READS};
+use crate::kinds::{taking, BREAKS, BREAKS_IMAGE, JUDGE, PREVIEW, PRINT, READS};
 use crate::outcomes::{FULL_OUTCOMES, OUTCOMES};
+use crate::previewed::{shorts, PREVIEWED};
 use std::fmt;
 
 /// A buffer too short (N9); `REFUSALS` has all the others.
@@ -47,6 +48,8 @@ impl Seen {
         }
         missing.extend(self.coverage.missing_asked(BREAKS, &ASKED_BYTES));
         missing.extend(self.coverage.missing_asked(BREAKS_IMAGE, &ASKED_VALUES));
+        missing.extend(self.coverage.missing_previewed(PREVIEW, &PREVIEWED));
+        missing.extend(self.coverage.missing_previewed(PREVIEW, &shorts()));
         missing
     }
 
@@ -65,7 +68,9 @@ impl Seen {
             + READS.len()
             + 2 * ASKED.len()
             + ASKED_BYTES.len()
-            + ASKED_VALUES.len();
+            + ASKED_VALUES.len()
+            + PREVIEWED.len()
+            + shorts().len();
         (all - self.missing().len(), all)
     }
 }
@@ -105,6 +110,9 @@ impl fmt::Display for Seen {
             writeln!(f, "| read: {name} | {times} |")?;
         }
         for ((kind, name), times) in &self.coverage.asked {
+            writeln!(f, "| {name}: {kind} | {times} |")?;
+        }
+        for ((kind, name), times) in &self.coverage.previewed {
             writeln!(f, "| {name}: {kind} | {times} |")?;
         }
         Ok(())

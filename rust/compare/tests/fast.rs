@@ -1,15 +1,17 @@
-//! The fast judge and its yes or no on the examples of the rules (X), on raw logs and at their
-//! limits.
+//! The fast judge, its yes or no and its preview on the examples of the rules (X), on raw logs and
+//! at their limits.
 
 use lsc_compare::asked::ASKED;
-use lsc_compare::charts::TWO_THEN_ONE;
+use lsc_compare::charts::{self, TWO_THEN_ONE};
 use lsc_compare::coverage::Coverage;
 use lsc_compare::fast;
 use lsc_compare::outcomes::OUTCOMES;
-use lsc_compare::random::{self, Rng};
+use lsc_compare::previewed::{self, PREVIEWED};
+use lsc_compare::random::{self, Rng, Size};
 use lsc_reference::examples::{message, undo, CHART_U, OVER_CHART_U, WIDEST};
 use lsc_reference::log::{breaks, judge, write_log};
 use lsc_reference::monitor;
+use lsc_reference::preview::preview;
 use lsc_reference::reader::read_chart;
 use lsc_reference::value::*;
 
@@ -158,4 +160,50 @@ fn yes_before_the_millionth_record_and_the_next() {
     assert_eq!(fast::breaks(&chart, &owed), Ok(false));
     let next = [&owed[..], &undo].concat();
     assert_eq!(fast::breaks(&chart, &next), Err((23, 5_000_004)));
+}
+
+/// Both previews of a chart and a monitor in a buffer of so many bytes, and the buffers.
+fn check_preview(
+    chart: &ChartValue,
+    monitor: &MonitorValue,
+    time: u32,
+    room: usize,
+) -> Result<Vec<u8>, u8> {
+    let (mut out, mut wanted) = (vec![77; room], vec![77; room]);
+    let said = fast::preview(chart, monitor, time, &mut out);
+    let expected = preview(chart, monitor, time, &mut wanted);
+    assert_eq!((said, &out), (expected, &wanted), "{chart:?} {monitor:?}");
+    expected.map(|()| out)
+}
+
+#[test]
+fn previews() {
+    let mut rng = Rng::new(14);
+    let mut seen = Coverage::default();
+    for _ in 0..60_000 {
+        let chart = match rng.below(10) {
+            0 => random::chart_value(&mut rng),
+            1..=5 => charts::some_small(&mut rng).1,
+            _ => random::chart(&mut rng, Size::Small).1,
+        };
+        let monitor = random::monitor_value(&mut rng, &chart);
+        let time = random::moment(&mut rng, &monitor);
+        let count = usize::from(chart.count);
+        let shown = check_preview(&chart, &monitor, time, count + 2);
+        let shown = shown.as_deref().map_err(|number| *number);
+        if let Some(room) = count.checked_sub(1) {
+            let short = check_preview(&chart, &monitor, time, room);
+            if short == Err(12) {
+                for name in previewed::short_names(&chart, &monitor, room, shown) {
+                    seen.previewed("fast", name);
+                }
+            }
+        }
+        let regions = shown.map(|bytes| &bytes[..count]);
+        for name in previewed::names(&chart, &monitor, time, regions) {
+            seen.previewed("fast", name);
+        }
+    }
+    let missing = seen.missing_previewed("fast", &PREVIEWED);
+    assert_eq!(missing, Vec::<String>::new());
 }

@@ -1,9 +1,11 @@
 /*
  * Watches messages as they come: after an undo both headings and references are restored, in
- * any order, in at most 40 ticks. watch.rs does the same in Rust. In the folder rust/:
+ * any order, in at most 40 ticks. After each it tells which messages would break the chart now:
+ * the buttons that a drafting window greys out. watch.rs does the same in Rust. In the folder
+ * rust/:
  *
  *   gcc -std=c99 -Wall -Wextra -Werror -Iinclude lsc/examples/watch.c \
- *       ../target/staticlib/liblsc_live.a -o target/watch
+ *       ../target/staticlib/liblsc_live.a ../target/staticlib/liblsc_more.a -o target/watch
  */
 #include "lsc.h"
 
@@ -32,6 +34,9 @@ static const struct message messages[] = {
     {"references", 2, 3, 3, 230}, {"headings", 1, 0, 2, 241},
     {"undo", 0, 1, 1, 300}};
 
+/* The messages' names in the order of the chart's regions. */
+static const char *const buttons[] = {"undo", "headings", "references"};
+
 static const char *const answers[] = {"kept", "dropped", "entered", "moved", "quiet"};
 
 /* What the monitor says to one message: the answer, and the condition that decided, if one did. */
@@ -56,7 +61,27 @@ static void tell(const struct message *m, const struct said *said, const uint64_
     if (said->region != 0)
         printf(", region %lu, term %lu", (unsigned long)said->region,
                (unsigned long)said->term);
-    printf("; standing %lu\n", (unsigned long)verdict[0]);
+    printf("; standing %lu", (unsigned long)verdict[0]);
+}
+
+/* Ends the line with the messages that would break the chart, if this moment is not refused. */
+static void tell_grey(const uint8_t *live, size_t live_length, uint32_t time)
+{
+    uint8_t shown[LSC_PREVIEW_ROOM];
+    uint64_t regions = 0, i;
+    int grey = 0;
+
+    if (lsc_preview(live, live_length, time, shown, sizeof shown, &regions) == 0) {
+        printf("; grey:");
+        for (i = 0; i < regions && i < sizeof buttons / sizeof buttons[0]; i++)
+            if (shown[i] == LSC_BROKEN) {
+                printf(" %s", buttons[i]);
+                grey = 1;
+            }
+        if (!grey)
+            printf(" none");
+    }
+    printf("\n");
 }
 
 int main(void)
@@ -79,6 +104,7 @@ int main(void)
         if (lsc_standing(live, sizeof live, verdict, LSC_VERDICT_PLACES) != 0)
             return 1;
         tell(m, &said, verdict);
+        tell_grey(live, sizeof live, m->time);
     }
     puts("STANDING KEPT DROPPED RECORDS BREAK REASON REGION TERM");
     for (i = 0; i < LSC_VERDICT_PLACES; i++)

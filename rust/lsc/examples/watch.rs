@@ -1,9 +1,10 @@
 //! Watches messages as they come: after an undo both headings and references are restored, in
-//! any order, in at most 40 ticks.
+//! any order, in at most 40 ticks. After each it tells which messages would break the chart now:
+//! the buttons that a drafting window greys out.
 //!
 //! `cargo run --example watch`. `watch.c` does the same in C.
 
-use lsc::LiveMonitor;
+use lsc::{FeedRefusal, Foreseen, LiveMonitor};
 use std::error::Error;
 use std::io::{self, Write};
 
@@ -20,6 +21,23 @@ pub const CHART: [u8; 38] = [
 const UNDO: (&str, u8, u8, u16) = ("undo", 0, 1, 1);
 const HEADINGS: (&str, u8, u8, u16) = ("headings", 1, 0, 2);
 const REFERENCES: (&str, u8, u8, u16) = ("references", 2, 3, 3);
+
+/// The messages' names in the order of the chart's regions.
+const BUTTONS: [&str; 3] = [UNDO.0, HEADINGS.0, REFERENCES.0];
+
+/// The names of the messages that would break the chart at a moment, or that there are none.
+fn grey(monitor: &LiveMonitor, time: u32) -> Result<String, FeedRefusal> {
+    let preview = monitor.preview(time)?;
+    let buttons = BUTTONS.into_iter().zip(preview);
+    let breaking: Vec<&str> = buttons
+        .filter(|(_, foreseen)| *foreseen == Some(Foreseen::Broken))
+        .map(|(name, _)| name)
+        .collect();
+    Ok(match breaking.len() {
+        0 => "none".to_string(),
+        _ => breaking.join(" "),
+    })
+}
 
 /// Feeds the messages and writes what the monitor says to each.
 pub fn watch(out: &mut dyn Write) -> Result<(), Box<dyn Error>> {
@@ -41,7 +59,11 @@ pub fn watch(out: &mut dyn Write) -> Result<(), Box<dyn Error>> {
             Ok((answer, Some(cause))) => write!(out, "{name} at {time}: {answer}, {cause}")?,
             Err(refusal) => write!(out, "{name} at {time}: refused {}", refusal.number())?,
         }
-        writeln!(out, "; standing {}", monitor.standing().standing.number())?;
+        write!(out, "; standing {}", monitor.standing().standing.number())?;
+        match grey(&monitor, time) {
+            Ok(names) => writeln!(out, "; grey: {names}")?,
+            Err(_) => writeln!(out)?,
+        }
     }
     writeln!(
         out,

@@ -19,6 +19,9 @@ pub const BREAKS_PLACES: usize = 3;
 /// The bytes that `lsc_print` wants: no text is longer.
 pub const TEXT_ROOM: usize = 223;
 
+/// The bytes that are enough for `lsc_preview`: no chart has more regions.
+pub const PREVIEW_ROOM: usize = 32;
+
 /// `lsc_judge`: 0 and the verdict, or the refusal's number and where; 12 for a short `out`.
 pub fn judge(chart: &[u8], log: &[u8], out: &mut [u64]) -> u8 {
     // SAFETY: the pointers and lengths are those of slices borrowed for the whole call,
@@ -146,6 +149,23 @@ pub fn breaks(chart: &[u8], log: &[u8], out: &mut [u64]) -> u8 {
             log.len(),
             out.as_mut_ptr(),
             out.len(),
+        )
+    }
+}
+
+/// `lsc_preview`: 0 and a byte of `out` for each region, or 20, 21, 12, 22, 23; with 0 and with 12
+/// the number of the chart's regions.
+pub fn preview(live: &[u8], time: u32, out: &mut [u8], regions: &mut u64) -> u8 {
+    // SAFETY: the pointers and lengths are those of slices borrowed for the whole call, and
+    // `regions` is a reference to one number; the mutable ones do not overlap.
+    unsafe {
+        raw::lsc_preview(
+            live.as_ptr(),
+            live.len(),
+            time,
+            out.as_mut_ptr(),
+            out.len(),
+            regions,
         )
     }
 }

@@ -7,10 +7,11 @@
 //! `liblsc_live.a` and `liblsc_more.a`: this crate calls them and decides nothing by itself.
 //!
 //! [`judge`] takes a whole log, [`breaks`] says only whether it breaks the chart, [`read_record`]
-//! reads one record of it. [`LiveMonitor`] takes one record at a time:
+//! reads one record of it. [`LiveMonitor`] takes one record at a time, and shows beforehand what
+//! each of the chart's messages would do:
 //!
 //! ```
-//! use lsc::{Answer, LiveMonitor, Standing};
+//! use lsc::{Answer, Foreseen, LiveMonitor, Standing};
 //!
 //! // After an undo (label 1, line 0 to 1) both headings (label 2, 1 to 0) and references
 //! // (label 3, 2 to 3) are restored, in any order, in at most 40 ticks.
@@ -27,6 +28,10 @@
 //! assert_eq!(monitor.feed_message(0, 1, 1, 100), Ok(Answer::Entered));
 //! assert_eq!(monitor.feed_message(2, 3, 3, 120), Ok(Answer::Moved));
 //! assert_eq!(monitor.standing().standing, Standing::Owed);
+//!
+//! // What undo, headings and references would do at 140: only headings are still owed.
+//! let broken = Some(Foreseen::Broken);
+//! assert_eq!(monitor.preview(140), Ok(vec![broken, Some(Foreseen::Kept), broken]));
 //! assert_eq!(monitor.feed_message(1, 0, 2, 140), Ok(Answer::Kept));
 //! assert_eq!(monitor.standing().to_string(), "0 1 0 3 0 0 0 0");
 //!
@@ -70,7 +75,7 @@ mod values;
 
 pub use live::LiveMonitor;
 pub use records::{read_record, LogRecord, RecordRefusal, Stamp};
-pub use values::{Answer, Cause, FeedRefusal, Part, Reason, Refusal, Standing, Verdict};
+pub use values::{Answer, Cause, FeedRefusal, Foreseen, Part, Reason, Refusal, Standing, Verdict};
 
 use call::{BREAKS_PLACES, TEXT_ROOM, VERDICT_PLACES};
 

@@ -1,7 +1,7 @@
 //! A monitor that takes one record at a time.
 
-use crate::call::{self, VERDICT_PLACES};
-use crate::values::{Answer, Cause, FeedRefusal, Part, Reason, Refusal, Verdict};
+use crate::call::{self, PREVIEW_ROOM, VERDICT_PLACES};
+use crate::values::{Answer, Cause, FeedRefusal, Foreseen, Part, Reason, Refusal, Verdict};
 
 /// A monitor with its chart, in bytes of its own that can be stored and taken up again.
 ///
@@ -95,6 +95,27 @@ impl LiveMonitor {
     /// How the chart stands after the records fed so far.
     pub fn standing(&self) -> Verdict {
         Verdict::of(&self.verdict())
+    }
+
+    /// What each message of the chart would do at a moment, for instance to grey out the buttons
+    /// that would break it. Nothing changes.
+    ///
+    /// There is one entry for each of the chart's regions, in the order of its bytes: none for a
+    /// plain region, else the answer that [`feed_message`](LiveMonitor::feed_message) would give
+    /// to the region's message at this time. So regions with one message have equal entries,
+    /// whichever of them would fire.
+    ///
+    /// Refused as feeding is: with 22 if the time is less than now, with 23 after 1,000,000
+    /// records. After a break nothing is refused, and each message shows [`Foreseen::Broken`].
+    pub fn preview(&self, time: u32) -> Result<Vec<Option<Foreseen>>, FeedRefusal> {
+        let (mut out, mut regions) = ([0; PREVIEW_ROOM], 0);
+        match call::preview(&self.bytes, time, &mut out, &mut regions) {
+            0 => {
+                let shown = out.iter().take(regions as usize);
+                Ok(shown.map(|&byte| Foreseen::of(byte)).collect())
+            }
+            number => Err(FeedRefusal::of(number)),
+        }
     }
 
     /// The eight numbers of the verdict so far.

@@ -76,4 +76,13 @@ extern "C" {
         out: *mut u64,
         out_length: usize,
     ) -> u8;
+
+    pub fn lsc_preview(
+        live: *const u8,
+        live_length: usize,
+        time: u32,
+        out: *mut u8,
+        out_length: usize,
+        regions: *mut u64,
+    ) -> u8;
 }

@@ -179,6 +179,58 @@ impl fmt::Display for Answer {
     }
 }
 
+/// What a message would do: the answers that a message of the chart can have.
+#[derive(Clone, Copy, Debug, PartialEq, Eq, Hash)]
+pub enum Foreseen {
+    /// 1: the chart would be broken, or is already.
+    Broken,
+    /// 2: the round would be complete.
+    Kept,
+    /// 3: the round would be given up.
+    Dropped,
+    /// 4: the prechart would be complete, and the round run on.
+    Entered,
+    /// 5: something would fire, perhaps after the message dropped a round and in the next one.
+    Moved,
+}
+
+impl Foreseen {
+    /// The answer's number.
+    pub fn number(self) -> u8 {
+        match self {
+            Foreseen::Broken => 1,
+            Foreseen::Kept => 2,
+            Foreseen::Dropped => 3,
+            Foreseen::Entered => 4,
+            Foreseen::Moved => 5,
+        }
+    }
+
+    /// What a byte of a preview says; none for a plain region's.
+    pub(crate) fn of(byte: u8) -> Option<Foreseen> {
+        match byte {
+            1 => Some(Foreseen::Broken),
+            2 => Some(Foreseen::Kept),
+            3 => Some(Foreseen::Dropped),
+            4 => Some(Foreseen::Entered),
+            5 => Some(Foreseen::Moved),
+            _ => None,
+        }
+    }
+}
+
+impl fmt::Display for Foreseen {
+    fn fmt(&self, f: &mut fmt::Formatter<'_>) -> fmt::Result {
+        f.write_str(match self {
+            Foreseen::Broken => "broken",
+            Foreseen::Kept => "kept",
+            Foreseen::Dropped => "dropped",
+            Foreseen::Entered => "entered",
+            Foreseen::Moved => "moved",
+        })
+    }
+}
+
 /// Which part of the input is refused.
 #[derive(Clone, Copy, Debug, PartialEq, Eq, Hash)]
 pub enum Part {
@@ -222,14 +274,14 @@ impl fmt::Display for Refusal {
 
 impl Error for Refusal {}
 
-/// A record, or bytes for a live monitor, that are refused.
+/// A record, a moment, or bytes for a live monitor, that are refused.
 #[derive(Clone, Copy, Debug, PartialEq, Eq, Hash)]
 pub enum FeedRefusal {
     /// 20: the bytes hold no live monitor.
     NoLiveMonitor,
     /// 21: the monitor in the bytes is not fit.
     Unfit,
-    /// 22: the record's time is less than now.
+    /// 22: the time is less than now.
     TimeFalls,
     /// 23: 1,000,000 records were taken.
     Full,

@@ -33,6 +33,7 @@ fn the_c_example_says_what_is_expected() {
         .arg(package().join("examples/watch.c"))
         .arg(env!("LSC_ARCHIVE"))
         .arg(env!("LSC_LIVE_ARCHIVE"))
+        .arg(env!("LSC_MORE_ARCHIVE"))
         .arg("-o")
         .arg(&program));
     assert_eq!(run(&mut Command::new(program)), EXPECTED);

@@ -1,7 +1,7 @@
 //! The safe wrapper on the examples of the rules (X).
 
 use lsc::{Answer, Cause, FeedRefusal, LiveMonitor, Part, Reason, Refusal, Standing};
-use lsc::{LogRecord, RecordRefusal, Stamp};
+use lsc::{Foreseen, LogRecord, RecordRefusal, Stamp};
 use lsc_reference::examples::{CHART_U, OVER_CHART_U};
 use lsc_reference::log::write_log;
 use lsc_reference::print::input_of;
@@ -347,4 +347,101 @@ fn a_record_in_places_of_the_caller() {
     assert_eq!(out, [0, 0, 0, 0, 0, u64::MAX, 7, 7]);
     assert_eq!(lsc::call::read_record(&log, 1, &mut out), 31);
     assert_eq!(out, [0, 0, 0, 0, 0, u64::MAX, 7, 7]);
+}
+
+/// What the safe call shows at a moment, as numbers, 0 for a plain region.
+fn shown(monitor: &LiveMonitor, time: u32) -> Result<Vec<u8>, FeedRefusal> {
+    let entries = monitor.preview(time)?;
+    let number = |entry: Option<Foreseen>| entry.map_or(0, Foreseen::number);
+    Ok(entries.into_iter().map(number).collect())
+}
+
+#[test]
+fn previews_over_chart_u() {
+    let mut monitor = LiveMonitor::open(&CHART_U).unwrap();
+    assert_eq!(shown(&monitor, 0), Ok(vec![4, 3, 3]));
+    monitor.feed_message(0, 1, 1, 100).unwrap();
+    let before = monitor.clone();
+    assert_eq!(shown(&monitor, 120), Ok(vec![1, 5, 5]));
+    assert_eq!(shown(&monitor, 150), Ok(vec![1, 1, 1]));
+    assert_eq!(shown(&monitor, 99), Err(FeedRefusal::TimeFalls));
+    assert_eq!(monitor, before);
+    monitor.feed_message(2, 3, 3, 120).unwrap();
+    let entries = [Foreseen::Broken, Foreseen::Kept, Foreseen::Broken];
+    assert_eq!(monitor.preview(140), Ok(entries.map(Some).to_vec()));
+    assert_eq!(
+        entries.map(|entry| entry.to_string()).join(" "),
+        "broken kept broken"
+    );
+    // After a break every moment is taken.
+    monitor.feed_message(2, 3, 3, 130).unwrap();
+    assert_eq!(shown(&monitor, 0), Ok(vec![1, 1, 1]));
+}
+
+#[test]
+fn previews_of_plain_regions_and_second_offers() {
+    // Go with clock 0 at most 9, and data; then, in the main chart, a plain region with clock 0 at
+    // least 3, hot, and an answer.
+    let chart = [
+        0x10, 2, 1, 0x20, 0, 1, 0, 1, 0x30, 0, 1, 0, 0, 0, 9, 0x20, 0, 1, 0, 2, 0x50, 0x21, 0, 1,
+        0x30, 0, 3, 0, 0, 0, 3, 0x32, 0x20, 1, 0, 0, 3, 0x7F,
+    ];
+    let mut monitor = LiveMonitor::open(&chart).unwrap();
+    assert_eq!(shown(&monitor, 9), Ok(vec![5, 3, 0, 3]));
+    assert_eq!(shown(&monitor, 10), Ok(vec![3, 3, 0, 3]));
+    monitor.feed_message(0, 1, 1, 2).unwrap();
+    // Go would start the next round; data would settle the plain region, or break by it.
+    assert_eq!(shown(&monitor, 2), Ok(vec![5, 1, 0, 3]));
+    assert_eq!(shown(&monitor, 99), Ok(vec![5, 4, 0, 3]));
+    monitor.feed_message(0, 1, 2, 3).unwrap();
+    assert_eq!(shown(&monitor, 3), Ok(vec![1, 1, 0, 2]));
+}
+
+#[test]
+fn previews_after_a_million_records() {
+    let with_records = |monitor: &LiveMonitor, records: u32| {
+        let mut bytes = monitor.as_bytes().to_vec();
+        bytes[40..44].copy_from_slice(&records.to_be_bytes());
+        LiveMonitor::from_bytes(bytes).unwrap()
+    };
+    let mut monitor = LiveMonitor::open(&CHART_U).unwrap();
+    monitor.feed_message(0, 1, 1, 100).unwrap();
+    let last = with_records(&monitor, 999_999);
+    assert_eq!(shown(&last, 100), Ok(vec![1, 5, 5]));
+    let full = with_records(&monitor, 1_000_000);
+    assert_eq!(shown(&full, 100), Err(FeedRefusal::Full));
+    assert_eq!(shown(&full, 99), Err(FeedRefusal::TimeFalls));
+    monitor.feed_message(0, 1, 1, 100).unwrap();
+    let broken = with_records(&monitor, 1_000_000);
+    for time in [0, 100, u32::MAX] {
+        assert_eq!(shown(&broken, time), Ok(vec![1, 1, 1]));
+    }
+}
+
+#[test]
+fn a_preview_in_bytes_of_the_caller() {
+    let mut monitor = LiveMonitor::open(&CHART_U).unwrap();
+    monitor.feed_message(0, 1, 1, 100).unwrap();
+    let live = monitor.into_bytes();
+    // The number, the count of regions, and the bytes lent.
+    let said = |live: &[u8], time, room: usize| {
+        let (mut out, mut regions) = (vec![7; room], 77);
+        let number = lsc::call::preview(live, time, &mut out, &mut regions);
+        (number, regions, out)
+    };
+    assert_eq!(said(&live, 120, 5), (0, 3, vec![1, 5, 5, 7, 7]));
+    assert_eq!(said(&live, 120, 3), (0, 3, vec![1, 5, 5]));
+    assert_eq!(said(&live, 99, 3), (22, 0, vec![7; 3]));
+    for room in 0..3 {
+        for time in [99, 120] {
+            assert_eq!(said(&live, time, room), (12, 3, vec![7; room]));
+        }
+    }
+    let mut unfit = live.clone();
+    unfit[0] = 1;
+    for room in 0..5 {
+        assert_eq!(said(&unfit, 0, room), (21, 0, vec![7; room]));
+        assert_eq!(said(&live[..104], 0, room), (20, 0, vec![7; room]));
+        assert_eq!(said(&[], 0, room), (20, 0, vec![7; room]));
+    }
 }

@@ -212,6 +212,19 @@ impl Break {
 }
 
 impl Answer {
+    /// The number of an answer (T27): 1 to 6, or the refusal's.
+    pub fn number(&self) -> u8 {
+        match self {
+            Answer::Refused(number) => *number,
+            Answer::Broken(_) => 1,
+            Answer::Kept => 2,
+            Answer::Dropped(_) => 3,
+            Answer::Entered => 4,
+            Answer::Moved => 5,
+            Answer::Quiet => 6,
+        }
+    }
+
     /// The region and the term that the answer carries: zeros unless it is broken or dropped.
     pub fn cause(&self) -> Cause {
         match self {

@@ -6,6 +6,7 @@ mod log;
 mod masks;
 mod own;
 mod plan;
+mod preview;
 mod stamped;
 mod state;
 mod steps;
@@ -20,6 +21,7 @@ use steps::{take, Raw};
 
 pub use log::scan;
 pub use plan::Plan;
+pub use preview::preview;
 pub use state::State;
 
 /// Judging a whole log over a chart value, plain or raw.

@@ -1,7 +1,6 @@
 //! Live bytes of any kind, damaged ones too: 20 and 21, and nothing changed by a refusal.
 
 use super::live::{check_standing, check_why, feed_live, standing_numbers};
-use super::number;
 use crate::difference::{same, Both, Hex};
 use crate::image::{live_bytes, Image, LIVE_HEAD, MONITOR_IMAGE};
 use crate::random::{self, Rng};
@@ -15,10 +14,16 @@ use lsc_reference::value::*;
 pub const NAME: &str = "live bytes";
 
 pub fn make(rng: &mut Rng) -> (Vec<u8>, Vec<u8>) {
+    let (live, chart, monitor) = some_live(rng);
+    let record = random::record_value(rng, &chart, &monitor);
+    (live, record.to_bytes())
+}
+
+/// Live bytes, mostly of the chart and the monitor beside them.
+pub fn some_live(rng: &mut Rng) -> (Vec<u8>, ChartValue, MonitorValue) {
     let size = random::some_size(rng);
     let (bytes, chart) = random::chart(rng, size);
     let monitor = random::monitor_value(rng, &chart);
-    let record = random::record_value(rng, &chart, &monitor);
     let mut live = match rng.below(10) {
         0 => live_bytes(&random::hostile_chart_bytes(rng), &monitor),
         _ => live_bytes(&bytes, &monitor),
@@ -44,11 +49,11 @@ pub fn make(rng: &mut Rng) -> (Vec<u8>, Vec<u8>) {
         7 => live[MONITOR_IMAGE..LIVE_HEAD].fill(255),
         _ => {}
     }
-    (live, record.to_bytes())
+    (live, chart, monitor)
 }
 
 /// The chart and the monitor that live bytes hold; none for refusal 20.
-fn parts(live: &[u8]) -> Option<(&[u8], ChartValue, MonitorValue)> {
+pub fn parts(live: &[u8]) -> Option<(&[u8], ChartValue, MonitorValue)> {
     let monitor = MonitorValue::from_image(live.get(..MONITOR_IMAGE)?)?;
     let length: [u8; 8] = live.get(MONITOR_IMAGE..LIVE_HEAD)?.try_into().ok()?;
     let length = usize::try_from(u64::from_be_bytes(length)).ok()?;
@@ -81,7 +86,7 @@ pub fn compare(before: &[u8], record: &[u8], seen: &mut Seen) -> Result<(), Both
     check_why(before, &record, &answer, &wanted)?;
     let mut live = before.to_vec();
     let said = feed_live(&mut live, &record);
-    let wanted = (number(&answer), Hex(&wanted));
+    let wanted = (answer.number(), Hex(&wanted));
     same("feeding", (said, Hex(&live)), wanted)?;
     match (&held, &after) {
         (Some((_, chart, monitor)), Some(after)) => {

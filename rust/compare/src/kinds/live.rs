@@ -1,7 +1,7 @@
 //! The live functions: a chart opened, records fed one by one, the standing asked after
 //! each; against the reference's monitor, field by field as an image.
 
-use super::{filled, filled_places, number, BEYOND, PLACES};
+use super::{filled, filled_places, BEYOND, PLACES};
 use crate::difference::{same, Both, Hex};
 use crate::image::{live_bytes, Image, LIVE_HEAD, MONITOR_IMAGE};
 use crate::random::{self, Rng};
@@ -66,7 +66,7 @@ pub fn feed_why(live: &mut [u8], m: Message, time: u32) -> (u8, u64, u64) {
 /// The answer's number, its region and its term.
 pub fn why(answer: &Answer) -> (u8, u64, u64) {
     let Cause { region, term } = answer.cause();
-    (number(answer), region.into(), term.into())
+    (answer.number(), region.into(), term.into())
 }
 
 /// `lsc_feed_message_why` on a copy of live bytes: the same answer and bytes, and the cause.
@@ -210,7 +210,7 @@ pub fn compare(chart: &[u8], log: &[u8], seen: &mut Seen) -> Result<(), Both> {
         let before = live.clone();
         let said = feed_live(&mut live, &record);
         let fields = MonitorValue::from_image(&live[..MONITOR_IMAGE]);
-        same("feeding", (said, fields), (number(&answer), Some(after)))?;
+        same("feeding", (said, fields), (answer.number(), Some(after)))?;
         same("bytes after feeding", Hex(&live), Hex(&wanted))?;
         check_why(&before, &record, &answer, &wanted)?;
         seen.coverage.fed(NAME, &value, &monitor, &answer, &after);
@@ -220,7 +220,7 @@ pub fn compare(chart: &[u8], log: &[u8], seen: &mut Seen) -> Result<(), Both> {
         let twin = safe.clone();
         let told = feed_safe(&mut safe, &record);
         let (said, broken) = safe_number(told);
-        let wanted = (number(&answer), Hex(&live[..LIVE_HEAD + chart.len()]));
+        let wanted = (answer.number(), Hex(&live[..LIVE_HEAD + chart.len()]));
         same("the safe feed", (said, Hex(safe.as_bytes())), wanted)?;
         if let Answer::Broken(known) = answer {
             let wanted = (known.record, known.reason.number());

@@ -2,6 +2,7 @@
 
 mod bytes;
 mod live;
+mod preview;
 mod printing;
 mod reading;
 mod rows;
@@ -12,10 +13,10 @@ mod yes_no;
 use crate::difference::{Both, Difference};
 use crate::random::{shrink, Rng};
 use crate::seen::Seen;
-use lsc_reference::value::Answer;
 
 pub use bytes::compare as compare_bytes;
 pub use live::feed_live;
+pub use preview::{compare as compare_preview, NAME as PREVIEW};
 pub use printing::{compare as compare_print, NAME as PRINT};
 pub use reading::{NAME as READ, READS};
 pub use values::{compare as compare_values, feed_images};
@@ -41,7 +42,7 @@ pub struct Kind {
 
 /// All kinds.
 #[rustfmt::skip]
-pub static KINDS: [Kind; 9] = [
+pub static KINDS: [Kind; 10] = [
     kind(whole::NAME, 34, ["chart", "log"], whole::make, whole::compare),
     kind(printing::NAME, 14, ["nothing", "input"], printing::make, printing::compare),
     kind(values::NAME, 30, ["chart image", "monitor and record"], values::make, values::compare),
@@ -51,6 +52,7 @@ pub static KINDS: [Kind; 9] = [
     kind(reading::NAME, 4, ["log", "place"], reading::make, reading::compare),
     kind(yes_no::NAME, 12, ["chart", "log"], yes_no::make, yes_no::compare),
     kind(yes_no::IMAGE_NAME, 6, ["chart image", "log"], yes_no::make_image, yes_no::compare_image),
+    kind(preview::NAME, 5, ["live bytes", "moment"], preview::make, preview::compare),
 ];
 
 /// The names of those in which a monitor takes records.
@@ -132,19 +134,6 @@ fn filled_places(length: usize) -> Vec<u64> {
     (0..length)
         .map(|place| 0xA5A5_0000_5A5A_0000 + place as u64)
         .collect()
-}
-
-/// The number of an answer: 1 to 6, or the refusal's.
-pub fn number(answer: &Answer) -> u8 {
-    match answer {
-        Answer::Refused(number) => *number,
-        Answer::Broken(_) => 1,
-        Answer::Kept => 2,
-        Answer::Dropped(_) => 3,
-        Answer::Entered => 4,
-        Answer::Moved => 5,
-        Answer::Quiet => 6,
-    }
 }
 
 #[cfg(test)]

@@ -2,7 +2,6 @@
 //! monitor is used.
 
 use super::live::{feed_why, records, why};
-use super::number;
 use crate::charts;
 use crate::difference::{same, Both, Hex};
 use crate::image::{live_bytes, Image, LIVE_HEAD, MONITOR_IMAGE};
@@ -45,7 +44,7 @@ pub fn compare(chart: &[u8], log: &[u8], seen: &mut Seen) -> Result<(), Both> {
             }
             RecordValue::Time(time) => {
                 let said = call::feed_time(&mut live, time);
-                same("an answer", said, number(answer))?;
+                same("an answer", said, answer.number())?;
             }
         }
         seen.coverage.told(again, answer);

@@ -1,7 +1,7 @@
 //! Chart and monitor values of any kind, through their images: `lsc_test_new` and
 //! `lsc_test_feed_*` against the reference's `new` and `feed`.
 
-use super::{filled, number, BEYOND};
+use super::{filled, BEYOND};
 use crate::difference::{same, Both, Hex};
 use crate::image::{Image, MONITOR_IMAGE};
 use crate::random::{self, Rng};
@@ -111,7 +111,7 @@ fn check_feed(
     monitor.extend(filled(BEYOND));
     let said = feed_images(image, &mut monitor, &record);
     let fields = MonitorValue::from_image(&monitor[..MONITOR_IMAGE]);
-    same("feeding", (said, fields), (number(&answer), Some(after)))?;
+    same("feeding", (said, fields), (answer.number(), Some(after)))?;
     same("bytes after feeding", Hex(&monitor), Hex(&wanted))?;
     match &chart {
         None => seen.coverage.told(false, &answer),

@@ -18,4 +18,4 @@ pub use pieces::{commands, log_pieces};
 pub use rng::Rng;
 pub use shrink::shrink;
 pub use stamps::log_bytes;
-pub use values::{chart_value, monitor_value, record_value};
+pub use values::{chart_value, moment, monitor_value, reached_monitor, record_value};

@@ -128,7 +128,7 @@ pub fn chart_value(rng: &mut Rng) -> ChartValue {
 }
 
 /// A monitor reached by feeding a random log.
-fn reached_monitor(rng: &mut Rng, chart: &ChartValue) -> MonitorValue {
+pub fn reached_monitor(rng: &mut Rng, chart: &ChartValue) -> MonitorValue {
     let Some(plan) = Plan::of(chart) else {
         return MonitorValue::ZERO;
     };
@@ -228,13 +228,18 @@ fn unfired_message(chart: &ChartValue, fired: u32, time: u32) -> Option<RecordVa
         .find_map(|place| message_of(&chart.regions[place], time))
 }
 
-/// A record to feed: awaited, of the chart, of its opening, stray, of time; its time about now.
-pub fn record_value(rng: &mut Rng, chart: &ChartValue, monitor: &MonitorValue) -> RecordValue {
-    let time = match rng.below(12) {
+/// A moment, mostly now or a little later.
+pub fn moment(rng: &mut Rng, monitor: &MonitorValue) -> u32 {
+    match rng.below(12) {
         0 => rng.number(),
         1 => monitor.now.saturating_sub(1),
         _ => monitor.now.saturating_add(gap(rng, true)),
-    };
+    }
+}
+
+/// A record to feed: awaited, of the chart, of its opening, stray, of time; its time about now.
+pub fn record_value(rng: &mut Rng, chart: &ChartValue, monitor: &MonitorValue) -> RecordValue {
+    let time = moment(rng, monitor);
     let record = match rng.below(12) {
         0 => None,
         1 => Some(stray_message(rng, chart, time)),

@@ -10,7 +10,7 @@ use lsc_compare::plot::Plot;
 use lsc_reference::examples::CHART_U;
 use std::path::PathBuf;
 use std::process::ExitCode;
-use subject::{Subject, FED, LONG, MIDWAY, ROUNDS};
+use subject::{Subject, FED, LONG, MIDWAY, PREVIEWS, ROUNDS};
 
 fn explain(subjects: &[Subject]) {
     println!("Charts:");
@@ -45,6 +45,11 @@ no, in a log that breaks as early as it can, in one that breaks about record {MI
 one that keeps its rounds; both sides read the chart and stop at the break. Times are for a whole \
 call: behind the break no record is read.
 - the same, beside judging: the second column is the proved judge of the same log.
+- preview: a byte for each region of a live monitor, at the moment of its next record; {PREVIEWS} \
+monitors, from a fresh one on, each after one record more. Both sides read the chart's bytes and \
+the monitor's image once, and feed each message to a copy.
+- the same, beside one feed: the second column is the proved feed of that next record to a copy of \
+the same live bytes.
 
 Both sides run in one process, in turn, {ROUNDS} rounds, the one that goes first changing. One \
 round before is not counted, so charts, logs and code were touched; nothing is cleared between. \
@@ -82,6 +87,9 @@ fn main() -> ExitCode {
     rows::heading("µs a call");
     for subject in &subjects {
         rows::yes_or_no(subject);
+    }
+    for subject in &subjects {
+        rows::previews(subject);
     }
     let plot = Plot {
         title: "Judging a log: time against its length".into(),

@@ -1,8 +1,8 @@
 //! The table's rows.
 
 use crate::subject::{check, proved, proved_breaks, reference, reference_breaks, scan};
-use crate::subject::{Subject, FED, LONG, ROUNDS};
-use lsc::call;
+use crate::subject::{Subject, FED, LONG, PREVIEWS, ROUNDS};
+use lsc::call::{self, PREVIEW_ROOM};
 use lsc_compare::fast;
 use lsc_compare::image::{Image, LIVE_HEAD, MONITOR_IMAGE};
 use lsc_compare::kinds::{feed_images, feed_live};
@@ -33,8 +33,8 @@ fn row(what: &str, subject: &Subject, records: usize, times: &[Vec<f64>]) {
 }
 
 /// What was done, microseconds for each call on both sides, and the ratio.
-fn row_of_calls(what: &str, subject: &Subject, times: &[Vec<f64>]) {
-    let each = |place: usize| digits(median(&times[place]) * 1e6);
+fn row_of_calls(what: &str, subject: &Subject, calls: usize, times: &[Vec<f64>]) {
+    let each = |place: usize| digits(median(&times[place]) * 1e6 / calls as f64);
     let (proved, beside) = (each(0), each(1));
     let (name, [ratio, low, high]) = (subject.name, spread(times).map(digits));
     println!("| {what}: {name} | {proved} | {beside} | {ratio} | {low}, {high} |");
@@ -87,14 +87,14 @@ pub fn yes_or_no(subject: &Subject) {
             }],
         );
         let beside_judging = format!("yes or no, {what}, beside judging");
-        row_of_calls(&beside_judging, subject, &times);
+        row_of_calls(&beside_judging, subject, 1, &times);
         let times = interleaved(
             ROUNDS,
             &mut [&mut || proved_breaks(chart, log), &mut || {
                 reference_breaks(chart, log)
             }],
         );
-        row_of_calls(&format!("yes or no, {what}"), subject, &times);
+        row_of_calls(&format!("yes or no, {what}"), subject, 1, &times);
     }
 }
 
@@ -164,4 +164,58 @@ fn feed_reference(live: &mut [u8], record: &RecordValue) -> Option<Answer> {
     let (answer, after) = fast::feed(&chart, monitor, *record);
     live[..MONITOR_IMAGE].copy_from_slice(&after.to_image());
     Some(answer)
+}
+
+/// Previews of live monitors, beside one feed of each and beside the fast preview.
+pub fn previews(subject: &Subject) {
+    let monitors = live_monitors(subject);
+    let mut scratch = monitors[0].0.clone();
+    let mut proved = || {
+        for (live, record) in &monitors {
+            let mut out = [0; PREVIEW_ROOM];
+            let time = record.time();
+            black_box(call::preview(black_box(live), time, &mut out, &mut 0));
+            black_box(out);
+        }
+    };
+    let times = interleaved(
+        ROUNDS,
+        &mut [&mut proved, &mut || {
+            for (live, record) in &monitors {
+                scratch.copy_from_slice(live);
+                black_box(feed_live(black_box(&mut scratch), record));
+            }
+        }],
+    );
+    row_of_calls("preview, beside one feed", subject, PREVIEWS, &times);
+    let times = interleaved(
+        ROUNDS,
+        &mut [&mut proved, &mut || {
+            for (live, record) in &monitors {
+                let mut out = [0; PREVIEW_ROOM];
+                black_box(preview_reference(black_box(live), record.time(), &mut out));
+                black_box(out);
+            }
+        }],
+    );
+    row_of_calls("preview", subject, PREVIEWS, &times);
+}
+
+/// Live monitors, each one record further than the one before, with the record that comes next.
+fn live_monitors(subject: &Subject) -> Vec<(Vec<u8>, RecordValue)> {
+    let mut live = vec![0; call::live_size(subject.chart.len())];
+    call::open(&subject.chart, &mut live, &mut 0);
+    let mut monitors = Vec::new();
+    for record in &subject.records[..PREVIEWS] {
+        monitors.push((live.clone(), *record));
+        feed_live(&mut live, record);
+    }
+    monitors
+}
+
+/// The fast preview doing what the live function does: read the chart and the image.
+fn preview_reference(live: &[u8], time: u32, out: &mut [u8]) -> Option<Result<(), u8>> {
+    let chart = read_chart(&live[LIVE_HEAD..]).ok()?;
+    let monitor = MonitorValue::from_image(&live[..MONITOR_IMAGE])?;
+    Some(fast::preview(&chart, &monitor, time, out))
 }

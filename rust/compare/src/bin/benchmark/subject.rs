@@ -17,6 +17,8 @@ pub const LONG: usize = 1_000_000;
 pub const MIDWAY: usize = LONG / 2;
 /// Records of the lists fed one by one.
 pub const FED: usize = 20_000;
+/// Live monitors that are previewed.
+pub const PREVIEWS: usize = 200;
 
 /// A chart with a long log that keeps its rounds, the same with raw stamps, one that breaks as
 /// early as it can, and one that breaks midway.
