@@ -1,12 +1,12 @@
 /*
  * lsc.h: Silunovam, which watches programs by live sequence charts; proved from bytes to bytes.
  *
- * Link with liblsc.a (whole logs), liblsc_live.a (live monitors) and liblsc_more.a (one record of
- * a log, whether a log breaks a chart, and what a live monitor would answer). The functions keep no
- * state and no pointer, allocate nothing, and may be called from several threads at once on
- * different bytes. Every content of the bytes is allowed; only the pointers and lengths must be
- * valid, and bytes written must not overlap bytes read. A pointer with length 0 must still not be
- * NULL.
+ * Link with liblsc.a (whole logs), liblsc_breaks.a (whether a log breaks a chart), liblsc_live.a
+ * (live monitors) and liblsc_more.a (one record of a log, and what a live monitor would answer). The
+ * functions keep no state and no pointer, allocate nothing, and may be called from several threads
+ * at once on different bytes. Every content of the bytes is allowed; only the pointers and lengths
+ * must be valid, and bytes written must not overlap bytes read. A pointer with length 0 must still
+ * not be NULL.
  *
  * Numbers in charts, logs and live monitors stand most significant byte first.
  *

@@ -1,11 +1,11 @@
-//! Links the static libraries: `lsc` for whole logs, `lsc_live` for live monitors, `lsc_more` for
-//! one record of a log, for whether a log breaks a chart and for what a live monitor would answer.
+//! Links the static libraries: `lsc` for whole logs, `lsc_breaks` for whether a log breaks a chart,
+//! `lsc_live` for live monitors, `lsc_more` for one record and for what a live monitor would answer.
 
 #[path = "../archives.rs"]
 mod archives;
 
 fn main() {
-    for name in ["lsc", "lsc_live", "lsc_more"] {
+    for name in ["lsc", "lsc_breaks", "lsc_live", "lsc_more"] {
         let archive = archives::link(name);
         // For the test that links the C example.
         println!(

@@ -4,14 +4,11 @@ use mathlib.Core.List.{List}
 use Prim.Native.Nat.{ℕ, _≤_, _<_}
 use borrow.Author.Tests.{lt-ltb, le-ltb}
 use lib.ListN.{length}
+use Rattle.wire.specs.Writing.{startingWith}
+use Rattle.wire.proofs.Writing.{written}
 use Rattle.model.specs.Answers.{tooShort}
 use Rattle.log_reader.specs.declared.Next.{Next}
-use Rattle.lsc_more.specs.More.{recordPlaces, recordNumbers, nextNumber, startingWith, readNumber, readOut}
-
--- numbers written for one case of a value are those of the value
-pub written : {A : Type 0} (f : A → List ℕ) (out : List ℕ) {x y : A} {m : List ℕ} → x ≡ y → m ≡ startingWith (f y) out
-    → m ≡ startingWith (f x) out
-written f out e b = b ∙ ap (λ z. startingWith (f z) out) (sym e)
+use Rattle.lsc_more.specs.More.{recordPlaces, recordNumbers, nextNumber, readNumber, readOut}
 
 pub read-short : (at : ℕ) (n : Next) (out : List ℕ) → length out < recordPlaces
     → (tooShort ≡ readNumber n out) × (out ≡ readOut at n out)

@@ -1,9 +1,10 @@
 -- V18: what reading one record returns and writes.
 use Prim.Native.Nat.{ℕ}
 use mathlib.Core.Bool.{cond}
-use mathlib.Core.List.{List, [], _∷_, _++_}
+use mathlib.Core.List.{List, [], _∷_}
 use lib.Dec.{ltb}
-use lib.ListN.{length, drop}
+use lib.ListN.{length}
+use Rattle.wire.specs.Writing.{startingWith}
 use Rattle.model.specs.Answers.{tooShort}
 use Rattle.model.specs.declared.Message.{Message as Parts}
 use Rattle.model.specs.declared.Record.{Record}
@@ -48,10 +49,6 @@ nextNumber End = 0
 nextNumber (Refused k) = recordRefusalNumber k
 nextNumber (Handed r past) = 0
 nextNumber (Raw r past) = 0
-
--- a buffer with numbers at its start; the places after them stay
-abbrev pub startingWith : List ℕ → List ℕ → List ℕ
-startingWith ns out = ns ++ drop (length ns) out
 
 -- V18, N9: 12 if out has fewer than 6 places, which then stay as they were
 abbrev pub readNumber : Next → List ℕ → ℕ

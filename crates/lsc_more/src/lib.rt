@@ -1,7 +1,5 @@
-// V18 to V20: the exported functions that read one record, that ask whether a log breaks a chart, and that show what a
-// live monitor would answer. 0 is success, 12 a buffer with too few places.
-use breaks::BreakAnswer;
-use chart_reader::ChartAnswer;
+// V18, V20: the exported functions that read one record, and that show what a live monitor would answer. 0 is success,
+// 12 a buffer with too few places.
 use log_reader::Next;
 use model::Message;
 use model::Moment;
@@ -13,12 +11,10 @@ ghost use mathlib.Core.Path.{_≡_};
 ghost use mathlib.Core.List.{[], _∷_};
 ghost use Prim.Native.Nat.{_≤_};
 ghost use lib.ListN.{length};
+ghost use Rattle.wire.specs.Writing.{startingWith};
 ghost use Rattle.log_reader.specs.Next.{nextAt};
-ghost use Rattle.breaks.specs.Numbers.{breakNumber};
 ghost use Rattle.lsc_more.specs.More.{recordPlaces, messageNumbers, timeNumbers, plainNumbers, rawNumbers};
-ghost use Rattle.lsc_more.specs.More.{recordNumbers, nextNumber, startingWith, readNumber, readOut};
-ghost use Rattle.lsc_more.specs.Breaks.{breaksPlaces, refusalNumbers, answerNumbers};
-ghost use Rattle.lsc_more.specs.Breaks.{breaksNumber, breaksOut};
+ghost use Rattle.lsc_more.specs.More.{recordNumbers, nextNumber, readNumber, readOut};
 ghost use Rattle.preview.specs.Preview.{previewNumber, bufferOf};
 ghost use Rattle.monitor_image.specs.MonitorImage.{monitorIn};
 ghost use Rattle.live.specs.Live.{chartIn};
@@ -37,14 +33,6 @@ const TIME: u64 = 2;
 const RAW_MESSAGE: u64 = 3;
 
 const RAW_TIME: u64 = 4;
-
-// How many places of a buffer the answer takes, whether a log breaks a chart.
-const BREAKS_PLACES: usize = 3;
-
-// The part that a refusal speaks of.
-const CHART_PART: u64 = 1;
-
-const LOG_PART: u64 = 2;
 
 // Puts six numbers at the start of a buffer.
 fn put_six(out: &mut [u64], a: u64, b: u64, c: u64, d: u64, e: u64, f: u64)
@@ -139,68 +127,6 @@ pub extern "C" fn lsc_read_record(log: &[u8], place: usize, out: &mut [u64]) -> 
         return TOO_SHORT;
     }
     put_next(out, place, log_reader::read_record(log, place))
-}
-
-// Puts three numbers at the start of a buffer.
-fn put_three(out: &mut [u64], a: u64, b: u64, c: u64)
-    requires { ⌜ breaksPlaces ≤ length (now out) ⌝ }
-    ensures { λ r. ⌜ now (out .exit) ≡ startingWith (a ∷ b ∷ c ∷ []) (now (out .entry)) ⌝ }
-{
-    out[0] = a;
-    out[1] = b;
-    out[2] = c;
-}
-
-// Puts a refusal's part, number and offset, and gives its number to return.
-fn put_refusal(out: &mut [u64], part: u64, number: u8, offset: usize) -> u8
-    requires { ⌜ breaksPlaces ≤ length (now out) ⌝ }
-    ensures number { λ r. ⌜ r ≡ number ⌝ }
-    ensures numbers { λ r. ⌜ now (out .exit) ≡ startingWith (refusalNumbers part number offset) (now (out .entry)) ⌝ }
-{
-    put_three(out, part, number as u64, offset as u64);
-    number
-}
-
-// Puts the numbers of an answer, and gives the number to return.
-fn put_answer(out: &mut [u64], answer: BreakAnswer) -> u8
-    requires { ⌜ breaksPlaces ≤ length (now out) ⌝ }
-    ensures number { λ r. ⌜ r ≡ breakNumber answer ⌝ }
-    ensures numbers { λ r. ⌜ now (out .exit) ≡ startingWith (answerNumbers answer) (now (out .entry)) ⌝ }
-{
-    match answer {
-        BreakAnswer::Yes => {
-            put_three(out, 1, 0, 0);
-            0
-        }
-        BreakAnswer::No => {
-            put_three(out, 0, 0, 0);
-            0
-        }
-        BreakAnswer::NoChart => put_refusal(out, LOG_PART, model::NOT_A_CHART, 0),
-        BreakAnswer::Refused(k, offset) => {
-            put_refusal(out, LOG_PART, log_check::refusal_number(k), offset)
-        }
-    }
-}
-
-// K1 to K4: asks whether a log breaks a chart.
-#[no_mangle]
-pub extern "C" fn lsc_breaks(chart: &[u8], log: &[u8], out: &mut [u64]) -> u8
-    ensures number { λ r. ⌜ r ≡ breaksNumber (now (chart .entry)) (now (log .entry)) (now (out .entry)) ⌝ }
-    ensures numbers { λ r. ⌜ now (out .exit) ≡ breaksOut (now (chart .entry)) (now (log .entry)) (now (out .entry)) ⌝ }
-    ensures unchanged { λ r. ⌜ (now (chart .exit) ≡ now (chart .entry)) × (now (log .exit) ≡ now (log .entry)) ⌝ }
-{
-    if out.len() < BREAKS_PLACES {
-        return TOO_SHORT;
-    }
-    let read = chart_reader::read(chart);
-    let answer = read.answer;
-    match answer {
-        ChartAnswer::Refused(refusal, offset) => {
-            put_refusal(out, CHART_PART, chart_step::number(refusal), offset)
-        }
-        ChartAnswer::Accepted => put_answer(out, breaks::breaks(read.chart, log)),
-    }
 }
 
 // How many regions the chart has, told if it can be shown or the buffer is too short; else 0.

@@ -8,7 +8,7 @@ use native.Mathlib.Omega.{arith}
 use lib.ListN.{length, getD, set, take, drop, length-append, length-set}
 use lib.Seq.{sets, sets-eq, take-suc}
 use Rattle.wire.specs.Bytes.{word64}
-use Rattle.wire.specs.Writing.{Wrote, wordBytes, longBytes}
+use Rattle.wire.specs.Writing.{Wrote, startingWith, wordBytes, longBytes}
 
 sets-append : (l : List ℕ) (i : ℕ) (t u : List ℕ) → sets l i (t ++ u) ≡ sets (sets l i t) (i + length t) u
 sets-append l i [] u = ap (λ (k : ℕ). sets l k u) (sym (add-zero i))
@@ -47,6 +47,11 @@ pub at-start : {l t n : List ℕ} {j : ℕ} → Wrote l 0 t n j → length t ≤
 at-start {l} {t} {n} {j} w h =
     let p : 0 + length t ≡ length t = omega arith in
     w .bytes ∙ sets-eq t l 0 (omega arith) ∙ ap (λ (k : ℕ). t ++ drop k l) p
+
+-- numbers written for one case of a value are those of the value
+pub written : {A : Type 0} (f : A → List ℕ) (out : List ℕ) {x y : A} {m : List ℕ} → x ≡ y → m ≡ startingWith (f y) out
+    → m ≡ startingWith (f x) out
+written f out e b = b ∙ ap (λ z. startingWith (f z) out) (sym e)
 
 -- four bytes that are those of x
 pub word-of : {l m : List ℕ} {i j a b c d : ℕ} (x : ℕ) → Wrote l i (a ∷ b ∷ c ∷ d ∷ []) m j

@@ -2,7 +2,7 @@
 use Prim.Native.Nat.{ℕ, _+_, _/_, _%_}
 use mathlib.Core.Path.{_≡_}
 use mathlib.Core.List.{List, [], _∷_, _++_}
-use lib.ListN.{length}
+use lib.ListN.{length, drop}
 use lib.Seq.{sets}
 
 -- a buffer l has become m: the text t stands in it from i on, every other byte is as it was, and j is just after t
@@ -10,6 +10,10 @@ pub record Wrote (l : List ℕ) (i : ℕ) (t m : List ℕ) (j : ℕ) : Type 0 wh
   pub next : j ≡ i + length t
   pub bytes : m ≡ sets l i t
   pub size : length m ≡ length l
+
+-- a buffer with numbers at its start; the places after them stay
+abbrev pub startingWith : List ℕ → List ℕ → List ℕ
+startingWith ns out = ns ++ drop (length ns) out
 
 -- a number in four bytes
 abbrev pub wordBytes : ℕ → List ℕ

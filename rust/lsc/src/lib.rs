@@ -4,7 +4,8 @@
 //! was seen, the main chart comes next, in its order and in time. Given messages with their
 //! times, the monitor finds how often the promise was kept, whether it is owed just now, and
 //! which record broke it. It is proved, and stands in the static libraries `liblsc.a`,
-//! `liblsc_live.a` and `liblsc_more.a`: this crate calls them and decides nothing by itself.
+//! `liblsc_breaks.a`, `liblsc_live.a` and `liblsc_more.a`: this crate calls them and decides nothing
+//! by itself.
 //!
 //! [`judge`] takes a whole log, [`breaks`] says only whether it breaks the chart, [`read_record`]
 //! reads one record of it. [`LiveMonitor`] takes one record at a time, and shows beforehand what

@@ -1,14 +1,14 @@
-//! A preview: what each region's message would be answered at a moment, while none is fed.
+//! A preview (F): what each region's message would be answered at a moment, while none is fed.
 
 use crate::monitor::{feed_fit, is_fit, Order};
 use crate::value::*;
 use crate::well_formed::is_given;
 
-/// Writes a byte for each region to the start of `out`: 0 for a plain one, else the number of the
-/// answer (T27) that feeding its message at this time would give. Later bytes stay.
+/// Writes a byte for each region to the start of `out` (F1): 0 for a plain one, else the number of
+/// the answer (T27) that feeding its message at this time would give. Later bytes stay (F3).
 ///
 /// Or a refusal, which writes nothing: 20, 21, 12 if `out` has fewer bytes than the chart has
-/// regions; then, unless there is a break, 22 and 23.
+/// regions; then, unless there is a break, 22 and 23 (F2).
 pub fn preview(
     chart: &ChartValue,
     monitor: &MonitorValue,

@@ -1,7 +1,7 @@
 -- `lsc_more::put_next` meets its contract: by the four cases of what was read. Assumes nothing.
 use mathlib.Core.Path.{sym, ap}
 use Rattle.lsc_more.specs.More.{recordNumbers, nextNumber}
-use Rattle.lsc_more.proofs.Laws.{written}
+use Rattle.wire.proofs.Writing.{written}
 use borrow.Author.Needs.{needs}
 use Rattle.lsc_more.proofs.put_next.Statement.{statement}
 use Rattle.lsc_more.proofs.put_next.Tie as tie

@@ -1,6 +1,6 @@
 -- `lsc_more::put_raw` meets its contract: by the record's two cases. Assumes nothing.
 use Rattle.lsc_more.specs.More.{rawNumbers}
-use Rattle.lsc_more.proofs.Laws.{written}
+use Rattle.wire.proofs.Writing.{written}
 use borrow.Author.Needs.{needs}
 use Rattle.lsc_more.proofs.put_raw.Statement.{statement}
 use Rattle.lsc_more.proofs.put_raw.Tie as tie

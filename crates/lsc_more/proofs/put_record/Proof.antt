@@ -1,6 +1,6 @@
 -- `lsc_more::put_record` meets its contract: by the record's two cases. Assumes nothing.
 use Rattle.lsc_more.specs.More.{plainNumbers}
-use Rattle.lsc_more.proofs.Laws.{written}
+use Rattle.wire.proofs.Writing.{written}
 use borrow.Author.Needs.{needs}
 use Rattle.lsc_more.proofs.put_record.Statement.{statement}
 use Rattle.lsc_more.proofs.put_record.Tie as tie

@@ -1,9 +1,9 @@
--- `lsc_more::lsc_breaks` meets its contract: too few places, the chart's refusal, or the answer. Assumes nothing.
+-- `lsc_breaks::lsc_breaks` meets its contract: too few places, the chart's refusal, or the answer. Assumes nothing.
 use mathlib.Core.Path.{refl}
-use Rattle.lsc_more.proofs.Asking.{asked-short, asked-refused, asked-accepted}
+use Rattle.lsc_breaks.proofs.Asking.{asked-short, asked-refused, asked-accepted}
 use borrow.Author.Needs.{needs}
-use Rattle.lsc_more.proofs.lsc_breaks.Statement.{statement}
-use Rattle.lsc_more.proofs.lsc_breaks.Tie as tie
+use Rattle.lsc_breaks.proofs.lsc_breaks.Statement.{statement}
+use Rattle.lsc_breaks.proofs.lsc_breaks.Tie as tie
 
 returns : tie.Need-returns
 returns c =

@@ -1,11 +1,11 @@
--- `lsc_more::put_three` meets its contract: three stores from the start. Assumes nothing.
+-- `lsc_breaks::put_three` meets its contract: three stores from the start. Assumes nothing.
 use mathlib.Core.List.{[], _∷_}
 use native.Mathlib.Omega.{arith}
 use lib.ListN.{length-set}
 use lib.Seq.{sets-eq}
 use borrow.Author.Needs.{needs}
-use Rattle.lsc_more.proofs.put_three.Statement.{statement}
-use Rattle.lsc_more.proofs.put_three.Tie as tie
+use Rattle.lsc_breaks.proofs.put_three.Statement.{statement}
+use Rattle.lsc_breaks.proofs.put_three.Tie as tie
 
 slice-write-out : tie.Need-slice-write-out
 slice-write-out c = search needs

@@ -12,7 +12,7 @@ use Rattle.breaks.specs.declared.BreakAnswer.{BreakAnswer}
 use Rattle.breaks.specs.declared.BreakAnswer.the-variants.{Yes, No, NoChart, Refused}
 use Rattle.breaks.specs.Numbers.{breakNumber}
 use Rattle.breaks.specs.Breaks.{breaksOf}
-use Rattle.lsc_more.specs.More.{startingWith}
+use Rattle.wire.specs.Writing.{startingWith}
 
 -- how many places of a buffer the answer takes
 abbrev pub breaksPlaces : ℕ

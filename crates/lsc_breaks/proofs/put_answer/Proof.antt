@@ -1,12 +1,12 @@
--- `lsc_more::put_answer` meets its contract: by the four cases of the answer. Assumes nothing.
+-- `lsc_breaks::put_answer` meets its contract: by the four cases of the answer. Assumes nothing.
 use mathlib.Core.Path.{sym, ap, _∙_}
 use Prim.Native.Nat.{ℕ}
 use Rattle.breaks.specs.Numbers.{breakNumber}
-use Rattle.lsc_more.specs.Breaks.{logPart, refusalNumbers, answerNumbers}
-use Rattle.lsc_more.proofs.Laws.{written}
+use Rattle.lsc_breaks.specs.Breaks.{logPart, refusalNumbers, answerNumbers}
+use Rattle.wire.proofs.Writing.{written}
 use borrow.Author.Needs.{needs}
-use Rattle.lsc_more.proofs.put_answer.Statement.{statement}
-use Rattle.lsc_more.proofs.put_answer.Tie as tie
+use Rattle.lsc_breaks.proofs.put_answer.Statement.{statement}
+use Rattle.lsc_breaks.proofs.put_answer.Tie as tie
 
 enum-told : tie.Need-enum-told
 enum-told c = search needs

@@ -19,10 +19,10 @@ use Rattle.chart_reader.specs.Said.{Said, said, numberOf, offsetOf}
 use Rattle.breaks.specs.declared.BreakAnswer.{BreakAnswer}
 use Rattle.breaks.specs.Numbers.{breakNumber}
 use Rattle.breaks.specs.Breaks.{breaksOf}
-use Rattle.lsc_more.specs.More.{startingWith}
-use Rattle.lsc_more.specs.Breaks.{breaksPlaces, chartPart, refusalNumbers, answerNumbers}
-use Rattle.lsc_more.specs.Breaks.{askedNumbers, askedNumber, breaksNumber, breaksOut}
-use Rattle.lsc_more.proofs.Laws.{written}
+use Rattle.wire.specs.Writing.{startingWith}
+use Rattle.lsc_breaks.specs.Breaks.{breaksPlaces, chartPart, refusalNumbers, answerNumbers}
+use Rattle.lsc_breaks.specs.Breaks.{askedNumbers, askedNumber, breaksNumber, breaksOut}
+use Rattle.wire.proofs.Writing.{written}
 
 -- what the reader says, by its answer
 abbrev saidAs : Chart → ChartAnswer → Said
