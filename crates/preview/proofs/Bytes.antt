@@ -1,7 +1,7 @@
--- Where the bytes are shown: the tests that were passed, and each byte of the buffer. Assumes nothing.
+-- Where the bytes are shown: each byte of the buffer. Assumes nothing.
 use mathlib.Core.Path.{_≡_, refl, sym, ap, _∙_}
 use mathlib.Core.Logic.{inl, inr}
-use mathlib.Core.Bool.{true, false}
+use mathlib.Core.Bool.{true}
 use mathlib.Core.List.{List, _++_}
 use Prim.Native.Nat.{ℕ, _+_, _-_, _≤_, _<_}
 use native.Mathlib.Omega.{arith}
@@ -9,7 +9,6 @@ use borrow.Author.Tests.{ltb-false}
 use lib.Dec.{ltb}
 use lib.ListN.{length, getD, drop, length-append, length-drop, List·getD-append}
 use lib.Seq.{getD-append-add, getD-drop}
-use Rattle.base.specs.Table.{table}
 use Rattle.base.proofs.Bools.{split, clash}
 use Rattle.base.proofs.Table.{length-table, getD-table}
 use Rattle.model.specs.declared.Chart.{Chart}
@@ -33,7 +32,7 @@ use Rattle.monitor.specs.Fit.{fits}
 use Rattle.monitor.specs.Feed.{feedOf}
 use Rattle.preview.specs.declared.PreviewAnswer.{PreviewAnswer}
 use Rattle.preview.specs.declared.PreviewAnswer.the-variants.{Shown, TooShort, Refused}
-use Rattle.preview.specs.Preview.{previewNumber, foreseenOf, foreseen, previewBytes, timely, previewOf, isShown}
+use Rattle.preview.specs.Preview.{previewNumber, foreseenOf, foreseen, previewBytes, previewOf, isShown}
 use Rattle.preview.specs.Preview.{bufferOf}
 
 -- only with 0 is anything shown
@@ -45,23 +44,16 @@ zero-shown (Refused Unfit) e = absurd (omega arith)
 zero-shown (Refused TimeFalls) e = absurd (omega arith)
 zero-shown (Refused TooManyRecords) e = absurd (omega arith)
 
--- the tests, all passed
-pub record Passed (c : Chart) (m : Monitor) (t : Moment) (room : ℕ) : Type 0 where
-  pub chart : wellFormed c ≡ true
-  pub fit : fits (chartOf c) m ≡ true
-  pub enough : c .count ≤ room
-  pub on-time : isShown (timely (m .tally) t) ≡ true
-
-pub passed : (c : Chart) (m : Monitor) (t : Moment) (room : ℕ) → isShown (previewOf c m t room) ≡ true
-    → Passed c m t room
+-- there is a byte for each region
+enough : (c : Chart) (m : Monitor) (t : Moment) (room : ℕ) → isShown (previewOf c m t room) ≡ true → c .count ≤ room
 unfolding previewOf
-passed c m t room s = elim (split (wellFormed c)) [
+enough c m t room s = elim (split (wellFormed c)) [
   | inr w ↦ absurd (clash s (rw w))
   | inl w ↦ elim (split (fits (chartOf c) m)) [
     | inr f ↦ absurd (clash s (rw (w, f)))
     | inl f ↦ elim (split (ltb room (c .count))) [
       | inl l ↦ absurd (clash s (rw (w, f, l)))
-      | inr l ↦ record { chart = w; fit = f; enough = ltb-false room (c .count) l; on-time = rw (w, f, l) at s }
+      | inr l ↦ ltb-false room (c .count) l
     ]
   ]
 ]
@@ -77,7 +69,7 @@ module _ (c : Chart) (m : Monitor) (t : Moment) (l : List ℕ) (s : isShown (pre
 
   pub same-size : length (bufferOf c m t l) ≡ length l
   same-size =
-      let h = passed c m t (length l) s .enough in
+      let h = enough c m t (length l) s in
       ap length filled ∙ length-append (previewBytes c m t) (drop (c .count) l)
       ∙ omega (arith, h, regions, length-drop (c .count) l)
 

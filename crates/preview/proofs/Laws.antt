@@ -4,29 +4,25 @@ use mathlib.Core.Bool.{Bool, true, false, cond}
 use mathlib.Core.List.{List, _++_}
 use Prim.Native.Nat.{ℕ, suc, _+_, _≤_, _<_}
 use native.Mathlib.Numerals.{add-one}
-use native.Mathlib.Omega.{arith}
 use borrow.Author.Tests.{lt-ltb, le-ltb, ne-eqb}
 use native.Mathlib.Nat.{suc-ne-zero}
-use lib.Dec.{eqb, ltb}
-use lib.ListN.{length, getD, set, drop}
+use lib.ListN.{length, set, drop}
 use Rattle.base.specs.Table.{table}
 use Rattle.base.proofs.Table.{length-table, table-more, table-same}
 use Rattle.wire.specs.Writing.{Wrote}
 use Rattle.wire.proofs.Writing.{then, nothing, one, spelled, at-start}
 use Rattle.model.specs.declared.Chart.{Chart}
-use Rattle.model.specs.declared.Region.{Region}
 use Rattle.model.specs.declared.Event.{Event}
 use Rattle.model.specs.declared.Event.the-variants.{Message, Plain}
 use Rattle.model.specs.declared.Moment.{Moment}
 use Rattle.model.specs.declared.Monitor.{Monitor}
 use Rattle.model.specs.declared.Record.the-variants as a-record
-use Rattle.model.specs.declared.FeedRefusal.{FeedRefusal}
 use Rattle.model.specs.declared.FeedRefusal.the-variants.{NotAChart, Unfit}
 use Rattle.model.specs.declared.Answer.{Answer}
 use Rattle.model.specs.Chart.{regionAt, zeroRegion}
 use Rattle.model.specs.Answers.{answerNumber}
 use Rattle.chart_value.specs.WellFormed.{wellFormed}
-use Rattle.chart_value.specs.View.{keyOf, regionOf, chartOf}
+use Rattle.chart_value.specs.View.{keyOf, chartOf}
 use Rattle.rounds.specs.Chart.{Chart as Abstract}
 use Rattle.rounds.specs.Machine as machine
 use Rattle.stepping.specs.Answers.{answerOf, toldNumber}
@@ -35,7 +31,7 @@ use Rattle.stepping.proofs.Answers.{told-number}
 use Rattle.monitor.specs.Fit.{fits}
 use Rattle.monitor.proofs.Feeding.{fed-on}
 use Rattle.preview.specs.declared.PreviewAnswer.{PreviewAnswer}
-use Rattle.preview.specs.declared.PreviewAnswer.the-variants.{Shown, TooShort, Refused}
+use Rattle.preview.specs.declared.PreviewAnswer.the-variants.{TooShort, Refused}
 use Rattle.preview.specs.Preview.{foreseenOf, foreseen, previewBytes, timely, previewOf, isShown, bufferOf}
 use Rattle.preview.specs.Parts.{shownBy}
 

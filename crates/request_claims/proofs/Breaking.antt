@@ -49,7 +49,7 @@ use Rattle.judge.specs.declared.Judgement.{Judgement}
 use Rattle.judge.specs.Verdict as judge
 use Rattle.judge.specs.Judge.{byCheck, judgeOf}
 use Rattle.breaks.specs.declared.BreakAnswer.{BreakAnswer}
-use Rattle.breaks.specs.declared.BreakAnswer.the-variants.{Yes, No, NoChart, Refused}
+use Rattle.breaks.specs.declared.BreakAnswer.the-variants.{Yes, No, Refused}
 use Rattle.breaks.specs.Numbers.{breakNumber, breakOffset}
 use Rattle.breaks.specs.Breaks.{byFault, answerBy, breaksOf}
 use Rattle.claims.specs.Demand1.{Just, ends, Walk, start, step, no-record, overflows, JudgesAs}

@@ -1,9 +1,9 @@
 -- Showing what would be answered, case by case; and what is fed then is answered so. Assumes nothing.
 use mathlib.Core.Path.{_≡_, refl, sym, ap, subst, _∙_}
 use mathlib.Core.Logic.{_≢_, _↔_, _⊎_, inl, inr, ⊎-elim}
-use mathlib.Core.Bool.{Bool, true, false, So, not, _&&_}
+use mathlib.Core.Bool.{Bool, true, false, So}
 use mathlib.Core.List.{List}
-use Prim.Native.Nat.{ℕ, suc, _≤_, _<_}
+use Prim.Native.Nat.{ℕ, _≤_, _<_}
 use native.Mathlib.Decide.{decLt}
 use native.Mathlib.Nat.{suc-ne-zero}
 use native.Mathlib.Omega.{arith}
@@ -20,14 +20,13 @@ use Rattle.model.specs.declared.Event.the-variants as event
 use Rattle.model.specs.declared.Message.{Message}
 use Rattle.model.specs.declared.Moment.{Moment}
 use Rattle.model.specs.declared.Monitor.{Monitor}
-use Rattle.model.specs.declared.Record.{Record}
 use Rattle.model.specs.declared.Record.the-variants as a-record
 use Rattle.model.specs.declared.FeedRefusal.{FeedRefusal}
 use Rattle.model.specs.declared.FeedRefusal.the-variants.{NotAChart, Unfit, TimeFalls, TooManyRecords}
 use Rattle.model.specs.declared.Answer.{Answer}
 use Rattle.model.specs.declared.Answer.the-variants as answer
-use Rattle.model.specs.Chart.{mostClocks, regionAt, zeroRegion}
-use Rattle.model.specs.Answers.{mostRecords, feedRefusalNumber, answerNumber}
+use Rattle.model.specs.Chart.{mostClocks, regionAt}
+use Rattle.model.specs.Answers.{mostRecords, feedRefusalNumber}
 use Rattle.chart_value.specs.Given.{Given}
 use Rattle.chart_value.specs.WellFormed.{wellFormed}
 use Rattle.chart_value.specs.View.{keyOf, codeOf, chartOf}
@@ -39,10 +38,9 @@ use Rattle.rounds.specs.Feeds.{Answer as AbstractAnswer, refused, brokenAt, kep
 use Rattle.rounds.specs.Machine as machine
 use Rattle.rounds.specs.Machine.{feed, Fit}
 use Rattle.paper.specs.Taken as case
-use Rattle.paper.specs.Taken.{Status, Offered, Taken, statusOf, Acceptable}
+use Rattle.paper.specs.Taken.{Status, Offered, Taken, Acceptable}
 use Rattle.paper.specs.Demand2.{Demand2}
 use Rattle.paper.proofs.Demand2.{demand-2}
-use Rattle.stepping.specs.declared.Step.{Step}
 use Rattle.stepping.specs.Answers.{answerOf, toldNumber}
 use Rattle.stepping.specs.Monitors.{monitorAt, stepOf}
 use Rattle.stepping.proofs.Answers.{answer-told}
@@ -57,7 +55,7 @@ use Rattle.preview.proofs.Laws.{Gives, no-chart, not-fit, too-short, on-time, u
 use Rattle.preview.proofs.Bytes.{same-size, shown-byte, byte-beyond, byte-fed}
 use Rattle.request_claims.specs.declared.Pressed.{Pressed}
 use Rattle.request_claims.specs.Previews as preview
-use Rattle.request_claims.specs.Previews.{ForeseenAs, Shows, PreviewsAs, PreviewsJust, Foretold}
+use Rattle.request_claims.specs.Previews.{ForeseenAs, PreviewsAs, PreviewsJust, Foretold}
 
 -- what a record that is taken is answered: never a refusal; for a chart's message 1 to 5
 abbrev isRefusal : AbstractAnswer → Bool

@@ -2,7 +2,6 @@
 use Prim.Native.Nat.{ℕ, _-_, _≤_}
 use native.Mathlib.Omega.{arith}
 use lib.ListN.{getD}
-use borrow.Author.Needs.{needs}
 use Rattle.layout.specs.View.{planChart}
 use Rattle.preview.specs.Parts.{shownBy}
 use Rattle.monitor.proofs.Feeding.{all-covered}
