@@ -55,6 +55,7 @@ previewOf c m t room =
     (cond (not (fits (chartOf c) m)) (Refused Unfit)
     (cond (ltb room (c .count)) TooShort (timely (m .tally) t)))
 
+-- whether the bytes are shown
 abbrev pub isShown : PreviewAnswer → Bool
 isShown Shown = true
 isShown TooShort = false
