@@ -2,13 +2,14 @@
 use mathlib.Core.Path.{_≡_, refl, sym, ap, _∙_}
 use mathlib.Core.Logic.{inl, inr}
 use mathlib.Core.Bool.{true}
-use mathlib.Core.List.{List, _++_}
+use mathlib.Core.List.{List}
 use Prim.Native.Nat.{ℕ, _+_, _-_, _≤_, _<_}
 use native.Mathlib.Omega.{arith}
 use borrow.Author.Tests.{ltb-false}
 use lib.Dec.{ltb}
 use lib.ListN.{length, getD, drop, length-append, length-drop, List·getD-append}
 use lib.Seq.{getD-append-add, getD-drop}
+use Rattle.wire.specs.Writing.{startingWith}
 use Rattle.base.proofs.Bools.{split, clash}
 use Rattle.base.proofs.Table.{length-table, getD-table}
 use Rattle.model.specs.declared.Chart.{Chart}
@@ -63,32 +64,32 @@ module _ (c : Chart) (m : Monitor) (t : Moment) (l : List ℕ) (s : isShown (pre
   unfolding previewBytes
   regions = length-table (c .count) (foreseen c m t)
 
-  filled : bufferOf c m t l ≡ previewBytes c m t ++ drop (c .count) l
+  filled : bufferOf c m t l ≡ startingWith (previewBytes c m t) l
   unfolding bufferOf
   filled = rw s
 
   pub same-size : length (bufferOf c m t l) ≡ length l
   same-size =
       let h = enough c m t (length l) s in
-      ap length filled ∙ length-append (previewBytes c m t) (drop (c .count) l)
-      ∙ omega (arith, h, regions, length-drop (c .count) l)
+      let n : ℕ = length (previewBytes c m t) in
+      ap length filled ∙ length-append (previewBytes c m t) (drop n l) ∙ omega (arith, h, regions, length-drop n l)
 
   pub shown-byte : (i : ℕ) → i < c .count → getD (bufferOf c m t l) i 0 ≡ foreseen c m t i
   unfolding previewBytes
   shown-byte i h =
       ap (λ (x : List ℕ). getD x i 0) filled
-      ∙ List·getD-append (previewBytes c m t) (drop (c .count) l) 0 i (rw regions h)
+      ∙ List·getD-append (previewBytes c m t) (drop (length (previewBytes c m t)) l) 0 i (rw regions h)
       ∙ getD-table (c .count) i (foreseen c m t) 0 h
 
   pub byte-beyond : (i : ℕ) → c .count ≤ i → getD (bufferOf c m t l) i 0 ≡ getD l i 0
   byte-beyond i h =
-      let k : length (previewBytes c m t) + (i - c .count) ≡ i = omega (arith, regions) in
-      let j : c .count + (i - c .count) ≡ i = omega arith in
+      let bs = previewBytes c m t in
+      let k : length (previewBytes c m t) + (i - length (previewBytes c m t)) ≡ i = omega (arith, regions) in
       ap (λ (x : List ℕ). getD x i 0) filled
-      ∙ ap (λ (n : ℕ). getD (previewBytes c m t ++ drop (c .count) l) n 0) (sym k)
-      ∙ getD-append-add (previewBytes c m t) (drop (c .count) l) (i - c .count) 0
-      ∙ getD-drop (c .count) l (i - c .count) 0
-      ∙ ap (λ (n : ℕ). getD l n 0) j
+      ∙ ap (λ (n : ℕ). getD (startingWith bs l) n 0) (sym k)
+      ∙ getD-append-add bs (drop (length bs) l) (i - length bs) 0
+      ∙ getD-drop (length bs) l (i - length bs) 0
+      ∙ ap (λ (n : ℕ). getD l n 0) k
 
   -- a message region's byte is the number of the answer to its message, fed
   pub byte-fed : (i : ℕ) → i < c .count → (x : Message) → regionAt c i .event ≡ event.Message x → (r : Step)

@@ -1,15 +1,15 @@
 -- A region's byte from the compiled chart is that of its message, fed; and what the buffer becomes. Assumes nothing.
 use mathlib.Core.Path.{_≡_, refl, sym, ap, subst, _∙_}
 use mathlib.Core.Bool.{Bool, true, false, cond}
-use mathlib.Core.List.{List, _++_}
+use mathlib.Core.List.{List}
 use Prim.Native.Nat.{ℕ, suc, _+_, _≤_, _<_}
 use native.Mathlib.Numerals.{add-one}
 use borrow.Author.Tests.{lt-ltb, le-ltb, ne-eqb}
 use native.Mathlib.Nat.{suc-ne-zero}
-use lib.ListN.{length, set, drop}
+use lib.ListN.{length, set}
 use Rattle.base.specs.Table.{table}
 use Rattle.base.proofs.Table.{length-table, table-more, table-same}
-use Rattle.wire.specs.Writing.{Wrote}
+use Rattle.wire.specs.Writing.{Wrote, startingWith}
 use Rattle.wire.proofs.Writing.{then, nothing, one, spelled, at-start}
 use Rattle.model.specs.declared.Chart.{Chart}
 use Rattle.model.specs.declared.Event.{Event}
@@ -60,11 +60,10 @@ front-more {l} {f} {i} {out} F b e =
     subst (λ (k : ℕ). Front l f k (set out i b)) (sym (add-one i)) next
 
 pub front-whole : {l : List ℕ} {f : ℕ → ℕ} {i : ℕ} {out : List ℕ} → Front l f i out → (n : ℕ) → i ≡ n → n ≤ length l
-    → out ≡ table n f ++ drop n l
+    → out ≡ startingWith (table n f) l
 front-whole {l} {f} {i} {out} F n e h =
     let G : Front l f n out = subst (λ (k : ℕ). Front l f k out) e F in
-    let k = length-table n f in
-    at-start (G .wrote) (rw k h) ∙ ap (λ (x : ℕ). table n f ++ drop x l) k
+    at-start (G .wrote) (rw (length-table n f) h)
 
 -- the tests in their order; with a refusal the buffer stays
 module _ (c : Chart) (m : Monitor) (t : Moment) (l : List ℕ) where
@@ -119,13 +118,13 @@ module _ (c : Chart) (m : Monitor) (t : Moment) (l : List ℕ) where
             ∙ ap (λ (b : Bool). keyOf (cond b (regionAt c i) zeroRegion .event)) (lt-ltb i (c .count) b))
 
         pub shows : isShown r ≡ true → (out : List ℕ)
-            → out ≡ table (C .regions) (λ i. shownBy C m t (C .key i)) ++ drop (C .regions) l → Gives r out
+            → out ≡ startingWith (table (C .regions) (λ i. shownBy C m t (C .key i))) l → Gives r out
         unfolding bufferOf previewBytes
         shows s out q =
             let k = ap (λ (C : Abstract). C .regions) same in (
               on-time,
               rw (← on-time, s)
                   (q
-                  ∙ ap (λ (n : ℕ). table n (λ i. shownBy C m t (C .key i)) ++ drop n l) k
-                  ∙ ap (λ (x : List ℕ). x ++ drop (c .count) l) (table-same (c .count) _ _ in-chart)),
+                  ∙ ap (λ (n : ℕ). startingWith (table n (λ i. shownBy C m t (C .key i))) l) k
+                  ∙ ap (λ (x : List ℕ). startingWith x l) (table-same (c .count) _ _ in-chart)),
             )

@@ -1,10 +1,11 @@
 -- What each region's message would be answered at a moment (F1 to F4).
 use mathlib.Core.Bool.{Bool, true, false, cond, not}
-use mathlib.Core.List.{List, _++_}
+use mathlib.Core.List.{List}
 use Prim.Native.Nat.{ℕ}
 use lib.Dec.{eqb, leb, ltb}
-use lib.ListN.{length, drop}
+use lib.ListN.{length}
 use Rattle.base.specs.Table.{table}
+use Rattle.wire.specs.Writing.{startingWith}
 use Rattle.model.specs.declared.Chart.{Chart}
 use Rattle.model.specs.declared.Event.{Event}
 use Rattle.model.specs.declared.Event.the-variants.{Message, Plain}
@@ -64,4 +65,4 @@ isShown (Refused k) = false
 -- F3: the buffer afterwards: the regions' bytes at its start and the rest as it was; with a refusal all as it was
 unfoldable pub bufferOf : Chart → Monitor → Moment → List ℕ → List ℕ
 bufferOf c m t l =
-    cond (isShown (previewOf c m t (length l))) (previewBytes c m t ++ drop (c .count) l) l
+    cond (isShown (previewOf c m t (length l))) (startingWith (previewBytes c m t) l) l

@@ -10,10 +10,10 @@ use model::Monitor;
 use model::TOO_SHORT;
 use model::Tally;
 ghost use mathlib.Core.Path.{_≡_};
-ghost use mathlib.Core.List.{_++_};
 ghost use Prim.Native.Nat.{_≤_};
-ghost use lib.ListN.{length, getD, drop};
+ghost use lib.ListN.{length, getD};
 ghost use Rattle.base.specs.Table.{table};
+ghost use Rattle.wire.specs.Writing.{startingWith};
 ghost use Rattle.rounds.specs.Machine.{Fit};
 ghost use Rattle.stepping.specs.Monitors.{monitorAt};
 ghost use Rattle.layout.specs.View.{planChart, Compiled, Covers};
@@ -90,9 +90,9 @@ fn put_foreseen<'a>(
     requires { ⌜ Fit (planChart h (now keys) (now above) (now resets) (now terms)) (monitorAt m) ⌝ }
     requires { ⌜ h .count ≤ length (now out) ⌝ }
     ensures { λ r. ⌜ now (out .exit)
-        ≡ table (h .count) (λ i. shownBy
+        ≡ startingWith (table (h .count) (λ i. shownBy
         (planChart h (now (keys .entry)) (now (above .entry)) (now (resets .entry)) (now (terms .entry))) m t
-        (getD (now (keys .entry)) i 0)) ++ drop (h .count) (now (out .entry)) ⌝ }
+        (getD (now (keys .entry)) i 0))) (now (out .entry)) ⌝ }
 {
     let among = firing::below(h.count);
     let mut i: usize = 0;

@@ -25,10 +25,12 @@ same-length c = search needs
 
 returns : tie.Need-returns
 returns c =
-    let a = c .before .before .before .before .before .before .before .before .before .before .args in
-    let p = c .before .before .before .before .preview in
-    let s = previewed (a .live .now) (a .time) (a .out .now) _ _ (c .before .before .before .before .before .before .before .chart-in .ensures) (c .before .before .before .before .before .before .monitor-at .ensures .0)
-    (p .result) (p .ensures .0) _ _ _ (c .number .ensures) (c .before .regions-told .ensures) (p .ensures .1) in
+    let p = c .before .before .before .before in
+    let m = p .before .before in
+    let a = m .before .before .before .before .args in
+    let s = previewed (a .live .now) (a .time) (a .out .now) _ _ (m .before .chart-in .ensures)
+    (m .monitor-at .ensures .0) (p .preview .result) (p .preview .ensures .0) _ _ _ (c .number .ensures)
+    (c .before .regions-told .ensures) (p .preview .ensures .1) in
     (s .0, (s .1, (s .2, (s .3, refl))))
 
 pub lsc-preview-spec : {M : Type 1} → statement M

@@ -20,13 +20,18 @@ is-fit-requires c κs = search needs
 
 returns-2 : tie.Need-returns-2
 returns-2 c =
-    not-fit _ _ _ _ (sym (c .before .before .before .before .before .before .before .before .before .before .well-formed .ensures .0) ∙ not-false _ (c .before .before .before .before .before .before .before .before .before .if1 .left)) _ (c .before .before .before .before .before .before .before .before .compile .ensures .shows)
-    (sym (c .before .is-fit .ensures .0) ∙ not-true _ (c .if2 .taken))
+    let f = c .before in
+    let k = f .before .before .before .before .before .before .before in
+    let w = sym (k .before .before .well-formed .ensures .0) ∙ not-false _ (k .before .if1 .left) in
+    not-fit _ _ _ _ w _ (k .compile .ensures .shows) (sym (f .is-fit .ensures .0) ∙ not-true _ (c .if2 .taken))
 
 returns-3 : tie.Need-returns-3
 returns-3 c =
-    too-short _ _ _ _ (sym (c .before .before .before .before .before .before .before .before .before .before .before .before .well-formed .ensures .0) ∙ not-false _ (c .before .before .before .before .before .before .before .before .before .before .before .if1 .left)) _ (c .before .before .before .before .before .before .before .before .before .before .compile .ensures .shows)
-    (sym (c .before .before .before .is-fit .ensures .0) ∙ not-false _ (c .before .before .if2 .left)) (c .if3 .taken)
+    let f = c .before .before .before in
+    let k = f .before .before .before .before .before .before .before in
+    let w = sym (k .before .before .well-formed .ensures .0) ∙ not-false _ (k .before .if1 .left) in
+    too-short _ _ _ _ w _ (k .compile .ensures .shows)
+    (sym (f .is-fit .ensures .0) ∙ not-false _ (c .before .before .if2 .left)) (c .if3 .taken)
 
 timely-answer-requires : tie.Need-timely-answer-requires
 timely-answer-requires c κs = search needs
@@ -36,18 +41,21 @@ is-shown-requires c κs = search needs
 
 returns-4 : tie.Need-returns-4
 returns-4 c =
-    untimely _ _ _ _ (sym (c .before .before .before .before .before .before .before .before .before .before .before .before .before .before .before .well-formed .ensures .0) ∙ not-false _ (c .before .before .before .before .before .before .before .before .before .before .before .before .before .before .if1 .left)) _ (c .before .before .before .before .before .before .before .before .before .before .before .before .before .compile .ensures .shows)
-    (sym (c .before .before .before .before .before .before .is-fit .ensures .0) ∙ not-false _ (c .before .before .before .before .before .if2 .left)) (c .before .before .before .if3 .left) _ (c .before .before .timely-answer .ensures)
+    let f = c .before .before .before .before .before .before in
+    let k = f .before .before .before .before .before .before .before in
+    let w = sym (k .before .before .well-formed .ensures .0) ∙ not-false _ (k .before .if1 .left) in
+    untimely _ _ _ _ w _ (k .compile .ensures .shows)
+    (sym (f .is-fit .ensures .0) ∙ not-false _ (c .before .before .before .before .before .if2 .left))
+    (c .before .before .before .if3 .left) _ (c .before .before .timely-answer .ensures)
     (sym (c .before .is-shown .ensures) ∙ not-true _ (c .if4 .taken))
 
 put-foreseen-requires : tie.Need-put-foreseen-requires
 put-foreseen-requires c κs =
-    let K = c .before .before .before .before .before .before .before .before .before .before .before .before .before .before .before .before .before .before .before .compile .ensures .compiled in (
-      K,
-      (
-        c .before .before .before .before .before .before .before .before .before .before .before .before .is-fit .ensures .1 .0 (not-false _ (c .before .before .before .before .before .before .before .before .before .before .before .if2 .left)),
-        c .before .before .before .before .before .before .before .before .before .if3 .left,
-      ),
+    let f = c .before .before .before .before .before .before .before .before .before .before .before .before in
+    let k = f .before .before .before .before .before .before .before in
+    let y = c .before .before .before .before .before .before .before .before .before in (
+      k .compile .ensures .compiled,
+      (f .is-fit .ensures .1 .0 (not-false _ (y .before .before .if2 .left)), y .if3 .left),
     )
 
 same-length : tie.Need-same-length
@@ -55,9 +63,13 @@ same-length c = search needs
 
 returns-5 : tie.Need-returns-5
 returns-5 c =
-    shows _ _ _ _ (sym (c .before .before .before .before .before .before .before .before .before .before .before .before .before .before .before .before .before .before .before .before .before .before .before .before .well-formed .ensures .0) ∙ not-false _ (c .before .before .before .before .before .before .before .before .before .before .before .before .before .before .before .before .before .before .before .before .before .before .before .if1 .left)) _ (c .before .before .before .before .before .before .before .before .before .before .before .before .before .before .before .before .before .before .before .before .before .before .compile .ensures .shows)
-    (sym (c .before .before .before .before .before .before .before .before .before .before .before .before .before .before .before .is-fit .ensures .0) ∙ not-false _ (c .before .before .before .before .before .before .before .before .before .before .before .before .before .before .if2 .left)) (c .before .before .before .before .before .before .before .before .before .before .before .before .if3 .left) _ (c .before .before .before .before .before .before .before .before .before .before .before .timely-answer .ensures)
-    (sym (c .before .before .before .before .before .before .before .before .before .before .is-shown .ensures) ∙ not-false _ (c .before .before .before .before .before .before .before .before .before .if4 .left)) _ (c .before .before .put-foreseen .ensures)
+    let f = c .before .before .before .before .before .before .before .before .before .before .before .before .before .before .before in
+    let k = f .before .before .before .before .before .before .before in
+    let w = sym (k .before .before .well-formed .ensures .0) ∙ not-false _ (k .before .if1 .left) in
+    let y = c .before .before .before .before .before .before .before .before .before in
+    shows _ _ _ _ w _ (k .compile .ensures .shows) (sym (f .is-fit .ensures .0) ∙ not-false _ (y .before .before .before .before .before .if2 .left))
+    (y .before .before .before .if3 .left) _ (y .before .before .timely-answer .ensures)
+    (sym (y .before .is-shown .ensures) ∙ not-false _ (y .if4 .left)) _ (c .before .before .put-foreseen .ensures)
 
 pub preview-spec : {M : Type 1} → statement M
 preview-spec =
