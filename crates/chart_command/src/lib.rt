@@ -29,23 +29,23 @@ pub enum Decoded {
     Known(Command, usize),
 }
 
-const HEADING: u8 = 0x10;
+pub const HEADING: u8 = 0x10;
 
-const MESSAGE: u8 = 0x20;
+pub const MESSAGE: u8 = 0x20;
 
-const PLAIN: u8 = 0x21;
+pub const PLAIN: u8 = 0x21;
 
-const CLOCK_TERM: u8 = 0x30;
+pub const CLOCK_TERM: u8 = 0x30;
 
-const DIFFERENCE_TERM: u8 = 0x31;
+pub const DIFFERENCE_TERM: u8 = 0x31;
 
-const HOT: u8 = 0x32;
+pub const HOT: u8 = 0x32;
 
-const RESETS: u8 = 0x40;
+pub const RESETS: u8 = 0x40;
 
-const MAIN: u8 = 0x50;
+pub const MAIN: u8 = 0x50;
 
-const END: u8 = 0x7f;
+pub const END: u8 = 0x7f;
 
 // A command with n operand bytes, if they are there.
 fn with_operands(s: &[u8], at: usize, n: usize, c: Command) -> Decoded

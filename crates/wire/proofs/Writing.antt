@@ -1,14 +1,17 @@
 -- Texts put one after the other, and numbers that their bytes give back. Assumes nothing.
 use mathlib.Core.Path.{_≡_, refl, sym, ap, _∙_, subst}
+use mathlib.Core.Bool.{true, false, cond}
 use mathlib.Core.List.{List, [], _∷_, _++_}
 use Prim.Native.Nat.{ℕ, suc, _+_, _*_, _/_, _%_, _^_, _≤_, _<_}
 use native.Mathlib.Nat.{add-zero, add-suc, suc-add}
 use native.Mathlib.Numerals.{add-one}
 use native.Mathlib.Omega.{arith}
+use borrow.Author.Tests.{lt-ltb, le-ltb, le-leb, lt-leb}
+use lib.Dec.{leb}
 use lib.ListN.{length, getD, set, take, drop, length-append, length-set}
 use lib.Seq.{sets, sets-eq, take-suc}
 use Rattle.wire.specs.Bytes.{word64}
-use Rattle.wire.specs.Writing.{Wrote, startingWith, wordBytes, longBytes}
+use Rattle.wire.specs.Writing.{Wrote, startingWith, writerBuffer, halfBytes, wordBytes, longBytes}
 
 sets-append : (l : List ℕ) (i : ℕ) (t u : List ℕ) → sets l i (t ++ u) ≡ sets (sets l i t) (i + length t) u
 sets-append l i [] u = ap (λ (k : ℕ). sets l k u) (sym (add-zero i))
@@ -48,10 +51,39 @@ at-start {l} {t} {n} {j} w h =
     let p : 0 + length t ≡ length t = omega arith in
     w .bytes ∙ sets-eq t l 0 (omega arith) ∙ ap (λ (k : ℕ). t ++ drop k l) p
 
+take-front : (t u : List ℕ) → take (length t) (t ++ u) ≡ t
+take-front [] u = refl
+take-front (a ∷ t) u = ap (λ (x : List ℕ). a ∷ x) (take-front t u)
+
+-- its length, and it can be taken from there
+pub counted : {l t n : List ℕ} {j : ℕ} → Wrote l 0 t n j → j ≡ length t
+counted w = omega (arith, w .next)
+
+pub taken-back : {l t n : List ℕ} {j : ℕ} → Wrote l 0 t n j → length t ≤ length l → take j n ≡ t
+taken-back {l} {t} w h = (λ i. take (counted w i) (at-start w h i)) ∙ take-front t (drop (length t) l)
+
+-- a writer's buffer: without room for the text, and with it
+pub no-room : (t out : List ℕ) → length out < length t → (false ≡ leb (length t) (length out)) × (out ≡ writerBuffer t out)
+no-room t out h = (sym (lt-leb _ _ h), ap (λ b. cond b out (startingWith t out)) (sym (lt-ltb _ _ h)))
+
+pub whole : {t out m : List ℕ} {j : ℕ} → length t ≤ length out → Wrote out 0 t m j
+    → (true ≡ leb (length t) (length out)) × (m ≡ writerBuffer t out)
+whole {t} {out} h w = (
+  sym (le-leb _ _ h),
+  at-start w h ∙ ap (λ b. cond b out (startingWith t out)) (sym (le-ltb _ _ h)),
+)
+
 -- numbers written for one case of a value are those of the value
 pub written : {A : Type 0} (f : A → List ℕ) (out : List ℕ) {x y : A} {m : List ℕ} → x ≡ y → m ≡ startingWith (f y) out
     → m ≡ startingWith (f x) out
 written f out e b = b ∙ ap (λ z. startingWith (f z) out) (sym e)
+
+-- two bytes that are those of x, widened or not
+pub half-of : {l m : List ℕ} {i j a b : ℕ} (x w : ℕ) → w ≡ x → w < 65536 → Wrote l i (a ∷ b ∷ []) m j
+    → a ≡ w / 0x100 % 256 → b ≡ w % 256 → Wrote l i (halfBytes x) m j
+half-of {l} {m} {i} {j} {a} {b} x w e h v p q =
+    let d : w / 0x100 % 256 ≡ w / 0x100 = omega arith in
+    spelled (cc) v
 
 -- four bytes that are those of x
 pub word-of : {l m : List ℕ} {i j a b c d : ℕ} (x : ℕ) → Wrote l i (a ∷ b ∷ c ∷ d ∷ []) m j

@@ -3,9 +3,10 @@
 ghost use mathlib.Core.Path.{_≡_};
 ghost use mathlib.Core.List.{_∷_, []};
 ghost use Prim.Native.Nat.{_<_, _≤_, _+_, _%_};
+ghost use lib.Dec.{leb};
 ghost use lib.ListN.{length, getD};
 ghost use Rattle.wire.specs.Bytes.{word16, word32, word64};
-ghost use Rattle.wire.specs.Writing.{Wrote, wordBytes, longBytes};
+ghost use Rattle.wire.specs.Writing.{Wrote, writerBuffer, halfBytes, wordBytes, longBytes};
 
 // The weight of the upper four of eight bytes.
 const LONG_HALF: u64 = 0x1_0000_0000;
@@ -117,11 +118,34 @@ pub fn put_bytes(out: &mut [u8], at: usize, text: &[u8]) -> usize
     at + i
 }
 
+// A writer's buffer: takes the whole text, if there is room for it. Answers whether there is.
+pub fn put_whole(out: &mut [u8], text: &[u8]) -> bool
+    ensures room { λ r. ⌜ r ≡ leb (length (now (text .entry))) (length (now (out .entry))) ⌝ }
+    ensures buffer { λ r. ⌜ now (out .exit) ≡ writerBuffer (now (text .entry)) (now (out .entry)) ⌝ }
+    ensures unchanged { λ r. ⌜ now (text .exit) ≡ now (text .entry) ⌝ }
+{
+    if out.len() < text.len() {
+        return false;
+    }
+    put_bytes(out, 0, text);
+    true
+}
+
 // The least significant byte.
 fn byte_of(x: u32) -> u8
     ensures { λ r. ⌜ r ≡ x % 256 ⌝ }
 {
     (x % 0x100) as u8
+}
+
+// A number in two bytes.
+pub fn put_word16(out: &mut [u8], at: usize, x: u16) -> usize
+    requires { ⌜ at + 2 ≤ length (now out) ⌝ }
+    ensures { λ r. ⌜ Wrote (now (out .entry)) at (halfBytes x) (now (out .exit)) r ⌝ }
+{
+    let wide = wide32(x);
+    let second = put_byte(out, at, byte_of(wide / 0x100));
+    put_byte(out, second, byte_of(wide))
 }
 
 // A number in four bytes.

@@ -1,0 +1,27 @@
+-- `chart_writer::put_hot` meets its contract: 32, or nothing. Assumes nothing.
+use mathlib.Core.Path.{refl, sym, ap}
+use mathlib.Core.List.{[]}
+use native.Mathlib.Omega.{arith}
+use Rattle.wire.proofs.Writing.{nothing}
+use Rattle.chart_value.specs.Writer.{hotBytes}
+use Rattle.chart_writer.proofs.Laws.{piece}
+use borrow.Author.Needs.{needs}
+use Rattle.chart_writer.proofs.put_hot.Statement.{statement}
+use Rattle.chart_writer.proofs.put_hot.Tie as tie
+
+put-byte-requires : tie.Need-put-byte-requires
+put-byte-requires c κs = search needs
+
+same-length : tie.Need-same-length
+same-length c = search needs
+
+returns : tie.Need-returns
+returns c =
+    piece 1 (ap (λ b. hotBytes b []) (sym (c .before .before .before .before .if1 .taken))) (omega arith) (c .before .before .put-byte .ensures)
+
+returns-2 : tie.Need-returns-2
+returns-2 c =
+    piece 1 (ap (λ b. hotBytes b []) (sym (c .if1 .left))) (omega arith) (nothing _ _ _ refl)
+
+pub put-hot-spec : {M : Type 1} → statement M
+put-hot-spec = tie.close (tie.spec put-byte-requires same-length returns returns-2)
