@@ -12,8 +12,10 @@ use model::Chart;
 use model::Event;
 use model::Left;
 use model::Message;
+use model::NOT_A_CHART;
 use model::Region;
 use model::Relation;
+use model::TOO_SHORT;
 use model::Term;
 ghost use mathlib.Core.Path.{_≡_};
 ghost use mathlib.Core.Bool.{true, cond};
@@ -29,7 +31,7 @@ ghost use Rattle.chart_reader.specs.Said.{acceptedAs};
 ghost use Rattle.chart_value.specs.WellFormed.{wellFormed};
 ghost use Rattle.chart_value.specs.Writer.{relationByte, leftBytes, termBytes, eventBytes, termsBytes, hotBytes};
 ghost use Rattle.chart_value.specs.Writer.{resetsBytes, regionBytes, regionsBytes, chartBytes};
-ghost use Rattle.chart_writer.specs.Save.{mostBytes, savedAnswer, savedBuffer};
+ghost use Rattle.chart_writer.specs.Save.{mostBytes, savedAnswer, savedBuffer, savedNumber, savedSize};
 
 // D6: no chart has more bytes.
 pub const MOST_BYTES: usize = 1_285;
@@ -39,6 +41,28 @@ pub enum ChartWritten {
     Written(usize),
     NotAChart,
     TooShort(usize),
+}
+
+// 0, 20 or 12.
+pub fn number(a: ChartWritten) -> u8
+    ensures { λ r. ⌜ r ≡ savedNumber a ⌝ }
+{
+    match a {
+        ChartWritten::Written(_) => 0,
+        ChartWritten::NotAChart => NOT_A_CHART,
+        ChartWritten::TooShort(_) => TOO_SHORT,
+    }
+}
+
+// The length written or needed; 0 for no chart.
+pub fn size(a: ChartWritten) -> usize
+    ensures { λ r. ⌜ r ≡ savedSize a ⌝ }
+{
+    match a {
+        ChartWritten::Written(n) => n,
+        ChartWritten::NotAChart => 0,
+        ChartWritten::TooShort(n) => n,
+    }
 }
 
 fn relation_byte(e: Relation) -> u8

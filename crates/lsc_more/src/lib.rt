@@ -1,5 +1,6 @@
-// V18, V20: the exported functions that read one record, and that show what a live monitor would answer. 0 is success,
-// 12 a buffer with too few places.
+// V18, V20, V21: the exported functions that read one record, that show what a live monitor would answer, and that save
+// a chart. 0 is success, 12 a buffer with too few places.
+use chart_reader::ChartAnswer;
 use log_reader::Next;
 use model::Message;
 use model::Moment;
@@ -19,6 +20,9 @@ ghost use Rattle.preview.specs.Preview.{previewNumber, bufferOf};
 ghost use Rattle.monitor_image.specs.MonitorImage.{monitorIn};
 ghost use Rattle.live.specs.Live.{chartIn};
 ghost use Rattle.lsc_more.specs.Preview.{previewIn, regionsTold, Foretells};
+ghost use Rattle.model.specs.Answers.{tooShort};
+ghost use Rattle.chart_reader.specs.Read.{readChart};
+ghost use Rattle.lsc_more.specs.Write.{writeNumber, writeAt, writeOut, ReadsAgain};
 
 // How many places of a buffer a record takes.
 const RECORD_PLACES: usize = 6;
@@ -158,4 +162,29 @@ pub extern "C" fn lsc_preview(live: &[u8], time: u32, out: &mut [u8], regions: &
     let answer = preview::preview(chart, m, Moment(time), out);
     *regions = regions_told(chart.count, answer);
     preview::number(answer)
+}
+
+// D1 to D6: reads a chart and writes it in the writer's form.
+#[no_mangle]
+pub extern "C" fn lsc_write(chart: &[u8], out: &mut [u8], at: &mut u64) -> u8
+    ensures number { λ r. ⌜ r ≡ writeNumber (readChart (now (chart .entry))) (now (out .entry)) ⌝ }
+    ensures listed { λ r. ⌜ r ≤ tooShort ⌝ }
+    ensures at { λ r. ⌜ now (at .exit) ≡ writeAt (readChart (now (chart .entry))) (now (out .entry)) ⌝ }
+    ensures bytes { λ r. ⌜ now (out .exit) ≡ writeOut (readChart (now (chart .entry))) (now (out .entry)) ⌝ }
+    ensures again { λ r. ⌜ ReadsAgain (now (chart .entry)) r (now (at .exit)) (now (out .exit)) ⌝ }
+    ensures unchanged { λ r. ⌜ now (chart .exit) ≡ now (chart .entry) ⌝ }
+{
+    let read = chart_reader::read(chart);
+    let answer = read.answer;
+    match answer {
+        ChartAnswer::Refused(refusal, offset) => {
+            *at = offset as u64;
+            chart_step::number(refusal)
+        }
+        ChartAnswer::Accepted => {
+            let saved = chart_writer::write(read.chart, out);
+            *at = chart_writer::size(saved) as u64;
+            chart_writer::number(saved)
+        }
+    }
 }

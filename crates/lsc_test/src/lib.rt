@@ -1,5 +1,5 @@
-// V16: the exported functions that only tests use: a monitor made and fed by its image, the check of a log, and whether
-// a log breaks the chart in an image. 12 is a buffer with too few places.
+// V16: the exported functions that only tests use: a monitor made and fed by its image, the check of a log, and for the
+// chart in an image whether a log breaks it, and its bytes. 12 is a buffer with too few places.
 use breaks::BreakAnswer;
 use log_check::Checked;
 use model::Message;
@@ -14,6 +14,7 @@ ghost use Rattle.log_check.specs.Check.{checkLog};
 ghost use Rattle.lsc_test.specs.Images.{newNumber, newBytes, FedImage};
 ghost use Rattle.chart_image.specs.ChartImage.{chartValue};
 ghost use Rattle.breaks.specs.Breaks.{breaksOf};
+ghost use Rattle.chart_writer.specs.Save.{savedAnswer, savedBuffer, savedNumber, savedSize};
 ghost use Rattle.lsc_test.specs.Checks.{checkedCount, askedCode};
 
 // What the check returns for a refused log: more than any log without a fault has.
@@ -122,4 +123,18 @@ pub extern "C" fn lsc_test_breaks(chart: &[u8], log: &[u8]) -> u8
     ensures unchanged { λ r. ⌜ (now (chart .exit) ≡ now (chart .entry)) × (now (log .exit) ≡ now (log .entry)) ⌝ }
 {
     asked_code(breaks::breaks(chart_image::chart_at(chart), log))
+}
+
+// Saves the chart value in an image.
+#[no_mangle]
+pub extern "C" fn lsc_test_write(image: &[u8], out: &mut [u8], at: &mut u64) -> u8
+    ensures number { λ r. ⌜ r ≡ savedNumber (savedAnswer (chartValue (now (image .entry))) (now (out .entry))) ⌝ }
+    ensures at { λ r. ⌜ now (at .exit)
+        ≡ savedSize (savedAnswer (chartValue (now (image .entry))) (now (out .entry))) ⌝ }
+    ensures bytes { λ r. ⌜ now (out .exit) ≡ savedBuffer (chartValue (now (image .entry))) (now (out .entry)) ⌝ }
+    ensures unchanged { λ r. ⌜ now (image .exit) ≡ now (image .entry) ⌝ }
+{
+    let saved = chart_writer::write(chart_image::chart_at(image), out);
+    *at = chart_writer::size(saved) as u64;
+    chart_writer::number(saved)
 }

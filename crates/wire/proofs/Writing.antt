@@ -51,7 +51,7 @@ at-start {l} {t} {n} {j} w h =
     let p : 0 + length t ≡ length t = omega arith in
     w .bytes ∙ sets-eq t l 0 (omega arith) ∙ ap (λ (k : ℕ). t ++ drop k l) p
 
-take-front : (t u : List ℕ) → take (length t) (t ++ u) ≡ t
+pub take-front : (t u : List ℕ) → take (length t) (t ++ u) ≡ t
 take-front [] u = refl
 take-front (a ∷ t) u = ap (λ (x : List ℕ). a ∷ x) (take-front t u)
 
