@@ -14,7 +14,7 @@ use lsc_reference::print::respond;
 use lsc_reference::reader::read_chart;
 use lsc_reference::record::LogRecord;
 use lsc_reference::value::*;
-use lsc_reference::{monitor, well_formed};
+use lsc_reference::{monitor, well_formed, writer};
 
 /// What a check reaches in so many turns.
 fn reached(seed: u64, turns: usize, check: fn(&mut Rng, &mut Coverage)) -> Coverage {
@@ -54,7 +54,7 @@ fn steps_against_rows(rng: &mut Rng, seen: &mut Coverage) {
 fn judges(rng: &mut Rng, seen: &mut Coverage) {
     let size = random::some_size(rng);
     let (bytes, chart) = random::chart(rng, size);
-    let written = well_formed::write_chart(&chart).unwrap();
+    let written = writer::chart_bytes(&chart).unwrap();
     assert_eq!(read_chart(&written), Ok(chart));
     let plan = fast::Plan::of(&chart).unwrap();
     for _ in 0..20 {
