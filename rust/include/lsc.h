@@ -2,11 +2,11 @@
  * lsc.h: Silunovam, which watches programs by live sequence charts; proved from bytes to bytes.
  *
  * Link with liblsc.a (whole logs), liblsc_breaks.a (whether a log breaks a chart), liblsc_live.a
- * (live monitors) and liblsc_more.a (one record of a log, and what a live monitor would answer). The
- * functions keep no state and no pointer, allocate nothing, and may be called from several threads
- * at once on different bytes. Every content of the bytes is allowed; only the pointers and lengths
- * must be valid, and bytes written must not overlap bytes read. A pointer with length 0 must still
- * not be NULL.
+ * (live monitors) and liblsc_more.a (one record of a log, what a live monitor would answer, and
+ * saving a chart). The functions keep no state and no pointer, allocate nothing, and may be called
+ * from several threads at once on different bytes. Every content of the bytes is allowed; only the
+ * pointers and lengths must be valid, and bytes written must not overlap bytes read. A pointer with
+ * length 0 must still not be NULL.
  *
  * Numbers in charts, logs and live monitors stand most significant byte first.
  *
@@ -54,6 +54,9 @@ extern "C" {
 
 /* Bytes that are enough for lsc_preview, whatever the chart: none has more regions. */
 #define LSC_PREVIEW_ROOM 32
+
+/* Bytes that are enough for lsc_write, whatever the chart: none is saved as more. */
+#define LSC_CHART_ROOM 1285
 
 /* Kinds of a record, the first number of lsc_read_record. */
 #define LSC_RECORD_END 0         /* no record: the place is at the log's end or beyond */
@@ -206,6 +209,22 @@ uint8_t lsc_breaks(const uint8_t *chart, size_t chart_length,
  */
 uint8_t lsc_preview(const uint8_t *live, size_t live_length, uint32_t time,
                     uint8_t *out, size_t out_length, uint64_t *regions);
+
+/*
+ * Saves a chart: reads it and writes it to the start of out in one fixed form. The form is the
+ * heading; the regions in order; 50 before the first region of the main chart, just behind the
+ * heading if the prechart is empty; 7F. In a region: its 20 or 21, its terms in order, then 32 if
+ * its condition is hot, then 40 if it resets a clock.
+ *
+ * Reading what was written gives the same chart, and saving it once more the same bytes. Two charts
+ * are the same exactly if they are saved as the same bytes.
+ *
+ * Returns 0, and *at is the length written, at most 1,285; or the chart's refusal (1 to 11), and
+ * *at is its offset; or 12 if out is too short, and *at is the length needed. A refusal leaves out
+ * as it was. Bytes of out beyond the length stay as they were. *at is always written.
+ */
+uint8_t lsc_write(const uint8_t *chart, size_t chart_length,
+                  uint8_t *out, size_t out_length, uint64_t *at);
 
 #ifdef __cplusplus
 }

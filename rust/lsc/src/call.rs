@@ -22,6 +22,9 @@ pub const TEXT_ROOM: usize = 223;
 /// The bytes that are enough for `lsc_preview`: no chart has more regions.
 pub const PREVIEW_ROOM: usize = 32;
 
+/// The bytes that are enough for `lsc_write`: no chart is saved as more.
+pub const CHART_ROOM: usize = 1_285;
+
 /// `lsc_judge`: 0 and the verdict, or the refusal's number and where; 12 for a short `out`.
 pub fn judge(chart: &[u8], log: &[u8], out: &mut [u64]) -> u8 {
     // SAFETY: the pointers and lengths are those of slices borrowed for the whole call,
@@ -168,4 +171,12 @@ pub fn preview(live: &[u8], time: u32, out: &mut [u8], regions: &mut u64) -> u8 
             regions,
         )
     }
+}
+
+/// `lsc_write`: 0, the saved chart in `out` and its length; the chart's refusal and its offset; or
+/// 12 and the length needed.
+pub fn write(chart: &[u8], out: &mut [u8], at: &mut u64) -> u8 {
+    // SAFETY: the pointers and lengths are those of slices borrowed for the whole call, and
+    // `at` is a reference to one number; the mutable ones do not overlap.
+    unsafe { raw::lsc_write(chart.as_ptr(), chart.len(), out.as_mut_ptr(), out.len(), at) }
 }

@@ -8,8 +8,9 @@
 //! by itself.
 //!
 //! [`judge`] takes a whole log, [`breaks`] says only whether it breaks the chart, [`read_record`]
-//! reads one record of it. [`LiveMonitor`] takes one record at a time, and shows beforehand what
-//! each of the chart's messages would do:
+//! reads one record of it. [`saved`] and [`write`] give a chart's bytes in one fixed form.
+//! [`LiveMonitor`] takes one record at a time, and shows beforehand what each of the chart's
+//! messages would do:
 //!
 //! ```
 //! use lsc::{Answer, Foreseen, LiveMonitor, Standing};
@@ -62,6 +63,9 @@
 //!     3, 1, 0, 0, 2, 0, 0, 0, 24,
 //! ];
 //! assert_eq!(lsc::judge(&chart, &raw)?, verdict);
+//!
+//! // Saved, this chart has the bytes that it has already.
+//! assert_eq!(lsc::saved(&chart)?, chart);
 //! # Ok::<(), lsc::Refusal>(())
 //! ```
 #![deny(unsafe_code)]
@@ -72,10 +76,12 @@ mod live;
 #[allow(missing_docs)]
 pub mod raw;
 mod records;
+mod saving;
 mod values;
 
 pub use live::LiveMonitor;
 pub use records::{read_record, LogRecord, RecordRefusal, Stamp};
+pub use saving::{saved, write, WriteRefusal};
 pub use values::{Answer, Cause, FeedRefusal, Foreseen, Part, Reason, Refusal, Standing, Verdict};
 
 use call::{BREAKS_PLACES, TEXT_ROOM, VERDICT_PLACES};

@@ -1,7 +1,7 @@
 //! A monitor that takes one record at a time.
 
 use crate::call::{self, PREVIEW_ROOM, VERDICT_PLACES};
-use crate::values::{Answer, Cause, FeedRefusal, Foreseen, Part, Reason, Refusal, Verdict};
+use crate::values::{Answer, Cause, FeedRefusal, Foreseen, Reason, Refusal, Verdict};
 
 /// A monitor with its chart, in bytes of its own that can be stored and taken up again.
 ///
@@ -19,11 +19,7 @@ impl LiveMonitor {
         let mut at = 0;
         match call::open(chart, &mut bytes, &mut at) {
             0 => Ok(LiveMonitor { bytes }),
-            number => Err(Refusal {
-                part: Part::Chart,
-                number,
-                offset: at as usize,
-            }),
+            number => Err(Refusal::of_chart(number, at)),
         }
     }
 

@@ -85,4 +85,12 @@ extern "C" {
         out_length: usize,
         regions: *mut u64,
     ) -> u8;
+
+    pub fn lsc_write(
+        chart: *const u8,
+        chart_length: usize,
+        out: *mut u8,
+        out_length: usize,
+        at: *mut u64,
+    ) -> u8;
 }

@@ -260,6 +260,15 @@ impl Refusal {
             offset: offset as usize,
         }
     }
+
+    /// The refusal of a chart's bytes.
+    pub(crate) fn of_chart(number: u8, offset: u64) -> Refusal {
+        Refusal {
+            part: Part::Chart,
+            number,
+            offset: offset as usize,
+        }
+    }
 }
 
 impl fmt::Display for Refusal {

@@ -1,8 +1,8 @@
 //! The safe wrapper on the examples of the rules (X).
 
 use lsc::{Answer, Cause, FeedRefusal, LiveMonitor, Part, Reason, Refusal, Standing};
-use lsc::{Foreseen, LogRecord, RecordRefusal, Stamp};
-use lsc_reference::examples::{CHART_U, OVER_CHART_U};
+use lsc::{Foreseen, LogRecord, RecordRefusal, Stamp, WriteRefusal};
+use lsc_reference::examples::{longest, CHART_U, OVER_CHART_U};
 use lsc_reference::log::write_log;
 use lsc_reference::print::input_of;
 
@@ -444,4 +444,102 @@ fn a_preview_in_bytes_of_the_caller() {
         assert_eq!(said(&live[..104], 0, room), (20, 0, vec![7; room]));
         assert_eq!(said(&[], 0, room), (20, 0, vec![7; room]));
     }
+}
+
+/// A prechart of one message; in the main chart a message with resets, a hot mark and two terms, in
+/// an order of their own.
+const OUT_OF_ORDER: [u8; 32] = [
+    0x10, 2, 2, 0x20, 0, 1, 0, 1, 0x50, 0x20, 1, 0, 0, 2, // the regions' messages
+    0x40, 3, 0x31, 1, 0, 4, 0xFF, 0xFF, 0xFF, 0xFE, 0x32, 0x30, 0, 1, 0, 0, 0, 5,
+];
+
+/// What it is saved as, but for the end.
+const IN_ORDER: [u8; 32] = [
+    0x10, 2, 2, 0x20, 0, 1, 0, 1, 0x50, 0x20, 1, 0, 0, 2, // the same
+    0x31, 1, 0, 4, 0xFF, 0xFF, 0xFF, 0xFE, 0x30, 0, 1, 0, 0, 0, 5, 0x32, 0x40, 3,
+];
+
+/// These bytes and the end.
+fn ended(bytes: &[u8]) -> Vec<u8> {
+    [bytes, &[0x7F]].concat()
+}
+
+#[test]
+fn charts_are_saved() {
+    assert_eq!(lsc::saved(&CHART_U), Ok(CHART_U.to_vec()));
+    let empty_prechart = [0x10, 2, 0, 0x50, 0x20, 0, 1, 0, 1, 0x7F];
+    assert_eq!(lsc::saved(&empty_prechart), Ok(empty_prechart.to_vec()));
+    let (bytes, expected) = (ended(&OUT_OF_ORDER), ended(&IN_ORDER));
+    assert_eq!(lsc::saved(&bytes).as_ref(), Ok(&expected));
+    assert_eq!(lsc::saved(&expected).as_ref(), Ok(&expected));
+    // Both are the same chart to every log.
+    let log = [1, 0, 1, 0, 1, 0, 0, 0, 5, 1, 1, 0, 0, 2, 0, 0, 0, 6];
+    let verdict = lsc::judge(&bytes, &log).unwrap();
+    assert_eq!(verdict.to_string(), "3 0 0 2 2 2 2 2");
+    assert_eq!(lsc::judge(&expected, &log), Ok(verdict));
+}
+
+#[test]
+fn charts_that_cannot_be_saved() {
+    let twice = [&OUT_OF_ORDER[..], &[0x40, 1, 0x7F]].concat();
+    for (bytes, number, offset) in [
+        (&[][..], 1, 0),
+        (&[0x10, 1, 0], 4, 0),
+        (&CHART_U[..37], 1, 37),
+        (&ended(&CHART_U), 11, 38),
+        (&twice, 3, 32),
+    ] {
+        let refusal = Refusal {
+            part: Part::Chart,
+            number,
+            offset,
+        };
+        assert_eq!(lsc::saved(bytes), Err(refusal));
+        let refused = lsc::write(bytes, &mut []).unwrap_err();
+        assert_eq!(refused, WriteRefusal::Chart(refusal));
+        assert_eq!(refused.number(), number);
+        assert_eq!(refused.to_string(), refusal.to_string());
+    }
+}
+
+#[test]
+fn a_saved_chart_in_bytes_of_the_caller() {
+    for room in 0..38 {
+        let mut out = vec![7; room];
+        let refused = lsc::write(&CHART_U, &mut out).unwrap_err();
+        assert_eq!(refused, WriteRefusal::TooShort { needed: 38 });
+        assert_eq!((refused.number(), out), (12, vec![7; room]));
+    }
+    let text = WriteRefusal::TooShort { needed: 38 }.to_string();
+    assert_eq!(
+        text,
+        "refused 12: the buffer is too short, 38 bytes are needed"
+    );
+    for more in [0, 1, 9] {
+        let mut out = vec![7; 38 + more];
+        assert_eq!(lsc::write(&CHART_U, &mut out), Ok(38));
+        assert_eq!(out, [&CHART_U[..], &vec![7; more]].concat());
+    }
+    // The number and what is told beside it; a refusal leaves the bytes.
+    let said = |chart: &[u8], room: usize| {
+        let (mut out, mut at) = (vec![7; room], 77);
+        let number = lsc::call::write(chart, &mut out, &mut at);
+        assert!(number == 0 || out == vec![7; room]);
+        (number, at)
+    };
+    assert_eq!(said(&CHART_U, 38), (0, 38));
+    assert_eq!(said(&CHART_U, 37), (12, 38));
+    assert_eq!(said(&[], 37), (1, 0));
+    assert_eq!(said(&CHART_U[..20], 0), (1, 16));
+}
+
+#[test]
+fn the_longest_chart_is_saved() {
+    let bytes = longest();
+    assert_eq!(bytes.len(), lsc::call::CHART_ROOM);
+    assert_eq!(lsc::saved(&bytes).as_ref(), Ok(&bytes));
+    let mut short = [7; lsc::call::CHART_ROOM - 1];
+    let refused = WriteRefusal::TooShort { needed: 1_285 };
+    assert_eq!(lsc::write(&bytes, &mut short), Err(refused));
+    assert_eq!(short, [7; 1_284]);
 }

@@ -1,4 +1,4 @@
-//! Chart U, the examples over it and the widest chart, for every test that wants them.
+//! Chart U, the examples over it, the widest and the longest chart, for every test that wants them.
 
 use crate::value::{Message, RecordValue};
 
@@ -19,6 +19,21 @@ pub const WIDEST: [u8; 23] = [
     0x10, 16, 8, 0x50, 0x20, 15, 0, 0xFF, 0xFF, 0x40, 0xFF, 0x21, 0xFF, 0xFF, 0x31, 7, 6, 4, 0x80,
     0, 0, 0, 0x7F,
 ];
+
+/// A chart of 1,285 bytes, as long as one can be (D6): 32 main regions of 40 bytes, in each a
+/// message, four terms on two clocks, hot, resets. It is in the order that it is saved in.
+pub fn longest() -> Vec<u8> {
+    let mut bytes = vec![0x10, 16, 8, 0x50];
+    for place in 0..32 {
+        bytes.extend([0x20, place % 16, (place + 1) % 16, 0xAB, place]);
+        for clock in 0..4 {
+            bytes.extend([0x31, clock, 7, clock, 0x80, clock, place, 0xFF]);
+        }
+        bytes.extend([0x32, 0x40, 0xFF]);
+    }
+    bytes.push(0x7F);
+    bytes
+}
 
 /// A message at a time.
 pub const fn message(source: u8, destination: u8, label: u16, time: u32) -> RecordValue {

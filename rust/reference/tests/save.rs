@@ -1,7 +1,7 @@
 //! The bytes that charts are saved as, worked out by hand; the buffers, and the refusals in their
 //! order.
 
-use lsc_reference::examples::{CHART_U, WIDEST};
+use lsc_reference::examples::{longest, CHART_U, WIDEST};
 use lsc_reference::reader::read_chart;
 use lsc_reference::value::*;
 use lsc_reference::writer::{write, MAX_BYTES};
@@ -231,40 +231,33 @@ fn a_label_has_its_high_byte_first() {
     stays(&[0x10, 2, 0, 0x50, 0x20, 1, 0, 0x34, 0x12, 0x7F]);
 }
 
-/// The longest chart: 32 main regions of 40 bytes. In each the parts in the order that `put` has.
-fn longest(put: fn(&mut Vec<u8>, terms: &[u8])) -> Vec<u8> {
-    let mut bytes = vec![0x10, 16, 8, 0x50];
-    for place in 0..32 {
-        bytes.extend([0x20, place % 16, (place + 1) % 16, 0xAB, place]);
-        let mut terms = Vec::new();
-        for term in 0..4 {
-            terms.extend([0x31, term, 7, term, 0x80, term, place, 0xFF]);
-        }
-        put(&mut bytes, &terms);
+/// The longest chart with resets, hot and terms in this order in each region.
+fn longest_backwards() -> Vec<u8> {
+    let bytes = longest();
+    let (heading, regions) = bytes.split_at(4);
+    let mut backwards = heading.to_vec();
+    for region in regions.chunks_exact(40) {
+        backwards.extend(&region[..5]);
+        backwards.extend([0x40, 0xFF, 0x32]);
+        backwards.extend(&region[5..37]);
     }
-    bytes.push(0x7F);
-    bytes
+    backwards.push(0x7F);
+    backwards
 }
 
 #[test]
 fn the_longest_chart() {
-    let expected = longest(|bytes, terms| {
-        bytes.extend(terms);
-        bytes.extend([0x32, 0x40, 0xFF]);
-    });
-    assert_eq!(expected.len(), 1_285);
+    let bytes = longest();
+    assert_eq!(bytes.len(), 1_285);
     assert_eq!(MAX_BYTES, 3 + 1 + 1 + 32 * (5 + 4 * 8 + 1 + 2));
-    stays(&expected);
-    let backwards = longest(|bytes, terms| {
-        bytes.extend([0x40, 0xFF, 0x32]);
-        bytes.extend(terms);
-    });
-    assert_eq!(saved(&backwards), expected);
+    stays(&bytes);
+    assert_ne!(longest_backwards(), bytes);
+    assert_eq!(saved(&longest_backwards()), bytes);
     let mut exact = filled(1_285);
-    assert_eq!(write(&value(&expected), &mut exact), Ok(1_285));
-    assert_eq!(exact, expected);
+    assert_eq!(write(&value(&bytes), &mut exact), Ok(1_285));
+    assert_eq!(exact, bytes);
     let mut short = filled(1_284);
-    assert_eq!(write(&value(&expected), &mut short), Err((12, 1_285)));
+    assert_eq!(write(&value(&bytes), &mut short), Err((12, 1_285)));
     assert_eq!(short, filled(1_284));
 }
 
