@@ -4,6 +4,7 @@ use crate::asked::{self, Asked};
 use crate::fitness::{self, FIT, UNFIT};
 use crate::outcomes::{outcomes, Outcome};
 use crate::previewed::Previewed;
+use crate::saved::Saved;
 use lsc_reference::log::Verdict;
 use lsc_reference::monitor::{feed_fit, Order};
 use lsc_reference::value::*;
@@ -40,6 +41,8 @@ pub struct Coverage {
     pub asked: Counts<(&'static str, Asked)>,
     /// Kinds of comparison, and what previews came to in them.
     pub previewed: Counts<(&'static str, Previewed)>,
+    /// Kinds of comparison, and what saving a chart came to in them.
+    pub saved: Counts<(&'static str, Saved)>,
 }
 
 /// The answers' names, broken once for each reason.
@@ -207,6 +210,11 @@ impl Coverage {
         count(&mut self.previewed, Some((kind, name)));
     }
 
+    /// What saving a chart came to, in a comparison of this kind.
+    pub fn saved(&mut self, kind: &'static str, name: Saved) {
+        count(&mut self.saved, Some((kind, name)));
+    }
+
     /// An answer, to a round that was broken before or not.
     pub fn told(&mut self, again: bool, answer: &Answer) {
         self.answer(answer);
@@ -260,9 +268,11 @@ impl Coverage {
         add(&mut self.reads, &other.reads);
         add(&mut self.asked, &other.asked);
         add(&mut self.previewed, &other.previewed);
+        add(&mut self.saved, &other.saved);
     }
 
-    /// What was never reached; second offers, logs, single records, yes or no and previews aside.
+    /// What was never reached; second offers, logs, single records, yes or no, previews and saved
+    /// charts aside.
     pub fn missing(&self) -> Vec<String> {
         let mut missing = Vec::new();
         for code in REFUSALS {
@@ -320,5 +330,10 @@ impl Coverage {
     /// What no preview came to, in a kind of comparison.
     pub fn missing_previewed(&self, kind: &'static str, names: &[Previewed]) -> Vec<String> {
         uncounted_in(kind, &self.previewed, names)
+    }
+
+    /// What saving a chart never came to, in a kind of comparison.
+    pub fn missing_saved(&self, kind: &'static str, names: &[Saved]) -> Vec<String> {
+        uncounted_in(kind, &self.saved, names)
     }
 }

@@ -1,16 +1,17 @@
 //! Fixed inputs at the limits: 1,000,000 records, plain and raw, that break or not, previews after
-//! them, twice as many rounds, the longest input, sizes that overflow.
+//! them, twice as many rounds, the longest input, the longest chart, sizes that overflow.
 
 use crate::charts;
 use crate::difference::{same, Both, Difference};
 use crate::image::{live_bytes, Image, LIVE_HEAD};
 use crate::kinds::{
-    compare_breaks, compare_bytes, compare_judge, compare_preview, compare_print, compare_values,
-    Compare,
+    compare_breaks, compare_bytes, compare_judge, compare_preview, compare_print, compare_save,
+    compare_save_image, compare_values, Compare,
 };
+use crate::random::{self, Rng};
 use crate::seen::Seen;
 use lsc::call;
-use lsc_reference::examples::{message, undo, CHART_U};
+use lsc_reference::examples::{longest, message, undo, CHART_U, WIDEST};
 use lsc_reference::print::input_of;
 use lsc_reference::reader::read_chart;
 use lsc_reference::record::{LogRecord, RawRecord, Stamp};
@@ -28,6 +29,7 @@ pub fn run(seen: &mut Seen) -> Result<(), Box<Difference>> {
     cases.extend(fed());
     cases.extend(fed_twice());
     cases.extend(previewed());
+    cases.extend(saved());
     cases.push(("live sizes", live_sizes, Vec::new(), Vec::new()));
     for (name, compare, first, second) in cases {
         compare(&first, &second, seen).map_err(|both| {
@@ -248,6 +250,24 @@ fn previewed() -> Vec<Case> {
         }
     }
     cases
+}
+
+/// The longest chart, in the order that it is saved in and in another, by its image, and with the
+/// last byte missing or one too many; the widest chart, and one with every region used.
+fn saved() -> Vec<Case> {
+    let bytes = longest();
+    let other = random::reordered(&mut Rng::new(1), &bytes);
+    let image = read_chart(&bytes).map(|chart| chart.to_image().to_vec());
+    let image = image.expect("the longest chart is read");
+    let cut = bytes[..bytes.len() - 1].to_vec();
+    let more = [&bytes[..], &[0x7F]].concat();
+    let contents = vec![0; bytes.len()];
+    vec![
+        ("the longest chart", compare_save, bytes, other),
+        ("it by image", compare_save_image, image, contents),
+        ("it cut, and with more", compare_save, cut, more),
+        ("a wide one", compare_save, WIDEST.to_vec(), charts::large()),
+    ]
 }
 
 /// V9, for lengths at both ends.

@@ -1,13 +1,14 @@
 //! What a run has reached: refusals, answers, standings and terms that the library gave, second
 //! offers in each kind of comparison, monitors at the limits of M10, what plain and raw logs came
-//! to, single records, whether logs break their charts, and what previews came to.
+//! to, single records, whether logs break their charts, what previews came to, and saved charts.
 
 use crate::asked::{ASKED, ASKED_BYTES, ASKED_VALUES};
 use crate::coverage::{Counts, Coverage, ANSWERS, DECIDED_TERMS, OFFERS, REFUSALS};
 use crate::fitness::{FIT, UNFIT};
-use crate::kinds::{taking, BREAKS, BREAKS_IMAGE, JUDGE, PREVIEW, PRINT, READS};
+use crate::kinds::{taking, BREAKS, BREAKS_IMAGE, JUDGE, PREVIEW, PRINT, READS, SAVE, SAVE_IMAGE};
 use crate::outcomes::{FULL_OUTCOMES, OUTCOMES};
 use crate::previewed::{shorts, PREVIEWED};
+use crate::saved::{SAVED, SAVED_BYTES, SAVED_VALUES};
 use std::fmt;
 
 /// A buffer too short (N9); `REFUSALS` has all the others.
@@ -50,6 +51,11 @@ impl Seen {
         missing.extend(self.coverage.missing_asked(BREAKS_IMAGE, &ASKED_VALUES));
         missing.extend(self.coverage.missing_previewed(PREVIEW, &PREVIEWED));
         missing.extend(self.coverage.missing_previewed(PREVIEW, &shorts()));
+        for kind in [SAVE, SAVE_IMAGE] {
+            missing.extend(self.coverage.missing_saved(kind, &SAVED));
+        }
+        missing.extend(self.coverage.missing_saved(SAVE, &SAVED_BYTES));
+        missing.extend(self.coverage.missing_saved(SAVE_IMAGE, &SAVED_VALUES));
         missing
     }
 
@@ -70,7 +76,10 @@ impl Seen {
             + ASKED_BYTES.len()
             + ASKED_VALUES.len()
             + PREVIEWED.len()
-            + shorts().len();
+            + shorts().len()
+            + 2 * SAVED.len()
+            + SAVED_BYTES.len()
+            + SAVED_VALUES.len();
         (all - self.missing().len(), all)
     }
 }
@@ -113,6 +122,9 @@ impl fmt::Display for Seen {
             writeln!(f, "| {name}: {kind} | {times} |")?;
         }
         for ((kind, name), times) in &self.coverage.previewed {
+            writeln!(f, "| {name}: {kind} | {times} |")?;
+        }
+        for ((kind, name), times) in &self.coverage.saved {
             writeln!(f, "| {name}: {kind} | {times} |")?;
         }
         Ok(())

@@ -1,5 +1,5 @@
 //! The functions of `liblsc_test.a`, which only tests use, over slices: a chart and a monitor
-//! by their images, the check of a whole log, and whether it breaks a chart's image.
+//! by their images, the check of a whole log, whether it breaks a chart's image, and saving one.
 //!
 //! They have no preconditions beyond valid pointers and lengths: they are proved safe for
 //! every content of the bytes lent to them. They keep no pointer and no state.
@@ -39,6 +39,14 @@ extern "C" {
         chart_length: usize,
         log: *const u8,
         log_length: usize,
+    ) -> u8;
+
+    fn lsc_test_write(
+        chart: *const u8,
+        chart_length: usize,
+        out: *mut u8,
+        out_length: usize,
+        at: *mut u64,
     ) -> u8;
 }
 
@@ -106,4 +114,12 @@ pub fn check(log: &[u8]) -> u32 {
 pub fn breaks(chart: &[u8], log: &[u8]) -> u8 {
     // SAFETY: the pointers and lengths are those of slices borrowed for the whole call.
     unsafe { lsc_test_breaks(chart.as_ptr(), chart.len(), log.as_ptr(), log.len()) }
+}
+
+/// `lsc_test_write`: 0, the saved chart in `out` and its length; 20 for no chart, and 0; or 12 and
+/// the length needed.
+pub fn write(chart: &[u8], out: &mut [u8], at: &mut u64) -> u8 {
+    // SAFETY: the pointers and lengths are those of slices borrowed for the whole call, and
+    // `at` is a reference to one number; the mutable ones do not overlap.
+    unsafe { lsc_test_write(chart.as_ptr(), chart.len(), out.as_mut_ptr(), out.len(), at) }
 }

@@ -6,6 +6,7 @@ mod preview;
 mod printing;
 mod reading;
 mod rows;
+mod save;
 mod values;
 mod whole;
 mod yes_no;
@@ -19,6 +20,8 @@ pub use live::feed_live;
 pub use preview::{compare as compare_preview, NAME as PREVIEW};
 pub use printing::{compare as compare_print, NAME as PRINT};
 pub use reading::{NAME as READ, READS};
+pub use save::{compare as compare_save, compare_image as compare_save_image};
+pub use save::{IMAGE_NAME as SAVE_IMAGE, NAME as SAVE};
 pub use values::{compare as compare_values, feed_images};
 pub use whole::{compare as compare_judge, NAME as JUDGE};
 pub use yes_no::{compare as compare_breaks, IMAGE_NAME as BREAKS_IMAGE, NAME as BREAKS};
@@ -42,7 +45,7 @@ pub struct Kind {
 
 /// All kinds.
 #[rustfmt::skip]
-pub static KINDS: [Kind; 10] = [
+pub static KINDS: [Kind; 12] = [
     kind(whole::NAME, 34, ["chart", "log"], whole::make, whole::compare),
     kind(printing::NAME, 14, ["nothing", "input"], printing::make, printing::compare),
     kind(values::NAME, 30, ["chart image", "monitor and record"], values::make, values::compare),
@@ -53,12 +56,16 @@ pub static KINDS: [Kind; 10] = [
     kind(yes_no::NAME, 12, ["chart", "log"], yes_no::make, yes_no::compare),
     kind(yes_no::IMAGE_NAME, 6, ["chart image", "log"], yes_no::make_image, yes_no::compare_image),
     kind(preview::NAME, 5, ["live bytes", "moment"], preview::make, preview::compare),
+    kind(save::NAME, 4, ["chart", "another chart"], save::make, save::compare),
+    kind(save::IMAGE_NAME, 3, ["chart image", "buffer"], save::make_image, save::compare_image),
 ];
 
 /// The names of those in which a monitor takes records.
 pub fn taking() -> Vec<&'static str> {
     let names = KINDS.iter().map(|kind| kind.name);
-    names.filter(|name| *name != READ).collect()
+    names
+        .filter(|name| ![READ, SAVE, SAVE_IMAGE].contains(name))
+        .collect()
 }
 
 const fn kind(
