@@ -30,7 +30,7 @@ use Saved::*;
 pub const SAVED: [Saved; 36] = [
     Is("refusal 12, no byte"),
     Is("refusal 12, a byte too few"),
-    Is("refusal 12, other bytes"),
+    Is("refusal 12, several bytes too few"),
     Is("as many bytes as needed"),
     Is("bytes to spare"),
     Is("an empty prechart"),
@@ -116,7 +116,7 @@ pub fn room_name(room: usize, needed: usize) -> Saved {
     Is(match room {
         0 => "refusal 12, no byte",
         _ if room + 1 == needed => "refusal 12, a byte too few",
-        _ if room < needed => "refusal 12, other bytes",
+        _ if room < needed => "refusal 12, several bytes too few",
         _ if room == needed => "as many bytes as needed",
         _ => "bytes to spare",
     })
@@ -134,11 +134,11 @@ pub fn refused_names(image: &[u8], room: usize) -> Vec<Saved> {
         Err((number, _)) => NoChart(number),
         Ok(_) => Is("refusal 20, another chart's commands"),
     };
-    let short = room < bytes.len();
-    [why]
-        .into_iter()
-        .chain(short.then_some(Is("refusal 20 before 12")))
-        .collect()
+    let mut found = vec![why];
+    if room < bytes.len() {
+        found.push(Is("refusal 20 before 12"));
+    }
+    found
 }
 
 /// What is in a chart that is saved as so many bytes.
@@ -224,9 +224,10 @@ pub fn order_names(read: &[u8], saved: &[u8]) -> Vec<Saved> {
     names.collect()
 }
 
-/// Parts of a chart, each with what takes it away.
+/// A part of a chart, and what takes it away.
 type Part = (&'static str, fn(&mut ChartValue));
 
+/// The parts in which alone charts must differ.
 const PARTS: [Part; 10] = [
     ("lines", |chart| chart.lines = 0),
     ("clocks", |chart| chart.clocks = 0),
@@ -337,7 +338,7 @@ mod tests {
         let rooms = [0, 1, 9, 10, 11].map(|room| room_name(room, 10).to_string());
         let expected = [
             "refusal 12, no byte",
-            "refusal 12, other bytes",
+            "refusal 12, several bytes too few",
             "refusal 12, a byte too few",
             "as many bytes as needed",
             "bytes to spare",

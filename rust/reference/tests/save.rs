@@ -101,46 +101,24 @@ fn the_order_in_a_region() {
 #[test]
 fn each_region_has_its_own() {
     let bytes = chart(&[
-        A,
-        RESETS_0,
-        CLOCK,
-        PLAIN,
-        RESETS_BOTH,
-        DIFFERENCE,
+        &[A, RESETS_0, CLOCK].concat(),
+        &[PLAIN, RESETS_BOTH, DIFFERENCE].concat(),
         B,
         MAIN,
-        PLAIN,
-        HOT,
-        CLOCK,
-        A,
-        RESETS_0,
-        B,
-        HOT,
-        RESETS_0,
-        DIFFERENCE,
-        PLAIN,
-        RESETS_BOTH,
+        &[PLAIN, HOT, CLOCK].concat(),
+        &[A, RESETS_0].concat(),
+        &[B, HOT, RESETS_0, DIFFERENCE].concat(),
+        &[PLAIN, RESETS_BOTH].concat(),
     ]);
     let expected = chart(&[
-        A,
-        CLOCK,
-        RESETS_0,
-        PLAIN,
-        DIFFERENCE,
-        RESETS_BOTH,
+        &[A, CLOCK, RESETS_0].concat(),
+        &[PLAIN, DIFFERENCE, RESETS_BOTH].concat(),
         B,
         MAIN,
-        PLAIN,
-        CLOCK,
-        HOT,
-        A,
-        RESETS_0,
-        B,
-        DIFFERENCE,
-        HOT,
-        RESETS_0,
-        PLAIN,
-        RESETS_BOTH,
+        &[PLAIN, CLOCK, HOT].concat(),
+        &[A, RESETS_0].concat(),
+        &[B, DIFFERENCE, HOT, RESETS_0].concat(),
+        &[PLAIN, RESETS_BOTH].concat(),
     ]);
     assert_eq!(saved(&bytes), expected);
     // Heading, 50 and 7F; regions of 14, 13, 5, 11, 7, 16 and 5 bytes.
@@ -149,22 +127,14 @@ fn each_region_has_its_own() {
 
 #[test]
 fn plain_regions() {
-    // A term, a reset, both; hot as well; all below a message of the opening half.
+    // Below a message of the opening half: a term, a reset, both, hot.
     stays(&chart(&[A, PLAIN, CLOCK, PLAIN, RESETS_0, MAIN, B]));
-    stays(&chart(&[
-        MAIN, A, PLAIN, CLOCK, RESETS_0, PLAIN, CLOCK, HOT,
-    ]));
-    stays(&chart(&[
-        A,
-        MAIN,
-        PLAIN,
-        DIFFERENCE,
-        CLOCK,
-        HOT,
-        RESETS_BOTH,
-    ]));
-    let bytes = chart(&[A, MAIN, PLAIN, RESETS_BOTH, HOT, DIFFERENCE, CLOCK]);
+    stays(&chart(&[MAIN, A, PLAIN, CLOCK, RESETS_0]));
+    stays(&chart(&[MAIN, A, PLAIN, CLOCK, HOT, PLAIN, RESETS_0]));
+    // As the main chart's first region, with all that it can have.
     let expected = chart(&[A, MAIN, PLAIN, DIFFERENCE, CLOCK, HOT, RESETS_BOTH]);
+    stays(&expected);
+    let bytes = chart(&[A, MAIN, PLAIN, RESETS_BOTH, HOT, DIFFERENCE, CLOCK]);
     assert_eq!(saved(&bytes), expected);
     // Sixteen lines: the set has two bytes, line 15 in the first.
     stays(&[
