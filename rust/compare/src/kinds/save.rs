@@ -26,7 +26,7 @@ pub const IMAGE_NAME: &str = "save by image";
 type Fault = (u8, usize);
 
 /// A chart and the bytes that the library saved it as.
-type Kept = (ChartValue, Vec<u8>);
+type Written = (ChartValue, Vec<u8>);
 
 /// Two charts: the second is mostly the first with other bytes, or nearly the first.
 pub fn make(rng: &mut Rng) -> (Vec<u8>, Vec<u8>) {
@@ -139,7 +139,7 @@ pub fn compare(one: &[u8], other: &[u8], seen: &mut Seen) -> Result<(), Both> {
 }
 
 /// Saving the chart of some bytes, which stay as they are.
-fn check_chart(chart: &[u8], seen: &mut Seen) -> Result<Option<Kept>, Both> {
+fn check_chart(chart: &[u8], seen: &mut Seen) -> Result<Option<Written>, Both> {
     let read = read_chart(chart);
     let wanted = |out: &mut [u8]| read.and_then(|value| write(&value, out));
     let lent = chart.to_vec();
@@ -189,7 +189,7 @@ fn check_safe(chart: &[u8], wanted: Wanted, needed: usize) -> Result<(), Both> {
     same("the safe saved", lsc::saved(chart), answer)
 }
 
-/// What was saved is read as the chart, saved as the same bytes, and what its image is saved as.
+/// What was saved is read as the chart (D5), saved as the same bytes, and what its image is saved as.
 fn check_again(value: &ChartValue, bytes: &[u8]) -> Result<(), Both> {
     same("what was saved, read", read_chart(bytes), Ok(*value))?;
     let contents = filled(bytes.len());
