@@ -1,6 +1,6 @@
 //! Links the static libraries: `lsc` for whole logs, `lsc_breaks` for whether a log breaks a chart,
-//! `lsc_live` for live monitors, `lsc_more` for one record, for what a live monitor would answer and
-//! for saving a chart.
+//! `lsc_live` for live monitors, `lsc_more` for one record, for what a live monitor would answer
+//! and for saving a chart.
 
 #[path = "../archives.rs"]
 mod archives;

@@ -189,7 +189,7 @@ fn check_safe(chart: &[u8], wanted: Wanted, needed: usize) -> Result<(), Both> {
     same("the safe saved", lsc::saved(chart), answer)
 }
 
-/// What was saved is read as the chart (D5), saved as the same bytes, and what its image is saved as.
+/// What was saved is read as the chart (D5); saving it again, or the image, gives the same bytes.
 fn check_again(value: &ChartValue, bytes: &[u8]) -> Result<(), Both> {
     same("what was saved, read", read_chart(bytes), Ok(*value))?;
     let contents = filled(bytes.len());
