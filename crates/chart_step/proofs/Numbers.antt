@@ -1,7 +1,7 @@
--- No refusal has the number 0, and each has its own. Assumes nothing.
+-- Refusals have numbers from 1 to 11, each its own. Assumes nothing.
 use mathlib.Core.Path.{_≡_, refl, sym, ap, _∙_}
 use mathlib.Core.Bool.{cond}
-use Prim.Native.Nat.{ℕ}
+use Prim.Native.Nat.{ℕ, _≤_}
 use native.Mathlib.Omega.{arith}
 use lib.Dec.{eqb}
 use Rattle.chart_step.specs.declared.Refusal.{Refusal}
@@ -9,6 +9,7 @@ use Rattle.chart_step.specs.declared.Refusal.the-variants.{CutShort, Unk
 use Rattle.chart_step.specs.declared.Refusal.the-variants.{HotAlone, Early, Unanchored, Mainless, Trailing}
 use Rattle.chart_step.specs.Refusal.{refusalNumber}
 
+-- none has the number 0
 pub refusal-nonzero : (f : Refusal) → refusalNumber f ≡ 0 → ⊥
 refusal-nonzero CutShort e = omega arith
 refusal-nonzero Unknown e = omega arith
@@ -21,6 +22,20 @@ refusal-nonzero Early e = omega arith
 refusal-nonzero Unanchored e = omega arith
 refusal-nonzero Mainless e = omega arith
 refusal-nonzero Trailing e = omega arith
+
+-- and none a number above 11
+pub refusal-most : (f : Refusal) → refusalNumber f ≤ 11
+refusal-most CutShort = omega arith
+refusal-most Unknown = omega arith
+refusal-most Misplaced = omega arith
+refusal-most Outside = omega arith
+refusal-most Excess = omega arith
+refusal-most Bare = omega arith
+refusal-most HotAlone = omega arith
+refusal-most Early = omega arith
+refusal-most Unanchored = omega arith
+refusal-most Mainless = omega arith
+refusal-most Trailing = omega arith
 
 -- the refusal with a number
 refusalWith : ℕ → Refusal

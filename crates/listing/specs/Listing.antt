@@ -1,7 +1,6 @@
 -- P6 to P10: what the printing program prints, as a list of bytes.
 use Prim.Native.Nat.{ℕ, _+_, _*_}
 use mathlib.Core.List.{List, [], _∷_, _++_}
-use lib.ListN.{length, drop}
 use Rattle.model.specs.declared.Verdict.{Verdict}
 use Rattle.text.specs.Text.{bytesOf, decimalOf}
 use Rattle.listing.specs.declared.Part.{Part}
@@ -38,10 +37,6 @@ refusalLine part number offset =
 abbrev pub listingOf : Report → List ℕ
 listingOf (Judged v) = verdictLines v
 listingOf (Refused part number offset) = refusalLine part number offset
-
--- a buffer with a text at its start; the bytes after the text are as they were
-abbrev pub listed : List ℕ → List ℕ → List ℕ
-listed buffer text = text ++ drop (length text) buffer
 
 -- P12: so many bytes are enough for every listing
 abbrev pub room : ℕ

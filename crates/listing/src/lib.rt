@@ -3,8 +3,8 @@ use model::Verdict;
 ghost use mathlib.Core.Path.{_≡_};
 ghost use Prim.Native.Nat.{_+_, _≤_};
 ghost use lib.ListN.{length};
-ghost use Rattle.wire.specs.Writing.{Wrote};
-ghost use Rattle.listing.specs.Listing.{listingOf, listed, room, verdictLines, refusalLine};
+ghost use Rattle.wire.specs.Writing.{Wrote, startingWith};
+ghost use Rattle.listing.specs.Listing.{listingOf, room, verdictLines, refusalLine};
 ghost use Rattle.listing.specs.Parts.{fieldText, fourFields, partText};
 
 // The part of the input that a refusal speaks of.
@@ -100,7 +100,7 @@ fn put_refusal(out: &mut [u8], part: Part, number: u8, offset: usize) -> usize
 pub fn put_report(out: &mut [u8], report: Report) -> usize
     requires { ⌜ room ≤ length (now out) ⌝ }
     ensures length { λ r. ⌜ r ≡ length (listingOf report) ⌝ }
-    ensures buffer { λ r. ⌜ now (out .exit) ≡ listed (now (out .entry)) (listingOf report) ⌝ }
+    ensures buffer { λ r. ⌜ now (out .exit) ≡ startingWith (listingOf report) (now (out .entry)) ⌝ }
     ensures short { λ r. ⌜ r ≤ room ⌝ }
 {
     match report {

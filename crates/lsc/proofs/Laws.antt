@@ -1,14 +1,18 @@
 -- What is returned and written, by the tests in their order. Assumes nothing.
 use mathlib.Core.Path.{_≡_, refl, sym, ap, _∙_}
 use mathlib.Core.Bool.{true}
-use mathlib.Core.List.{List, [], _∷_, _++_}
+use mathlib.Core.List.{List, [], _∷_}
 use Prim.Native.Nat.{ℕ, _≤_, _<_}
-use borrow.Author.Tests.{lt-ltb, le-ltb}
-use lib.ListN.{length, drop}
+use native.Mathlib.Omega.{arith}
+use borrow.Author.Tests.{lt-ltb, le-ltb, le-leb, ne-eqb}
+use lib.ListN.{length}
+use Rattle.wire.specs.Writing.{startingWith}
+use Rattle.wire.proofs.Writing.{written}
 use Rattle.model.specs.declared.Chart.{Chart}
 use Rattle.model.specs.Answers.{tooShort}
 use Rattle.model.specs.Numbers.{places}
-use Rattle.chart_step.specs.declared.Refusal.the-variants as refusal
+use Rattle.chart_step.specs.Refusal.{refusalNumber}
+use Rattle.chart_step.proofs.Numbers.{refusal-nonzero, refusal-most}
 use Rattle.chart_reader.specs.Said.{Said}
 use Rattle.chart_value.specs.WellFormed.{wellFormed}
 use Rattle.log_reader.specs.declared.RecordRefusal.the-variants.{CutShort, UnknownByte}
@@ -29,13 +33,12 @@ use Rattle.lsc.specs.Lsc.{partNumber, reportNumbers, reportNumber, judge
 -- eight numbers that are those of a refusal
 pub put-refusal : (r : Report) (out : List ℕ) {m : List ℕ} (part : Part) (number offset p : ℕ)
     → r ≡ Refused part number offset → p ≡ partNumber part
-    → m ≡ (p ∷ number ∷ offset ∷ 0 ∷ 0 ∷ 0 ∷ 0 ∷ 0 ∷ []) ++ drop places out → (number ≡ reportNumber r)
-    × (m ≡ reportNumbers r ++ drop places out)
+    → m ≡ startingWith (p ∷ number ∷ offset ∷ 0 ∷ 0 ∷ 0 ∷ 0 ∷ 0 ∷ []) out
+    → (number ≡ reportNumber r) × (m ≡ startingWith (reportNumbers r) out)
 put-refusal r out part number offset p e q b = (
   ap reportNumber (sym e),
-  b
-      ∙ ap (λ (k : ℕ). (k ∷ number ∷ offset ∷ 0 ∷ 0 ∷ 0 ∷ 0 ∷ 0 ∷ []) ++ drop places out) q
-      ∙ ap (λ (x : Report). reportNumbers x ++ drop places out) (sym e),
+  written reportNumbers out e
+      (written (λ (k : ℕ). k ∷ number ∷ offset ∷ 0 ∷ 0 ∷ 0 ∷ 0 ∷ 0 ∷ []) out (sym q) b),
 )
 
 pub judged-short : (r : Report) (out : List ℕ) → length out < places → (tooShort ≡ judgedNumber r out)
@@ -43,11 +46,11 @@ pub judged-short : (r : Report) (out : List ℕ) → length out < places → (to
 judged-short r out h = let e = lt-ltb (length out) places h in (rw e, rw e)
 
 pub judged-room : (q r : Report) (out m : List ℕ) (n : ℕ) → places ≤ length out → q ≡ r → n ≡ reportNumber q
-    → m ≡ reportNumbers q ++ drop places out
+    → m ≡ startingWith (reportNumbers q) out
     → (n ≡ judgedNumber r out) × (m ≡ judgedOut r out)
 judged-room q r out m n h p a b =
     let e = le-ltb (length out) places h in
-    (rw e (a ∙ ap reportNumber p), rw e (b ∙ ap (λ (x : Report). reportNumbers x ++ drop places out) p))
+    (rw e (a ∙ ap reportNumber p), rw e (written reportNumbers out (sym p) b))
 
 -- a chart that was read is never refused with 20
 log-listed : (c : Chart) (log : List ℕ) (k : Checked)
@@ -64,17 +67,9 @@ chart-listed : (log : List ℕ) {x : Said} → Reads x → (x .number ≡ 0 → 
     → isJudgedNumber (reportNumber (chartReport x log)) ≡ true
 unfolding judgeOf
 chart-listed log (accepts c) w = rw (w refl) (log-listed c log (checkLog log))
-chart-listed log (refuses refusal.CutShort offset) w = refl
-chart-listed log (refuses refusal.Unknown offset) w = refl
-chart-listed log (refuses refusal.Misplaced offset) w = refl
-chart-listed log (refuses refusal.Outside offset) w = refl
-chart-listed log (refuses refusal.Excess offset) w = refl
-chart-listed log (refuses refusal.Bare offset) w = refl
-chart-listed log (refuses refusal.HotAlone offset) w = refl
-chart-listed log (refuses refusal.Early offset) w = refl
-chart-listed log (refuses refusal.Unanchored offset) w = refl
-chart-listed log (refuses refusal.Mainless offset) w = refl
-chart-listed log (refuses refusal.Trailing offset) w = refl
+chart-listed log (refuses f offset) w =
+    let h : refusalNumber f ≤ tooShort = omega (arith, refusal-most f) in
+    rw (ne-eqb (refusalNumber f) 0 (refusal-nonzero f), le-leb (refusalNumber f) tooShort h) refl
 
 pub parts-listed : (chart log : List ℕ) → isJudgedNumber (reportNumber (partsReport chart log)) ≡ true
 unfolding partsReport

@@ -6,9 +6,9 @@ use model::TOO_SHORT;
 use respond::Response;
 ghost use mathlib.Core.Path.{_≡_};
 ghost use mathlib.Core.Bool.{true};
-ghost use mathlib.Core.List.{_++_};
 ghost use Prim.Native.Nat.{_≤_};
-ghost use lib.ListN.{length, drop};
+ghost use lib.ListN.{length};
+ghost use Rattle.wire.specs.Writing.{startingWith};
 ghost use Rattle.model.specs.Numbers.{places};
 ghost use Rattle.respond.specs.Respond.{partsReport, textOf, responseOf, bufferAfter, countOf};
 ghost use Rattle.lsc.specs.Lsc.{partNumber, reportNumbers, reportNumber, judgedNumber, judgedOut};
@@ -29,7 +29,7 @@ fn part_number(part: Part) -> u64
 fn put_report(out: &mut [u64], report: Report) -> u8
     requires { ⌜ places ≤ length (now out) ⌝ }
     ensures number { λ r. ⌜ r ≡ reportNumber report ⌝ }
-    ensures numbers { λ r. ⌜ now (out .exit) ≡ reportNumbers report ++ drop places (now (out .entry)) ⌝ }
+    ensures numbers { λ r. ⌜ now (out .exit) ≡ startingWith (reportNumbers report) (now (out .entry)) ⌝ }
 {
     match report {
         Report::Judged(v) => {

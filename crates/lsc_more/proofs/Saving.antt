@@ -12,10 +12,8 @@ use Rattle.wire.proofs.Writing.{take-front}
 use Rattle.model.specs.Answers.{tooShort}
 use Rattle.model.specs.declared.Chart.{Chart}
 use Rattle.chart_step.specs.declared.Refusal.{Refusal}
-use Rattle.chart_step.specs.declared.Refusal.the-variants.{CutShort, Unknown, Misplaced, Outside, Excess, Bare}
-use Rattle.chart_step.specs.declared.Refusal.the-variants.{HotAlone, Early, Unanchored, Mainless, Trailing}
 use Rattle.chart_step.specs.Refusal.{refusalNumber}
-use Rattle.chart_step.proofs.Numbers.{refusal-nonzero}
+use Rattle.chart_step.proofs.Numbers.{refusal-nonzero, refusal-most}
 use Rattle.chart_reader.specs.declared.ChartAnswer.{ChartAnswer}
 use Rattle.chart_reader.specs.declared.ChartAnswer.the-variants.{Accepted, Refused}
 use Rattle.chart_reader.specs.declared.ChartRead.{ChartRead}
@@ -28,20 +26,6 @@ use Rattle.chart_writer.specs.declared.ChartWritten.{ChartWritten}
 use Rattle.chart_writer.specs.declared.ChartWritten.the-variants.{Written, TooShort}
 use Rattle.chart_writer.specs.Save.{savedAnswer, savedBuffer, savedNumber, savedSize}
 use Rattle.lsc_more.specs.Write.{writeNumber, writeAt, writeOut, ReadsAgain}
-
--- the chart's refusals are 1 to 11
-refusal-most : (f : Refusal) → refusalNumber f ≤ tooShort
-refusal-most CutShort = omega arith
-refusal-most Unknown = omega arith
-refusal-most Misplaced = omega arith
-refusal-most Outside = omega arith
-refusal-most Excess = omega arith
-refusal-most Bare = omega arith
-refusal-most HotAlone = omega arith
-refusal-most Early = omega arith
-refusal-most Unanchored = omega arith
-refusal-most Mainless = omega arith
-refusal-most Trailing = omega arith
 
 -- what the reader says, by its answer
 abbrev saidAs : Chart → ChartAnswer → Said
@@ -75,7 +59,7 @@ module _ (chart out : List ℕ) where
         let z : eqb (refusalNumber f) 0 ≡ false = ne-eqb _ 0 (refusal-nonzero f) in
         record {
           number = rw (← s, z) k;
-          listed = rw k (refusal-most f);
+          listed = omega (arith, k, refusal-most f);
           place = rw (← s, z) o;
           bytes = rw (← s, z) b;
           again = record { same = λ h. absurd (refusal-nonzero f (sym k ∙ h)) };

@@ -1,9 +1,10 @@
 // The vocabulary: times, messages, terms, regions, charts, records, monitors, answers and verdicts, as values.
 ghost use mathlib.Core.Path.{_≡_};
-ghost use mathlib.Core.List.{[], _∷_, _++_};
+ghost use mathlib.Core.List.{[], _∷_};
 ghost use Prim.Native.Nat.{ℕ, _-_, _<_, _≤_};
-ghost use lib.ListN.{length, drop};
+ghost use lib.ListN.{length};
 ghost use Rattle.bitset.specs.Set.{contains};
+ghost use Rattle.wire.specs.Writing.{startingWith};
 ghost use Rattle.model.specs.Chart.{zeroTerm, zeroRegion, zeroChart, isPlain, isBare, lineSet, touched, touches};
 ghost use Rattle.model.specs.Chart.{mostLines, mostRegions};
 ghost use Rattle.model.specs.Monitor.{noCause, causeOf, zeroBreak, zeroMonitor, timeOf, stampOf, atMoment};
@@ -393,8 +394,7 @@ pub const PLACES: usize = 8;
 // Puts eight numbers at the start of a buffer.
 pub fn put_eight(out: &mut [u64], a: u64, b: u64, c: u64, d: u64, e: u64, f: u64, g: u64, h: u64)
     requires { ⌜ places ≤ length (now out) ⌝ }
-    ensures { λ r. ⌜ now (out .exit)
-        ≡ (a ∷ b ∷ c ∷ d ∷ e ∷ f ∷ g ∷ h ∷ []) ++ drop places (now (out .entry)) ⌝ }
+    ensures { λ r. ⌜ now (out .exit) ≡ startingWith (a ∷ b ∷ c ∷ d ∷ e ∷ f ∷ g ∷ h ∷ []) (now (out .entry)) ⌝ }
 {
     out[0] = a;
     out[1] = b;
@@ -409,7 +409,7 @@ pub fn put_eight(out: &mut [u64], a: u64, b: u64, c: u64, d: u64, e: u64, f: u64
 // Puts a verdict's numbers at the start of a buffer.
 pub fn put_verdict(out: &mut [u64], v: Verdict)
     requires { ⌜ places ≤ length (now out) ⌝ }
-    ensures { λ r. ⌜ now (out .exit) ≡ verdictNumbers v ++ drop places (now (out .entry)) ⌝ }
+    ensures { λ r. ⌜ now (out .exit) ≡ startingWith (verdictNumbers v) (now (out .entry)) ⌝ }
 {
     put_eight(
         out,

@@ -3,13 +3,13 @@ use mathlib.Core.Path.{_≡_, refl, sym, ap, _∙_}
 use mathlib.Core.Logic.{inl, inr}
 use mathlib.Core.Bool.{true}
 use mathlib.Core.List.{List}
-use Prim.Native.Nat.{ℕ, _+_, _-_, _≤_, _<_}
+use Prim.Native.Nat.{ℕ, _≤_, _<_}
 use native.Mathlib.Omega.{arith}
 use borrow.Author.Tests.{ltb-false}
 use lib.Dec.{ltb}
-use lib.ListN.{length, getD, drop, length-append, length-drop, List·getD-append}
-use lib.Seq.{getD-append-add, getD-drop}
+use lib.ListN.{length, getD}
 use Rattle.wire.specs.Writing.{startingWith}
+use Rattle.wire.proofs.Writing.{starting-size, starting-byte, starting-rest}
 use Rattle.base.proofs.Bools.{split, clash}
 use Rattle.base.proofs.Table.{length-table, getD-table}
 use Rattle.model.specs.declared.Chart.{Chart}
@@ -71,25 +71,18 @@ module _ (c : Chart) (m : Monitor) (t : Moment) (l : List ℕ) (s : isShown (pre
   pub same-size : length (bufferOf c m t l) ≡ length l
   same-size =
       let h = enough c m t (length l) s in
-      let n : ℕ = length (previewBytes c m t) in
-      ap length filled ∙ length-append (previewBytes c m t) (drop n l) ∙ omega (arith, h, regions, length-drop n l)
+      ap length filled ∙ starting-size (previewBytes c m t) l (omega (arith, h, regions))
 
   pub shown-byte : (i : ℕ) → i < c .count → getD (bufferOf c m t l) i 0 ≡ foreseen c m t i
   unfolding previewBytes
   shown-byte i h =
       ap (λ (x : List ℕ). getD x i 0) filled
-      ∙ List·getD-append (previewBytes c m t) (drop (length (previewBytes c m t)) l) 0 i (rw regions h)
+      ∙ starting-byte (previewBytes c m t) l i (rw regions h)
       ∙ getD-table (c .count) i (foreseen c m t) 0 h
 
   pub byte-beyond : (i : ℕ) → c .count ≤ i → getD (bufferOf c m t l) i 0 ≡ getD l i 0
   byte-beyond i h =
-      let bs = previewBytes c m t in
-      let k : length (previewBytes c m t) + (i - length (previewBytes c m t)) ≡ i = omega (arith, regions) in
-      ap (λ (x : List ℕ). getD x i 0) filled
-      ∙ ap (λ (n : ℕ). getD (startingWith bs l) n 0) (sym k)
-      ∙ getD-append-add bs (drop (length bs) l) (i - length bs) 0
-      ∙ getD-drop (length bs) l (i - length bs) 0
-      ∙ ap (λ (n : ℕ). getD l n 0) k
+      ap (λ (x : List ℕ). getD x i 0) filled ∙ starting-rest (previewBytes c m t) l i (rw regions h)
 
   -- a message region's byte is the number of the answer to its message, fed
   pub byte-fed : (i : ℕ) → i < c .count → (x : Message) → regionAt c i .event ≡ event.Message x → (r : Step)

@@ -1,3 +1,4 @@
 pub mod Breaks
 pub mod Previews
+pub mod Saves
 pub mod Requests

@@ -4,6 +4,10 @@ use mathlib.Core.Logic.{_≢_, _↔_}
 use mathlib.Core.List.{List}
 use Prim.Native.Nat.{ℕ}
 use Rattle.model.specs.declared.Chart.{Chart}
+use Rattle.chart_reader.specs.Said.{acceptedAs}
+use Rattle.chart_reader.specs.Read.{readChart}
+use Rattle.chart_value.specs.Given.{Given}
+use Rattle.chart_value.specs.Writer.{chartBytes}
 use Rattle.judge.specs.Verdict as judge
 use Rattle.breaks.specs.declared.BreakAnswer.{BreakAnswer}
 use Rattle.breaks.specs.declared.BreakAnswer.the-variants.{Yes}
@@ -18,3 +22,6 @@ pub record Requests : Type 0 where
   -- and where the answer is not yes, number and offset are those that judging has
   pub breaks-refused : (c : Chart) (log : List ℕ) (r : judge.Said) (b : BreakAnswer) → JudgesAs c log r
       → BreaksAs c log b → b ≢ Yes → (breakNumber b ≡ r .number) × (breakOffset b ≡ r .offset)
+  -- D5: the writer's bytes are read as the chart, and two charts are equal exactly if their bytes are
+  pub saved-read : (c : Chart) → Given c → readChart (chartBytes c) ≡ acceptedAs c
+  pub bytes-tell : (c d : Chart) → Given c → Given d → (c ≡ d) ↔ (chartBytes c ≡ chartBytes d)

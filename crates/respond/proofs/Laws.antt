@@ -23,7 +23,8 @@ use Rattle.judge.specs.Verdict as judge-specs
 use Rattle.listing.specs.declared.Part.the-variants as part
 use Rattle.listing.specs.declared.Report.{Report}
 use Rattle.listing.specs.declared.Report.the-variants.{Refused}
-use Rattle.listing.specs.Listing.{listed, room}
+use Rattle.wire.specs.Writing.{startingWith}
+use Rattle.listing.specs.Listing.{room}
 use Rattle.respond.specs.declared.Response.the-variants.{Written, TooShort}
 use Rattle.respond.specs.Respond.{logReport, chartReport, responseOf, bufferAfter}
 
@@ -61,6 +62,6 @@ chart-refused c s chart.Trailing offset = refl
 pub too-short : (l t : List ℕ) → length l < room → (TooShort ≡ responseOf (length l) t) × (l ≡ bufferAfter l t)
 too-short l t h = let e = lt-ltb (length l) room h in (rw e, rw e)
 
-pub written : (l m t : List ℕ) (n : ℕ) → room ≤ length l → n ≡ length t → m ≡ listed l t
+pub written : (l m t : List ℕ) (n : ℕ) → room ≤ length l → n ≡ length t → m ≡ startingWith t l
     → (Written n ≡ responseOf (length l) t) × (m ≡ bufferAfter l t)
 written l m t n h e b = let f = le-ltb (length l) room h in (rw f (ap Written e), rw f b)

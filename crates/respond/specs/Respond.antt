@@ -5,11 +5,12 @@ use mathlib.Core.List.{List}
 use lib.ListN.{length, take, drop}
 use lib.Dec.{eqb, ltb}
 use Rattle.wire.specs.Bytes.{word16}
+use Rattle.wire.specs.Writing.{within}
 use Rattle.chart_reader.specs.Said as read
 use Rattle.chart_reader.specs.Read.{readChart}
 use Rattle.judge.specs.Verdict as judge
 use Rattle.judge.specs.Judge.{judgeOf}
-use Rattle.listing.specs.Listing.{listingOf, listed, room}
+use Rattle.listing.specs.Listing.{listingOf, room}
 use Rattle.listing.specs.declared.Part.the-variants.{Input, Chart, Log}
 use Rattle.listing.specs.declared.Report.{Report}
 use Rattle.listing.specs.declared.Report.the-variants.{Judged, Refused}
@@ -58,7 +59,7 @@ abbrev pub responseOf : ℕ → List ℕ → Response
 responseOf size text = cond (ltb size room) TooShort (Written (length text))
 
 abbrev pub bufferAfter : List ℕ → List ℕ → List ℕ
-bufferAfter buffer text = cond (ltb (length buffer) room) buffer (listed buffer text)
+bufferAfter buffer text = within room text buffer
 
 -- the number of bytes written
 abbrev pub countOf : Response → ℕ

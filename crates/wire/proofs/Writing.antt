@@ -2,14 +2,15 @@
 use mathlib.Core.Path.{_≡_, refl, sym, ap, _∙_, subst}
 use mathlib.Core.Bool.{true, false, cond}
 use mathlib.Core.List.{List, [], _∷_, _++_}
-use Prim.Native.Nat.{ℕ, suc, _+_, _*_, _/_, _%_, _^_, _≤_, _<_}
+use Prim.Native.Nat.{ℕ, suc, _+_, _-_, _*_, _/_, _%_, _^_, _≤_, _<_}
+use native.Mathlib.Decide.{decLt}
 use native.Mathlib.Nat.{add-zero, add-suc, suc-add}
 use native.Mathlib.Numerals.{add-one}
 use native.Mathlib.Omega.{arith}
 use borrow.Author.Tests.{lt-ltb, le-ltb, le-leb, lt-leb}
 use lib.Dec.{leb}
-use lib.ListN.{length, getD, set, take, drop, length-append, length-set}
-use lib.Seq.{sets, sets-eq, take-suc}
+use lib.ListN.{length, getD, set, take, drop, length-append, length-drop, length-set, List·getD-append}
+use lib.Seq.{sets, sets-eq, take-suc, ext-getD, getD-append-add, getD-drop}
 use Rattle.wire.specs.Bytes.{word64}
 use Rattle.wire.specs.Writing.{Wrote, startingWith, writerBuffer, halfBytes, wordBytes, longBytes}
 
@@ -72,6 +73,31 @@ whole {t} {out} h w = (
   sym (le-leb _ _ h),
   at-start w h ∙ ap (λ b. cond b out (startingWith t out)) (sym (le-ltb _ _ h)),
 )
+
+-- a buffer with a text at its start: its size, the text's bytes, and those after them
+pub starting-size : (t l : List ℕ) → length t ≤ length l → length (startingWith t l) ≡ length l
+starting-size t l h = length-append t (drop (length t) l) ∙ omega (arith, h, length-drop (length t) l)
+
+pub starting-byte : (t l : List ℕ) (i : ℕ) → i < length t → getD (startingWith t l) i 0 ≡ getD t i 0
+starting-byte t l i h = List·getD-append t (drop (length t) l) 0 i h
+
+pub starting-rest : (t l : List ℕ) (i : ℕ) → length t ≤ i → getD (startingWith t l) i 0 ≡ getD l i 0
+starting-rest t l i h =
+    let k : length t + (i - length t) ≡ i = omega (arith, h) in
+    ap (λ (n : ℕ). getD (startingWith t l) n 0) (sym k)
+    ∙ getD-append-add t (drop (length t) l) (i - length t) 0
+    ∙ getD-drop (length t) l (i - length t) 0
+    ∙ ap (λ (n : ℕ). getD l n 0) k
+
+-- and no other buffer is so
+pub starting-only : (t l n : List ℕ) → length t ≤ length l → length n ≡ length l
+    → ((i : ℕ) → i < length t → getD n i 0 ≡ getD t i 0) → ((i : ℕ) → length t ≤ i → getD n i 0 ≡ getD l i 0)
+    → n ≡ startingWith t l
+starting-only t l n h e f r =
+    ext-getD 0 n (startingWith t l) (e ∙ sym (starting-size t l h)) (λ i b. elim (decLt i (length t)) [
+      | yes q ↦ f i q ∙ sym (starting-byte t l i q)
+      | no q ↦ let z : length t ≤ i = omega (arith, q) in r i z ∙ sym (starting-rest t l i z)
+    ])
 
 -- numbers written for one case of a value are those of the value
 pub written : {A : Type 0} (f : A → List ℕ) (out : List ℕ) {x y : A} {m : List ℕ} → x ≡ y → m ≡ startingWith (f y) out

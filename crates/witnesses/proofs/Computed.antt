@@ -9,6 +9,7 @@ use Rattle.order.specs.Order.{isOver, gathered, aboveSets}
 use Rattle.chart_reader.specs.Read.{readChart, readFrom, advanceOf}
 use Rattle.chart_value.specs.WellFormed.{isZeroTerm, termPlaced, termsFit, regionFits, isZeroRegion, touchedBefore}
 use Rattle.chart_value.specs.WellFormed.{regionPlaced, wellFormed}
+use Rattle.chart_value.specs.Writer.{termsBytes, regionBytes, regionsBytes, chartBytes}
 use Rattle.rounds.specs.Chart.{conditionOf}
 use Rattle.rounds.specs.Rows.{chartMessage, plain, values, opened}
 use Rattle.rounds.specs.Machine.{ready, readyFor, readyPlain, fire, unfired, tryRegion, settle, takeMessage, opening}
@@ -37,11 +38,12 @@ use Rattle.witnesses.specs.Offers.{offers, offered, counts, Leads, leads
 use Rattle.witnesses.specs.Raw.{Reads, readings, raws}
 use Rattle.witnesses.specs.Asked.{Asks, asks}
 use Rattle.witnesses.specs.Foreseen.{Previews, previews}
+use Rattle.witnesses.specs.Saved.{Saves, saves, LongestSaved}
 use Rattle.witnesses.specs.Formats.{Prints, texts, Checks, checks, LogNumbers, Formats}
 
 -- every definition that the lines look into
 computed : Unit {0}
-unfolding contains single inserted union isSubset within isOver gathered aboveSets readChart readFrom advanceOf isZeroTerm termPlaced termsFit regionFits isZeroRegion touchedBefore regionPlaced wellFormed conditionOf chartMessage plain values opened ready readyFor readyPlain fire unfired tryRegion settle takeMessage opening full prechartDone goOn keepRound dropRound breakRound conclude offer missed fitsOpening reopened accept feed after closedUpward restsUnlessBroken momentsFit causeFits breakFits countsFit placeFits fits feedOf datedAt recordsFrom recordsIn stepAt checkFrom checkLog soundFrom soundRecords standingOf judgeOf breaksOf previewBytes previewOf bufferOf bytesOf digitsOf verdictLines refusalLine partsReport reportOf
+unfolding contains single inserted union isSubset within isOver gathered aboveSets readChart readFrom advanceOf isZeroTerm termPlaced termsFit regionFits isZeroRegion touchedBefore regionPlaced wellFormed conditionOf chartMessage plain values opened ready readyFor readyPlain fire unfired tryRegion settle takeMessage opening full prechartDone goOn keepRound dropRound breakRound conclude offer missed fitsOpening reopened accept feed after closedUpward restsUnlessBroken momentsFit causeFits breakFits countsFit placeFits fits feedOf datedAt recordsFrom recordsIn stepAt checkFrom checkLog soundFrom soundRecords standingOf judgeOf breaksOf previewBytes previewOf bufferOf termsBytes regionBytes regionsBytes chartBytes bytesOf digitsOf verdictLines refusalLine partsReport reportOf
 computed = tt
 
 refusals-said : Each Says refusals
@@ -275,6 +277,14 @@ previews-shown : Each Previews previews
 unfolding computed
 previews-shown = ((refl, refl), ((refl, refl), ((refl, refl), ((refl, refl), ((refl, refl), ((refl, refl), ((refl, refl), ((refl, refl), ((refl, refl), ((refl, refl), ((refl, refl), ((refl, refl), ((refl, refl), ((refl, refl), ((refl, refl), ((refl, refl), ((refl, refl), ((refl, refl), ((refl, refl), ((refl, refl), ((refl, refl), ((refl, refl), ((refl, refl), ((refl, refl), ((refl, refl), ((refl, refl), ((refl, refl), ((refl, refl), ((refl, refl), ((refl, refl), ((refl, refl), ((refl, refl), ((refl, refl), ((refl, refl), ((refl, refl), ((refl, refl), ((refl, refl), ((refl, refl), ((refl, refl), ((refl, refl), tt))))))))))))))))))))))))))))))))))))))))
 
+charts-saved : Each Saves saves
+unfolding computed
+charts-saved = ((refl, refl, refl), ((refl, refl, refl), ((refl, refl, refl), ((refl, refl, refl), ((refl, refl, refl), ((refl, refl, refl), ((refl, refl, refl), ((refl, refl, refl), ((refl, refl, refl), ((refl, refl, refl), ((refl, refl, refl), ((refl, refl, refl), ((refl, refl, refl), ((refl, refl, refl), ((refl, refl, refl), ((refl, refl, refl), tt))))))))))))))))
+
+longest-saved : LongestSaved
+unfolding computed
+longest-saved = (refl, refl)
+
 pub formats-hold : Formats
 formats-hold =
     record {
@@ -298,6 +308,8 @@ formats-hold =
       records-checked = records-checked;
       breaks-asked = breaks-asked;
       previews-shown = previews-shown;
+      charts-saved = charts-saved;
+      longest-saved = longest-saved;
       log-numbers = log-numbers;
       input-40 = input-40;
       input-41 = input-41;

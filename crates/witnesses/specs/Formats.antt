@@ -27,6 +27,7 @@ use Rattle.witnesses.specs.Offers.{offers, offered, counts, Leads, leads
 use Rattle.witnesses.specs.Raw.{Reads, readings, raws}
 use Rattle.witnesses.specs.Asked.{Asks, asks}
 use Rattle.witnesses.specs.Foreseen.{Previews, previews}
+use Rattle.witnesses.specs.Saved.{Saves, saves, LongestSaved}
 
 -- an input, and the text that is printed for it
 pub record Print : Type 0 where
@@ -141,6 +142,8 @@ pub record Formats : Type 0 where
   pub records-checked : Each Checks checks
   pub breaks-asked : Each Asks asks
   pub previews-shown : Each Previews previews
+  pub charts-saved : Each Saves saves
+  pub longest-saved : LongestSaved
   pub log-numbers : LogNumbers
   -- an input of over 65,536 bytes is 40; of 65,536 bytes, with a length of 65,535, it is 41
   pub input-40 : (s : List ℕ) → 65536 < length s → textOf s ≡ bytesOf "refused input 40 at 0\n"

@@ -7,4 +7,5 @@ pub mod Offers
 pub mod Raw
 pub mod Asked
 pub mod Foreseen
+pub mod Saved
 pub mod Formats

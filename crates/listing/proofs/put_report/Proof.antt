@@ -1,22 +1,19 @@
 use native.Mathlib.Omega.{arith}
-use mathlib.Core.Path.{_≡_, sym, ap, _∙_}
-use mathlib.Core.List.{List, _++_}
-use Prim.Native.Nat.{ℕ, _+_, _≤_}
-use lib.ListN.{length, drop}
-use lib.Seq.{sets-eq}
-use Rattle.wire.specs.Writing.{Wrote}
-use Rattle.wire.proofs.Writing.{spelled}
-use Rattle.listing.specs.Listing.{listingOf, listed, room}
+use mathlib.Core.Path.{_≡_, sym, ap}
+use mathlib.Core.List.{List}
+use Prim.Native.Nat.{ℕ, _≤_}
+use lib.ListN.{length}
+use Rattle.wire.specs.Writing.{Wrote, startingWith}
+use Rattle.wire.proofs.Writing.{spelled, counted, at-start}
+use Rattle.listing.specs.Listing.{listingOf, room}
 use borrow.Author.Needs.{needs}
 use Rattle.listing.proofs.put_report.Statement.{statement}
 use Rattle.listing.proofs.put_report.Tie as tie
 
 -- a text at the start of a buffer with room for it
 stands : {l t m : List ℕ} {j : ℕ} → Wrote l 0 t m j → j ≤ room → room ≤ length l → (j ≡ length t)
-    × ((m ≡ listed l t) × (j ≤ room))
-stands {l} {t} {m} {j} w h k =
-    let p : 0 + length t ≡ length t = omega arith in
-    (w .next ∙ p, (w .bytes ∙ sets-eq t l 0 (omega (arith, w .next)) ∙ ap (λ (k : ℕ). t ++ drop k l) p, h))
+    × ((m ≡ startingWith t l) × (j ≤ room))
+stands {l} {t} {m} {j} w h k = (counted w, (at-start w (omega (arith, w .next)), h))
 
 enum-known-report : tie.Need-enum-known-report
 enum-known-report c = search needs

@@ -1,11 +1,8 @@
 -- `lsc::put_report` meets its contract: by the report's two cases. Assumes nothing.
-use Rattle.model.specs.Numbers.{places}
 use Rattle.lsc.proofs.Laws.{put-refusal}
 use Rattle.lsc.specs.Lsc.{reportNumber, reportNumbers}
-use Rattle.listing.specs.declared.Report.{Report}
-use lib.ListN.{drop}
-use mathlib.Core.List.{_++_}
-use mathlib.Core.Path.{sym, ap, _∙_}
+use Rattle.wire.proofs.Writing.{written}
+use mathlib.Core.Path.{sym, ap}
 use borrow.Author.Needs.{needs}
 use Rattle.lsc.proofs.put_report.Statement.{statement}
 use Rattle.lsc.proofs.put_report.Tie as tie
@@ -34,9 +31,8 @@ same-length c = search needs
 returns : tie.Need-returns
 returns c = let e = sym (c .before .before .before .before .before .report .given .1) in (
   ap reportNumber e,
-  c .before .before .put-verdict .ensures
-      ∙ ap (λ (x : Report). reportNumbers x ++ drop places
-      (c .before .before .before .before .before .before .before .before .args .out .now)) e,
+  written reportNumbers (c .before .before .before .before .before .before .before .before .args .out .now) (sym e)
+      (c .before .before .put-verdict .ensures),
 )
 
 same-length-2 : tie.Need-same-length-2

@@ -2,7 +2,8 @@ use mathlib.Core.Path.{refl, ap, _∙_}
 use lib.ListN.{length}
 use native.Mathlib.Omega.{arith}
 use borrow.Author.Needs.{needs}
-use Rattle.listing.specs.Listing.{listingOf, listed}
+use Rattle.wire.specs.Writing.{startingWith}
+use Rattle.listing.specs.Listing.{listingOf}
 use Rattle.listing.specs.declared.Report.{Report}
 use Rattle.respond.specs.Respond.{textOf}
 use Rattle.respond.proofs.Laws.{too-short, written}
@@ -32,7 +33,7 @@ returns-2 c =
     let w = written (a .out .now) (p .last .0) (textOf (a .input .now)) (p .result)
     (c .before .before .before .before .before .if1 .left)
     (p .ensures .0 ∙ ap (λ (x : Report). length (listingOf x)) e)
-    (p .ensures .1 .0 ∙ ap (λ (x : Report). listed (a .out .now) (listingOf x)) e) in (
+    (p .ensures .1 .0 ∙ ap (λ (x : Report). startingWith (listingOf x) (a .out .now)) e) in (
       w .0,
       (
         w .1,
