@@ -28,6 +28,7 @@ use Rattle.chart_value.proofs.Facts.{wf-of, fits-of}
 use Rattle.chart_value.specs.Writer.{four, leftBytes, termBytes, eventBytes, termsBytes, hotBytes, resetsBytes}
 use Rattle.chart_value.specs.Writer.{relationByte, regionBytes, mainBytes, regionsBytes, chartBytes}
 use Rattle.chart_writer.specs.declared.ChartWritten.the-variants.{Written, NotAChart, TooShort}
+use Rattle.chart_writer.specs.Parts.{marksBytes}
 use Rattle.chart_writer.specs.Save.{mostBytes, savedAnswer, savedBuffer}
 
 -- a piece of at most n bytes
@@ -61,7 +62,7 @@ terms-join g zero j s rest = refl
 terms-join g (suc n) j s rest =
     term-join (termAt g j) (termsBytes g n (suc j) s) rest ∙ ap (termBytes (termAt g j)) (terms-join g n (suc j) s rest)
 
-hot-join : (hot : Bool) (s rest : List ℕ) → hotBytes hot s ++ rest ≡ hotBytes hot (s ++ rest)
+pub hot-join : (hot : Bool) (s rest : List ℕ) → hotBytes hot s ++ rest ≡ hotBytes hot (s ++ rest)
 hot-join true s rest = refl
 hot-join false s rest = refl
 
@@ -183,14 +184,11 @@ ends-next {prechart} {at} {i} {start} {stop} p h = record {
 
 -- a region, and a chart, from its parts
 pub region-parts : (g : Region)
-    → eventBytes (g .event) [] ++ (termsBytes g (g .count) 0 [] ++ (hotBytes (g .hot) [] ++ resetsBytes (g .resets) []))
-    ≡ regionBytes g []
+    → eventBytes (g .event) [] ++ (termsBytes g (g .count) 0 [] ++ marksBytes (g .hot) (g .resets)) ≡ regionBytes g []
 unfolding regionBytes
 region-parts g =
     event-join (g .event) [] _
-    ∙ ap (eventBytes (g .event))
-    (terms-join g (g .count) 0 [] _
-    ∙ ap (termsBytes g (g .count) 0) (hot-join (g .hot) [] (resetsBytes (g .resets) [])))
+    ∙ ap (eventBytes (g .event)) (terms-join g (g .count) 0 [] (marksBytes (g .hot) (g .resets)))
 
 pub chart-parts : (c : Chart)
     → headingByte ∷ c .lines ∷ c .clocks ∷ (regionsBytes c (c .count) 0 [] ++ (endByte ∷ [])) ≡ chartBytes c

@@ -1,1 +1,2 @@
 pub mod Save
+pub mod Parts

@@ -31,6 +31,7 @@ ghost use Rattle.chart_reader.specs.Said.{acceptedAs};
 ghost use Rattle.chart_value.specs.WellFormed.{wellFormed};
 ghost use Rattle.chart_value.specs.Writer.{relationByte, leftBytes, termBytes, eventBytes, termsBytes, hotBytes};
 ghost use Rattle.chart_value.specs.Writer.{resetsBytes, regionBytes, regionsBytes, chartBytes};
+ghost use Rattle.chart_writer.specs.Parts.{marksBytes};
 ghost use Rattle.chart_writer.specs.Save.{mostBytes, savedAnswer, savedBuffer, savedNumber, savedSize};
 
 // D6: no chart has more bytes.
@@ -179,6 +180,16 @@ fn put_resets(out: &mut [u8], at: usize, resets: u8) -> usize
     wire::put_byte(out, next, resets)
 }
 
+// D3: what stands after the terms.
+fn put_marks(out: &mut [u8], at: usize, hot: bool, resets: u8) -> usize
+    requires { ⌜ at + 3 ≤ length (now out) ⌝ }
+    ensures bytes { λ r. ⌜ Wrote (now (out .entry)) at (marksBytes hot resets) (now (out .exit)) r ⌝ }
+    ensures short { λ r. ⌜ r ≤ at + 3 ⌝ }
+{
+    let next = put_hot(out, at, hot);
+    put_resets(out, next, resets)
+}
+
 // D3: one region.
 fn put_region(out: &mut [u8], at: usize, g: Region) -> usize
     requires { ⌜ g .count ≤ mostTerms ⌝ }
@@ -189,8 +200,7 @@ fn put_region(out: &mut [u8], at: usize, g: Region) -> usize
     let e = g.event;
     let second = put_event(out, at, e);
     let third = put_terms(out, second, g);
-    let fourth = put_hot(out, third, g.hot);
-    put_resets(out, fourth, g.resets)
+    put_marks(out, third, g.hot, g.resets)
 }
 
 // D2: the byte between the halves, before the first region of the main chart.

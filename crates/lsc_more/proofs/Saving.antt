@@ -89,9 +89,9 @@ module _ (chart out : List ℕ) where
             bytes = rw (← is-read) b;
             again = record {
               same = λ h.
-              ap readChart ((λ i. take ((o ∙ ap savedSize s) i) (f i))
-              ∙ text-by out (ltb (length out) (length t)) t (sym (k ∙ ap savedNumber s) ∙ h))
-              ∙ back given
-              ∙ is-read;
+                  ap readChart ((λ i. take ((o ∙ ap savedSize s) i) (f i))
+                  ∙ text-by out (ltb (length out) (length t)) t (sym (k ∙ ap savedNumber s) ∙ h))
+                  ∙ back given
+                  ∙ is-read;
             };
           }

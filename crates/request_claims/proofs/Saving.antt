@@ -97,8 +97,7 @@ module _ (c : Chart) (G : (wellFormed c ≡ true) ↔ Given c) (l : List ℕ) wh
     by-room w false f =
         let a : r ≡ Written (length (chartBytes c)) = e ∙ rw (w, f) refl in
         let b : n ≡ startingWith (chartBytes c) l = q ∙ rw (w, f) refl in
-        let h = ltb-false (length l) (length (chartBytes c)) f in
-        (
+        let h = ltb-false (length l) (length (chartBytes c)) f in (
           rw (a, b, starting-size (chartBytes c) l h) h,
           λ w. (λ i. take (writtenLength (a i)) (b i)) ∙ take-front (chartBytes c) (drop (length (chartBytes c)) l),
         )

@@ -25,11 +25,12 @@ returns c =
     let v = c .before .before .before .before in
     let a = v .before .before .before .before .before .args in
     let e = v .before .before .chart-at .ensures .0 in
-    let w = v .write .ensures .0 ∙ ap (λ x. savedAnswer x (a .out .now)) e in
-    (
+    let w = v .write .ensures .0 ∙ ap (λ x. savedAnswer x (a .out .now)) e in (
       c .number .ensures ∙ ap savedNumber w,
-      (c .before .size .ensures ∙ ap savedSize w,
-      (v .write .ensures .1 .0 ∙ ap (λ x. savedBuffer x (a .out .now)) e, refl)),
+      (
+        c .before .size .ensures ∙ ap savedSize w,
+        (v .write .ensures .1 .0 ∙ ap (λ x. savedBuffer x (a .out .now)) e, refl),
+      ),
     )
 
 pub lsc-test-write-spec : {M : Type 1} → statement M

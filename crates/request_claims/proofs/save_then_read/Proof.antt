@@ -45,10 +45,10 @@ returns c =
     let G = exact-test (s .args .chart) _ (s .good .0) _ refl .1 in
     record {
       again = λ n h.
-      c .read .ensures .0
-      ∙ ap (λ (k : ℕ). readChart (take k (c .before .before .before .before .before .write .last .1 .0)))
-      (c .before .before .written-length .ensures)
-      ∙ read-back (s .args .chart) G (s .args .out .now) _ _ (w .0) (w .1 .0) n h;
+          c .read .ensures .0
+          ∙ ap (λ (k : ℕ). readChart (take k (c .before .before .before .before .before .write .last .1 .0)))
+          (c .before .before .written-length .ensures)
+          ∙ read-back (s .args .chart) G (s .args .out .now) _ _ (w .0) (w .1 .0) n h;
     }
 
 pub save-then-read-spec : {M : Type 1} → statement M
