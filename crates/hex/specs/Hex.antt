@@ -18,6 +18,10 @@ firstOf s from to byte = firstAmong (to - from) s from byte
 abbrev pub digitOf : ℕ → ℕ
 digitOf b = cond (leb 48 b && leb b 57) (b - 48) (cond (leb 97 b && leb b 102) (b - 87) 16)
 
+-- and the digit of the lower half of a byte
+abbrev pub lowDigit : ℕ → ℕ
+lowDigit b = cond (ltb (b % 16) 10) (48 + b % 16) (87 + b % 16)
+
 -- a buffer, and how many digits were put into it
 pub record Filled : Type 0 where
   pub bytes : List ℕ

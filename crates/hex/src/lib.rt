@@ -1,9 +1,9 @@
 // Lines of text with bytes in hexadecimal, for the programs that run stored examples.
 ghost use mathlib.Core.Path.{_≡_};
-ghost use Prim.Native.Nat.{_<_, _≤_, _/_};
+ghost use Prim.Native.Nat.{_<_, _≤_, _/_, _%_};
 ghost use lib.ListN.{length};
 ghost use Rattle.io.specs.Counts.{Counts};
-ghost use Rattle.hex.specs.Hex.{firstOf, digitOf, withDigit, filledWith, byteMore, filledBy};
+ghost use Rattle.hex.specs.Hex.{firstOf, digitOf, lowDigit, withDigit, filledWith, byteMore, filledBy};
 
 pub const LINE_FEED: u8 = 10;
 
@@ -18,6 +18,15 @@ fn digit(b: u8) -> u8
         97..=102 => b - 87,
         _ => 16,
     }
+}
+
+// The digit of a byte's lower half: read again, that half.
+pub fn low_digit(b: u8) -> u8
+    ensures digit { λ r. ⌜ r ≡ lowDigit b ⌝ }
+    ensures again { λ r. ⌜ digitOf r ≡ b % 16 ⌝ }
+{
+    let d = b % 16;
+    if d < 10 { 48 + d } else { 87 + d }
 }
 
 // The first offset from `from` on, and before `to`, at which the byte stands; `to` if it stands at none.
