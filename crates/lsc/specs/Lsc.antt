@@ -4,7 +4,7 @@ use mathlib.Core.Bool.{Bool, cond, _||_}
 use mathlib.Core.List.{List, [], _∷_}
 use lib.Dec.{eqb, leb, ltb}
 use lib.ListN.{length}
-use Rattle.wire.specs.Writing.{within}
+use Rattle.wire.specs.Writing.{inRoom}
 use Rattle.model.specs.Answers.{tooShort, timeFalls, tooManyRecords}
 use Rattle.model.specs.Numbers.{places, verdictNumbers}
 use Rattle.log_reader.specs.Record.{cutShort, unknownByte}
@@ -37,7 +37,7 @@ abbrev pub judgedNumber : Report → List ℕ → ℕ
 judgedNumber report out = cond (ltb (length out) places) tooShort (reportNumber report)
 
 abbrev pub judgedOut : Report → List ℕ → List ℕ
-judgedOut report out = within places (reportNumbers report) out
+judgedOut report out = inRoom places (reportNumbers report) out
 
 -- the numbers that judging returns: 0, a chart's refusal from 1 to 11, 12, or a log's, 22 to 24 or 30 to 32
 abbrev pub isJudgedNumber : ℕ → Bool

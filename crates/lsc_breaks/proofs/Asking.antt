@@ -7,7 +7,6 @@ use borrow.Author.Tests.{lt-ltb, le-ltb, ne-eqb}
 use lib.Dec.{eqb}
 use lib.ListN.{length}
 use Rattle.model.specs.Answers.{tooShort}
-use Rattle.model.specs.declared.Chart.{Chart}
 use Rattle.chart_step.specs.declared.Refusal.{Refusal}
 use Rattle.chart_step.specs.Refusal.{refusalNumber}
 use Rattle.chart_step.proofs.Numbers.{refusal-nonzero}
@@ -15,7 +14,8 @@ use Rattle.chart_reader.specs.declared.ChartAnswer.{ChartAnswer}
 use Rattle.chart_reader.specs.declared.ChartAnswer.the-variants.{Accepted, Refused}
 use Rattle.chart_reader.specs.declared.ChartRead.{ChartRead}
 use Rattle.chart_reader.specs.Read.{readChart}
-use Rattle.chart_reader.specs.Said.{Said, said, numberOf, offsetOf}
+use Rattle.chart_reader.specs.Said.{Said, said}
+use Rattle.chart_reader.proofs.Ends.{saidAs, by-answer}
 use Rattle.breaks.specs.declared.BreakAnswer.{BreakAnswer}
 use Rattle.breaks.specs.Numbers.{breakNumber}
 use Rattle.breaks.specs.Breaks.{breaksOf}
@@ -23,10 +23,6 @@ use Rattle.wire.specs.Writing.{startingWith}
 use Rattle.lsc_breaks.specs.Breaks.{breaksPlaces, chartPart, refusalNumbers, answerNumbers}
 use Rattle.lsc_breaks.specs.Breaks.{askedNumbers, askedNumber, breaksNumber, breaksOut}
 use Rattle.wire.proofs.Writing.{written}
-
--- what the reader says, by its answer
-abbrev saidAs : Chart → ChartAnswer → Said
-saidAs c a = record { number = numberOf a; offset = offsetOf a; chart = c }
 
 module _ (chart log out : List ℕ) where
   -- returned and written as the definitions say
@@ -37,11 +33,11 @@ module _ (chart log out : List ℕ) where
   asked-short h = let e = lt-ltb (length out) breaksPlaces h in (rw e, rw e)
 
   module _ (h : breaksPlaces ≤ length out) (q : ChartRead) (p : said q ≡ readChart chart) {r : ℕ} {m : List ℕ} where
-    by-answer : (a : ChartAnswer) → q .answer ≡ a → r ≡ askedNumber (saidAs (q .chart) a) log
+    asked-as : (a : ChartAnswer) → q .answer ≡ a → r ≡ askedNumber (saidAs (q .chart) a) log
         → m ≡ startingWith (askedNumbers (saidAs (q .chart) a) log) out → Asked r m
-    by-answer a e u v =
+    asked-as a e u v =
         let t = le-ltb (length out) breaksPlaces h in
-        let s : saidAs (q .chart) a ≡ readChart chart = sym (ap (saidAs (q .chart)) e) ∙ p in (
+        let s : saidAs (q .chart) a ≡ readChart chart = by-answer chart q a p e in (
           rw t (u ∙ ap (λ (x : Said). askedNumber x log) s),
           rw t (written (λ (x : Said). askedNumbers x log) out (sym s) v),
         )
@@ -51,9 +47,9 @@ module _ (chart log out : List ℕ) where
         → m ≡ startingWith (refusalNumbers chartPart n offset) out → Asked r m
     asked-refused f offset n e k u v =
         let z : eqb (refusalNumber f) 0 ≡ false = ne-eqb _ 0 (refusal-nonzero f) in
-        by-answer (Refused f offset) e (rw z (u ∙ k))
+        asked-as (Refused f offset) e (rw z (u ∙ k))
         (rw z (written (λ (x : ℕ). refusalNumbers chartPart x offset) out (sym k) v))
 
     pub asked-accepted : (b : BreakAnswer) → q .answer ≡ Accepted → b ≡ breaksOf (q .chart) log → r ≡ breakNumber b
         → m ≡ startingWith (answerNumbers b) out → Asked r m
-    asked-accepted b e k u v = by-answer Accepted e (u ∙ ap breakNumber k) (written answerNumbers out (sym k) v)
+    asked-accepted b e k u v = asked-as Accepted e (u ∙ ap breakNumber k) (written answerNumbers out (sym k) v)

@@ -12,7 +12,7 @@ use Rattle.breaks.specs.declared.BreakAnswer.{BreakAnswer}
 use Rattle.breaks.specs.declared.BreakAnswer.the-variants.{Yes, No, NoChart, Refused}
 use Rattle.breaks.specs.Numbers.{breakNumber}
 use Rattle.breaks.specs.Breaks.{breaksOf}
-use Rattle.wire.specs.Writing.{within}
+use Rattle.wire.specs.Writing.{inRoom}
 
 -- how many places of a buffer the answer takes
 abbrev pub breaksPlaces : ℕ
@@ -50,4 +50,4 @@ abbrev pub breaksNumber : List ℕ → List ℕ → List ℕ → ℕ
 breaksNumber chart log out = cond (ltb (length out) breaksPlaces) tooShort (askedNumber (readChart chart) log)
 
 abbrev pub breaksOut : List ℕ → List ℕ → List ℕ → List ℕ
-breaksOut chart log out = within breaksPlaces (askedNumbers (readChart chart) log) out
+breaksOut chart log out = inRoom breaksPlaces (askedNumbers (readChart chart) log) out

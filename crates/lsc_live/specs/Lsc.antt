@@ -5,7 +5,7 @@ use mathlib.Core.Bool.{cond}
 use mathlib.Core.List.{List}
 use lib.Dec.{eqb, ltb}
 use lib.ListN.{length}
-use Rattle.wire.specs.Writing.{within}
+use Rattle.wire.specs.Writing.{inRoom}
 use Rattle.model.specs.Numbers.{places, verdictNumbers, answerCause}
 use Rattle.model.specs.declared.Record.{Record}
 use Rattle.model.specs.declared.Answer.{Answer}
@@ -36,4 +36,4 @@ abbrev pub standingNumber : LiveVerdict → List ℕ → ℕ
 standingNumber s out = cond (eqb (s .number) 0) (cond (ltb (length out) places) tooShort 0) (s .number)
 
 abbrev pub standingOut : LiveVerdict → List ℕ → List ℕ
-standingOut s out = cond (eqb (s .number) 0) (within places (verdictNumbers (s .verdict)) out) out
+standingOut s out = cond (eqb (s .number) 0) (inRoom places (verdictNumbers (s .verdict)) out) out

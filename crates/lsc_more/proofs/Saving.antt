@@ -10,15 +10,14 @@ use lib.ListN.{length, take, drop}
 use Rattle.wire.specs.Writing.{startingWith, writerAnswer, writerBuffer}
 use Rattle.wire.proofs.Writing.{take-front}
 use Rattle.model.specs.Answers.{tooShort}
-use Rattle.model.specs.declared.Chart.{Chart}
 use Rattle.chart_step.specs.declared.Refusal.{Refusal}
 use Rattle.chart_step.specs.Refusal.{refusalNumber}
 use Rattle.chart_step.proofs.Numbers.{refusal-nonzero, refusal-most}
-use Rattle.chart_reader.specs.declared.ChartAnswer.{ChartAnswer}
 use Rattle.chart_reader.specs.declared.ChartAnswer.the-variants.{Accepted, Refused}
 use Rattle.chart_reader.specs.declared.ChartRead.{ChartRead}
 use Rattle.chart_reader.specs.Read.{readChart}
-use Rattle.chart_reader.specs.Said.{Said, said, numberOf, offsetOf, acceptedAs}
+use Rattle.chart_reader.specs.Said.{Said, said, acceptedAs}
+use Rattle.chart_reader.proofs.Ends.{saidAs, by-answer}
 use Rattle.chart_value.specs.WellFormed.{wellFormed}
 use Rattle.chart_value.specs.Writer.{chartBytes}
 use Rattle.chart_value.proofs.Exact.{accepted-whole}
@@ -26,10 +25,6 @@ use Rattle.chart_writer.specs.declared.ChartWritten.{ChartWritten}
 use Rattle.chart_writer.specs.declared.ChartWritten.the-variants.{Written, TooShort}
 use Rattle.chart_writer.specs.Save.{savedAnswer, savedBuffer, savedNumber, savedSize}
 use Rattle.lsc_more.specs.Write.{writeNumber, writeAt, writeOut, ReadsAgain}
-
--- what the reader says, by its answer
-abbrev saidAs : Chart → ChartAnswer → Said
-saidAs c a = record { number = numberOf a; offset = offsetOf a; chart = c }
 
 -- a writer's answer has the number 0 or 12
 listed-by : (b : Bool) (n : ℕ) → savedNumber (cond b (TooShort n) (Written n)) ≤ tooShort
@@ -55,7 +50,7 @@ module _ (chart out : List ℕ) where
     pub refused : {r at : ℕ} {m : List ℕ} (f : Refusal) (offset : ℕ) → q .answer ≡ Refused f offset
         → r ≡ refusalNumber f → at ≡ offset → m ≡ out → Writes r at m
     refused f offset e k o b =
-        let s : saidAs (q .chart) (Refused f offset) ≡ readChart chart = sym (ap (saidAs (q .chart)) e) ∙ p in
+        let s : saidAs (q .chart) (Refused f offset) ≡ readChart chart = by-answer chart q (Refused f offset) p e in
         let z : eqb (refusalNumber f) 0 ≡ false = ne-eqb _ 0 (refusal-nonzero f) in
         record {
           number = rw (← s, z) k;
@@ -67,7 +62,7 @@ module _ (chart out : List ℕ) where
 
     module _ (e : q .answer ≡ Accepted) where
       is-read : acceptedAs (q .chart) ≡ readChart chart
-      is-read = sym (ap (saidAs (q .chart)) e) ∙ p
+      is-read = by-answer chart q Accepted p e
 
       given : wellFormed (q .chart) ≡ true
       given =

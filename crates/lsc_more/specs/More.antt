@@ -4,7 +4,7 @@ use mathlib.Core.Bool.{cond}
 use mathlib.Core.List.{List, [], _∷_}
 use lib.Dec.{ltb}
 use lib.ListN.{length}
-use Rattle.wire.specs.Writing.{within}
+use Rattle.wire.specs.Writing.{inRoom}
 use Rattle.model.specs.Answers.{tooShort}
 use Rattle.model.specs.declared.Message.{Message as Parts}
 use Rattle.model.specs.declared.Record.{Record}
@@ -55,4 +55,4 @@ abbrev pub readNumber : Next → List ℕ → ℕ
 readNumber next out = cond (ltb (length out) recordPlaces) tooShort (nextNumber next)
 
 abbrev pub readOut : ℕ → Next → List ℕ → List ℕ
-readOut at next out = within recordPlaces (recordNumbers at next) out
+readOut at next out = inRoom recordPlaces (recordNumbers at next) out

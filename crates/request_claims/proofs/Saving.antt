@@ -1,7 +1,7 @@
 -- Saving a chart, case by case; what was written is read as the chart, and bytes tell charts apart. Assumes nothing.
 use mathlib.Core.Path.{_≡_, refl, sym, ap, subst, _∙_}
 use mathlib.Core.Logic.{_↔_, inl, inr}
-use mathlib.Core.Bool.{Bool, true, false, cond}
+use mathlib.Core.Bool.{Bool, true, false}
 use mathlib.Core.List.{List}
 use Prim.Native.Nat.{ℕ, _≤_}
 use native.Mathlib.Omega.{arith}
@@ -23,7 +23,7 @@ use Rattle.chart_writer.specs.declared.ChartWritten.{ChartWritten}
 use Rattle.chart_writer.specs.declared.ChartWritten.the-variants.{Written, NotAChart, TooShort}
 use Rattle.chart_writer.specs.Save.{savedAnswer, savedBuffer}
 use Rattle.request_claims.specs.Saves as save
-use Rattle.request_claims.specs.Saves.{Holds, SavesAs, SavesJust, writtenLength}
+use Rattle.request_claims.specs.Saves.{SavesAs, SavesJust, writtenLength}
 
 -- the writer's bytes of a given chart are read as the chart
 pub saved-read : (c : Chart) → Given c → readChart (chartBytes c) ≡ acceptedAs c

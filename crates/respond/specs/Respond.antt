@@ -5,7 +5,7 @@ use mathlib.Core.List.{List}
 use lib.ListN.{length, take, drop}
 use lib.Dec.{eqb, ltb}
 use Rattle.wire.specs.Bytes.{word16}
-use Rattle.wire.specs.Writing.{within}
+use Rattle.wire.specs.Writing.{inRoom}
 use Rattle.chart_reader.specs.Said as read
 use Rattle.chart_reader.specs.Read.{readChart}
 use Rattle.judge.specs.Verdict as judge
@@ -59,7 +59,7 @@ abbrev pub responseOf : ℕ → List ℕ → Response
 responseOf size text = cond (ltb size room) TooShort (Written (length text))
 
 abbrev pub bufferAfter : List ℕ → List ℕ → List ℕ
-bufferAfter buffer text = within room text buffer
+bufferAfter buffer text = inRoom room text buffer
 
 -- the number of bytes written
 abbrev pub countOf : Response → ℕ

@@ -18,12 +18,12 @@ abbrev pub startingWith : List ℕ → List ℕ → List ℕ
 startingWith ns out = ns ++ drop (length ns) out
 
 -- a buffer of at least so many places with numbers at its start; a shorter one is as it was
-abbrev pub within : ℕ → List ℕ → List ℕ → List ℕ
-within places ns out = cond (ltb (length out) places) out (startingWith ns out)
+abbrev pub inRoom : ℕ → List ℕ → List ℕ → List ℕ
+inRoom places ns out = cond (ltb (length out) places) out (startingWith ns out)
 
 -- N10: a writer's buffer takes the whole text, if that is no longer than the buffer, or stays as it was
 abbrev pub writerBuffer : List ℕ → List ℕ → List ℕ
-writerBuffer text out = within (length text) text out
+writerBuffer text out = inRoom (length text) text out
 
 -- N10: and a writer's answer, in its own words for the length written and for 12 with the length needed
 abbrev pub writerAnswer : {A : Type 0} → (ℕ → A) → (ℕ → A) → List ℕ → List ℕ → A

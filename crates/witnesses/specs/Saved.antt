@@ -2,7 +2,6 @@
 use mathlib.Core.Path.{_≡_}
 use mathlib.Core.Bool.{true}
 use mathlib.Core.List.{List, [], _∷_, _++_}
-use Prim.Native.String.{String}
 use Prim.Native.Nat.{ℕ}
 use lib.ListN.{length, replicate}
 use Rattle.model.specs.declared.Chart.{Chart}
@@ -68,8 +67,9 @@ twoTerms = hex "10 02 02 50 20 00 01 00 01 31 01 00 03 FF FF FF FB 30 00 04 00 0
 
 abbrev pub saves : List Saving
 saves =
-    -- chart U, with two bytes to spare
+    -- chart U, with two bytes to spare, and with one too few
     saved chartU 40 38 (chartU ++ hex "A5 A5")
+    ∷ refused chartU 37 12 38
     -- no prechart: just enough room, one byte to spare, one too few, none
     ∷ alike oneMessage 10
     ∷ saved oneMessage 11 10 (hex "10 02 00 50 20 00 01 00 01 7F A5")

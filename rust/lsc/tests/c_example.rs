@@ -1,9 +1,7 @@
-//! The C example and the header: compiled without a warning, linked, run, compared.
+//! The C examples and the header: compiled without a warning, linked, run, compared.
 
 use std::path::{Path, PathBuf};
 use std::process::Command;
-
-const EXPECTED: &str = include_str!("../examples/watch.expected");
 
 fn package() -> PathBuf {
     PathBuf::from(env!("CARGO_MANIFEST_DIR"))
@@ -26,17 +24,25 @@ fn gcc(standard: &str) -> Command {
     command
 }
 
-#[test]
-fn the_c_example_says_what_is_expected() {
-    let program = Path::new(env!("CARGO_TARGET_TMPDIR")).join("watch_c");
+/// What the example of this name says.
+fn said_by(name: &str) -> String {
+    let program = Path::new(env!("CARGO_TARGET_TMPDIR")).join(format!("{name}_c"));
     run(gcc("-std=c99")
-        .arg(package().join("examples/watch.c"))
+        .arg(package().join(format!("examples/{name}.c")))
         .arg(env!("LSC_ARCHIVE"))
         .arg(env!("LSC_LIVE_ARCHIVE"))
         .arg(env!("LSC_MORE_ARCHIVE"))
         .arg("-o")
         .arg(&program));
-    assert_eq!(run(&mut Command::new(program)), EXPECTED);
+    run(&mut Command::new(program))
+}
+
+#[test]
+fn the_c_examples_say_what_is_expected() {
+    let expected = include_str!("../examples/watch.expected");
+    assert_eq!(said_by("watch"), expected);
+    let expected = include_str!("../examples/save.expected");
+    assert_eq!(said_by("save"), expected);
 }
 
 #[test]
