@@ -20,7 +20,7 @@ use Rattle.model.specs.declared.Term.{Term}
 use Rattle.model.specs.declared.Left.{Left}
 use Rattle.model.specs.declared.Left.the-variants.{Clock, Difference}
 use Rattle.model.specs.Chart.{regionAt, termAt}
-use Rattle.chart_command.specs.Bytes.{headingByte, mainByte, endByte}
+use Rattle.chart_command.specs.Bytes.{headingByte, resetsByte, mainByte, endByte}
 use Rattle.wire.specs.Writing.{Wrote, writerBuffer, wordBytes}
 use Rattle.wire.proofs.Writing.{then, spelled, counted, taken-back}
 use Rattle.chart_value.specs.WellFormed.{wellFormed}
@@ -69,7 +69,7 @@ hot-join false s rest = refl
 resets-join : (k : ℕ) (s rest : List ℕ) → resetsBytes k s ++ rest ≡ resetsBytes k (s ++ rest)
 resets-join k s rest = by (eqb k 0)
   where
-    by : (b : Bool) → cond b s (64 ∷ k ∷ s) ++ rest ≡ cond b (s ++ rest) (64 ∷ k ∷ s ++ rest)
+    by : (b : Bool) → cond b s (resetsByte ∷ k ∷ s) ++ rest ≡ cond b (s ++ rest) (resetsByte ∷ k ∷ s ++ rest)
     by true = refl
     by false = refl
 
@@ -223,7 +223,14 @@ module _ (c : Chart) (out : List ℕ) where
     room-for r = ap (λ (t : List ℕ). leb (length t) (length out)) (sym (a .same)) ∙ sym r
 
     pub saved : true ≡ leb (length text) (length out) → (Written n ≡ savedAnswer c out) × (after ≡ savedBuffer c out)
-    saved r = (rw (e, le-ltb (length out) (length (chartBytes c)) (leb-true _ _ (room-for r))) (ap Written (a .long)), buffer)
+    saved r = (
+      rw (e, le-ltb (length out) (length (chartBytes c)) (leb-true _ _ (room-for r))) (ap Written (a .long)),
+      buffer,
+    )
 
-    pub refused : false ≡ leb (length text) (length out) → (TooShort n ≡ savedAnswer c out) × (after ≡ savedBuffer c out)
-    refused r = (rw (e, lt-ltb (length out) (length (chartBytes c)) (leb-false _ _ (room-for r))) (ap TooShort (a .long)), buffer)
+    pub refused : false ≡ leb (length text) (length out)
+        → (TooShort n ≡ savedAnswer c out) × (after ≡ savedBuffer c out)
+    refused r = (
+      rw (e, lt-ltb (length out) (length (chartBytes c)) (leb-false _ _ (room-for r))) (ap TooShort (a .long)),
+      buffer,
+    )

@@ -2,9 +2,10 @@
 use mathlib.Core.Path.{_≡_}
 use mathlib.Core.List.{List}
 use Prim.Native.Nat.{ℕ, _≤_, _<_}
-use lib.ListN.{length, getD}
+use lib.ListN.{length, getD, take}
 use Rattle.model.specs.declared.Chart.{Chart}
 use Rattle.chart_reader.specs.Said.{said, acceptedAs}
+use Rattle.chart_reader.specs.Read.{readChart}
 use Rattle.chart_value.specs.Given.{Given}
 use Rattle.chart_value.specs.Writer.{chartBytes}
 use Rattle.chart_writer.specs.declared.ChartWritten.{ChartWritten}
@@ -35,6 +36,7 @@ writtenLength (Written n) = n
 writtenLength NotAChart = 0
 writtenLength (TooShort n) = 0
 
--- D5: what was written is read as the chart
-pub record ReadBack (c : Chart) (r : Resaved) : Type 0 where
+-- D5: what was written, in the buffer l, is read; and it is read as the chart
+pub record ReadBack (c : Chart) (l : List ℕ) (r : Resaved) : Type 0 where
+  pub written : said (r .read) ≡ readChart (take (writtenLength (r .saved)) l)
   pub again : (n : ℕ) → r .saved ≡ Written n → said (r .read) ≡ acceptedAs c

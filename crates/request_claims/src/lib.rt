@@ -80,7 +80,7 @@ fn written_length(a: ChartWritten) -> usize
 
 // Saves a chart, then reads what was written, after a refusal nothing: every chart value and buffer.
 pub fn save_then_read(chart: Chart, out: &mut [u8]) -> Resaved
-    ensures { λ r. ⌜ ReadBack chart r ⌝ }
+    ensures { λ r. ⌜ ReadBack chart (now (out .exit)) r ⌝ }
 {
     let saved = chart_writer::write(chart, out);
     let n = written_length(saved);

@@ -64,7 +64,8 @@ pub taken-back : {l t n : List ℕ} {j : ℕ} → Wrote l 0 t n j → length t �
 taken-back {l} {t} w h = (λ i. take (counted w i) (at-start w h i)) ∙ take-front t (drop (length t) l)
 
 -- a writer's buffer: without room for the text, and with it
-pub no-room : (t out : List ℕ) → length out < length t → (false ≡ leb (length t) (length out)) × (out ≡ writerBuffer t out)
+pub no-room : (t out : List ℕ) → length out < length t
+    → (false ≡ leb (length t) (length out)) × (out ≡ writerBuffer t out)
 no-room t out h = (sym (lt-leb _ _ h), ap (λ b. cond b out (startingWith t out)) (sym (lt-ltb _ _ h)))
 
 pub whole : {t out m : List ℕ} {j : ℕ} → length t ≤ length out → Wrote out 0 t m j

@@ -26,14 +26,19 @@ same-length c = search needs
 
 returns : tie.Need-returns
 returns c =
-    let first = c .before .before .before .before .before .before .before .before .before .before .before .before .before .before .before .before .before .before .put-byte .ensures in
-    let second = c .before .before .before .before .before .before .before .before .before .before .before .before .before .before .put-byte2 .ensures in
-    let third = c .before .before .before .before .before .before .before .before .before .before .put-byte3 .ensures in
-    let fourth = c .before .before .before .before .before .before .put-regions .ensures in
-    let fifth = c .before .before .put-byte4 .ensures in (
-      spelled (chart-parts (c .before .before .before .before .before .before .before .before .before .before .before .before .before .before .before .before .before .before .before .before .before .args .c))
-          (then first (then second (then third (then (fourth .0) fifth)))),
-      omega (arith, first .next, second .next, third .next, fourth .1, fifth .next),
+    let fifth = c .before .before in
+    let fourth = fifth .before .before .before .before in
+    let third = fourth .before .before .before .before in
+    let second = third .before .before .before .before in
+    let first = second .before .before .before .before in
+    let heading = first .put-byte .ensures in
+    let lines = second .put-byte2 .ensures in
+    let clocks = third .put-byte3 .ensures in
+    let body = fourth .put-regions .ensures in
+    let end = fifth .put-byte4 .ensures in (
+      spelled (chart-parts (first .before .before .before .args .c))
+          (then heading (then lines (then clocks (then (body .0) end)))),
+      omega (arith, heading .next, lines .next, clocks .next, body .1, end .next),
     )
 
 pub put-chart-spec : {M : Type 1} → statement M

@@ -35,17 +35,21 @@ same-length c = search needs
 
 returns : tie.Need-returns
 returns c =
-    piece 3 (ap (λ l. leftBytes l []) (sym (c .before .before .before .before .before .before .before .before .before .l .given .1))) (omega arith)
-    (then (c .before .before .before .before .before .before .put-byte .ensures) (c .before .before .put-byte2 .ensures))
+    let second = c .before .before in
+    let first = second .before .before .before .before in
+    piece 3 (ap (λ l. leftBytes l []) (sym (first .before .before .before .l .given .1))) (omega arith)
+    (then (first .put-byte .ensures) (second .put-byte2 .ensures))
 
 same-length-2 : tie.Need-same-length-2
 same-length-2 c = search needs
 
 returns-2 : tie.Need-returns-2
 returns-2 c =
-    piece 3 (ap (λ l. leftBytes l []) (sym (c .before .before .before .before .before .before .before .before .before .before .before .before .before .l2 .given .1))) (omega arith)
-    (then (c .before .before .before .before .before .before .before .before .before .before .put-byte3 .ensures)
-    (then (c .before .before .before .before .before .before .put-byte4 .ensures) (c .before .before .put-byte5 .ensures)))
+    let third = c .before .before in
+    let second = third .before .before .before .before in
+    let first = second .before .before .before .before in
+    piece 3 (ap (λ l. leftBytes l []) (sym (first .before .before .before .l2 .given .1))) (omega arith)
+    (then (first .put-byte3 .ensures) (then (second .put-byte4 .ensures) (third .put-byte5 .ensures)))
 
 pub put-left-spec : {M : Type 1} → statement M
 put-left-spec =

@@ -21,9 +21,12 @@ same-length c = search needs
 
 returns : tie.Need-returns
 returns c =
-    then (c .before .before .before .before .before .before .before .before .before .before .before .before .before .before .put-byte .ensures)
-    (then (c .before .before .before .before .before .before .before .before .before .before .put-byte2 .ensures)
-    (then (c .before .before .before .before .before .before .put-byte3 .ensures) (c .before .before .put-word16 .ensures)))
+    let fourth = c .before .before in
+    let third = fourth .before .before .before .before in
+    let second = third .before .before .before .before in
+    let first = second .before .before .before .before in
+    then (first .put-byte .ensures)
+    (then (second .put-byte2 .ensures) (then (third .put-byte3 .ensures) (fourth .put-word16 .ensures)))
 
 pub put-message-spec : {M : Type 1} → statement M
 put-message-spec =

@@ -20,10 +20,14 @@ same-length c = search needs
 
 returns : tie.Need-returns
 returns c =
-    let first = c .before .before .before .before .before .before .before .before .before .before .put-event .ensures in
-    let second = c .before .before .before .before .before .before .put-terms .ensures in
-    let third = c .before .before .put-marks .ensures in (
-      spelled (region-parts (c .before .before .before .before .before .before .before .before .before .before .before .before .before .args .g)) (then (first .0) (then (second .0) (third .0))),
+    let marks = c .before .before in
+    let terms = marks .before .before .before .before in
+    let event = terms .before .before .before .before in
+    let first = event .put-event .ensures in
+    let second = terms .put-terms .ensures in
+    let third = marks .put-marks .ensures in (
+      spelled (region-parts (event .before .before .before .args .g))
+          (then (first .0) (then (second .0) (third .0))),
       omega (arith, first .1, second .1, third .1),
     )
 

@@ -28,9 +28,12 @@ same-length c = search needs
 
 returns-2 : tie.Need-returns-2
 returns-2 c =
-    let k = c .before .before .before .before .before .before .before .before .before .before .args .resets in
-    piece 2 (ap (λ b. cond b [] (resetsByte ∷ k ∷ [])) (sym (ne-eqb k 0 (c .before .before .before .before .before .before .before .before .if1 .left)))) (omega arith)
-    (then (c .before .before .before .before .before .before .put-byte .ensures) (c .before .before .put-byte2 .ensures))
+    let second = c .before .before in
+    let first = second .before .before .before .before in
+    let test = first .before .before in
+    let k = test .before .before .args .resets in
+    piece 2 (ap (λ b. cond b [] (resetsByte ∷ k ∷ [])) (sym (ne-eqb k 0 (test .if1 .left)))) (omega arith)
+    (then (first .put-byte .ensures) (second .put-byte2 .ensures))
 
 pub put-resets-spec : {M : Type 1} → statement M
 put-resets-spec =

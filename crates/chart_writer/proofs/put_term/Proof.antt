@@ -26,13 +26,17 @@ same-length c = search needs
 
 returns : tie.Need-returns
 returns c =
-    let s = c .before .before .before .before .before .before .before .before .before .before .before .before .before .before in
-    let first = c .before .before .before .before .before .before .before .before .before .before .before .put-left .ensures in
-    let second = c .before .before .before .before .before .before .put-byte .ensures in
-    let third = c .before .before .put-word32 .ensures in (
+    let third = c .before .before in
+    let second = third .before .before .before .before in
+    let first = second .before .before .before .before .before in
+    let s = first .before .before .before in
+    let left = first .put-left .ensures in
+    let relation = second .put-byte .ensures in
+    let number = third .put-word32 .ensures in (
       spelled (term-parts (s .args .t) (owned-number (s .args .t) _ (s .good .1 .1 .0)))
-          (then (first .0) (then (spelled (ap (λ (b : ℕ). b ∷ []) (c .before .before .before .before .before .before .before .relation-byte .ensures)) second) third)),
-      omega (arith, first .1, second .next, third .next),
+          (then (left .0)
+          (then (spelled (ap (λ (b : ℕ). b ∷ []) (second .before .relation-byte .ensures)) relation) number)),
+      omega (arith, left .1, relation .next, number .next),
     )
 
 pub put-term-spec : {M : Type 1} → statement M

@@ -27,11 +27,13 @@ loop-holds c = (omega arith, omega arith, nothing _ _ _ refl)
 
 mul-t : tie.Need-mul-t Inv-loop μ-loop
 mul-t c =
-    let h : c .before .before .before .args .t3 .count ≤ 4 = c .before .before .before .pre .0 in omega (arith, c .before .loop .inv .0)
+    let h : c .before .before .before .args .t3 .count ≤ 4 = c .before .before .before .pre .0 in
+    omega (arith, c .before .loop .inv .0)
 
 element-copy-out-t : tie.Need-element-copy-out-t Inv-loop μ-loop
 element-copy-out-t c =
-    let h : c .before .before .before .args .t3 .count ≤ 4 = c .before .before .before .pre .0 in omega (arith, c .before .loop .inv .0)
+    let h : c .before .before .before .args .t3 .count ≤ 4 = c .before .before .before .pre .0 in
+    omega (arith, c .before .loop .inv .0)
 
 put-term-requires : tie.Need-put-term-requires Inv-loop μ-loop
 put-term-requires c κs = search needs

@@ -1,4 +1,5 @@
--- `chart_writer::write` meets its contract: the test, the bytes made aside, and all of them or none put. Assumes nothing.
+-- `chart_writer::write` meets its contract: the test, the bytes made aside, and all of them or none put. Assumes
+-- nothing.
 use mathlib.Core.Path.{sym, ap, _∙_}
 use native.Mathlib.Omega.{arith}
 use borrow.Author.Tests.{not-true, not-false}

@@ -44,8 +44,8 @@ returns-2 c =
     let d = v .before .before .before .before in
     let a = d .before .before .before .args in
     let w = accepted (a .chart .now) (a .out .now) (d .read .result) (d .read .ensures .0)
-    (v .before .before .enum-told .given .1) (v .write .ensures .1 .1 .0) _ (v .write .ensures .0) (v .write .ensures .1 .0)
-    (c .number2 .ensures) (c .before .size .ensures) in
+    (v .before .before .enum-told .given .1) (v .write .ensures .1 .1 .0) _ (v .write .ensures .0)
+    (v .write .ensures .1 .0) (c .number2 .ensures) (c .before .size .ensures) in
     (w .number, (w .listed, (w .place, (w .bytes, (w .again, refl)))))
 
 pub lsc-write-spec : {M : Type 1} → statement M

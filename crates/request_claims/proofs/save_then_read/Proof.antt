@@ -43,12 +43,11 @@ returns c =
     let s = c .before .before .before .before .before .before .before .before in
     let w = c .before .before .before .before .before .write .ensures in
     let G = exact-test (s .args .chart) _ (s .good .0) _ refl .1 in
+    let l = c .before .before .before .before .before .write .last .1 .0 in
+    let e = c .read .ensures .0 ∙ ap (λ (k : ℕ). readChart (take k l)) (c .before .before .written-length .ensures) in
     record {
-      again = λ n h.
-          c .read .ensures .0
-          ∙ ap (λ (k : ℕ). readChart (take k (c .before .before .before .before .before .write .last .1 .0)))
-          (c .before .before .written-length .ensures)
-          ∙ read-back (s .args .chart) G (s .args .out .now) _ _ (w .0) (w .1 .0) n h;
+      written = e;
+      again = λ n h. e ∙ read-back (s .args .chart) G (s .args .out .now) _ _ (w .0) (w .1 .0) n h;
     }
 
 pub save-then-read-spec : {M : Type 1} → statement M

@@ -18,7 +18,8 @@ same-length c = search needs
 
 returns-2 : tie.Need-returns-2
 returns-2 c =
-    let r = whole (c .before .before .before .before .if1 .left) (c .before .before .put-bytes .ensures) in (r .0, (r .1, refl))
+    let put = c .before .before in
+    let r = whole (put .before .before .if1 .left) (put .put-bytes .ensures) in (r .0, (r .1, refl))
 
 pub put-whole-spec : {M : Type 1} → statement M
 put-whole-spec = tie.close (tie.spec returns put-bytes-requires same-length returns-2)
