@@ -8,7 +8,7 @@ use Rattle.chart_command.specs.declared.Command.{Command}
 use Rattle.chart_command.specs.declared.Decoded.{Decoded}
 use Rattle.chart_command.specs.declared.Decoded.the-variants.{CutShort, Unknown}
 use Rattle.chart_command.specs.Bytes.{headingByte, messageByte, plainByte, clockTermByte, differenceTermByte}
-use Rattle.chart_command.specs.Bytes.{hotByte, resetsByte, mainByte, endByte}
+use Rattle.chart_command.specs.Bytes.{hotByte, restByte, resetsByte, mainByte, endByte}
 use Rattle.chart_command.specs.Command.{operands, decodeByte, decodeAt}
 
 module _ (s : List ℕ) (at : ℕ) (P : Decoded → Type 0) (cut : P CutShort) (unknown : P Unknown)
@@ -25,9 +25,10 @@ module _ (s : List ℕ) (at : ℕ) (P : Decoded → Type 0) (cut : P CutShort) (
       (pick (eqb b clockTermByte) _ _ (taken 6 _)
       (pick (eqb b differenceTermByte) _ _ (taken 7 _)
       (pick (eqb b hotByte) _ _ (taken 0 _)
+      (pick (eqb b restByte) _ _ (taken 0 _)
       (pick (eqb b resetsByte) _ _ (taken 1 _)
       (pick (eqb b mainByte) _ _ (taken 0 _)
-      (pick (eqb b endByte) _ _ (taken 0 _) unknown))))))))
+      (pick (eqb b endByte) _ _ (taken 0 _) unknown)))))))))
 
   -- nothing there, an unknown byte, or some command with its operands
   pub decode-cases : P (decodeAt s at)

@@ -1,4 +1,4 @@
--- B1: the bytes of the nine commands.
+-- B1: the bytes of the ten commands.
 use Prim.Native.Nat.{ℕ}
 
 abbrev pub headingByte : ℕ
@@ -18,6 +18,9 @@ differenceTermByte = 0x31
 
 abbrev pub hotByte : ℕ
 hotByte = 0x32
+
+abbrev pub restByte : ℕ
+restByte = 0x33
 
 abbrev pub resetsByte : ℕ
 resetsByte = 0x40

@@ -6,10 +6,10 @@ use lib.ListN.{getD, length}
 use lib.Dec.{eqb, leb}
 use Rattle.wire.specs.Bytes.{word16, word32}
 use Rattle.chart_command.specs.Bytes.{headingByte, messageByte, plainByte, clockTermByte, differenceTermByte}
-use Rattle.chart_command.specs.Bytes.{hotByte, resetsByte, mainByte, endByte}
+use Rattle.chart_command.specs.Bytes.{hotByte, restByte, resetsByte, mainByte, endByte}
 use Rattle.chart_command.specs.declared.Command.{Command}
 use Rattle.chart_command.specs.declared.Command.the-variants.{Heading, Message, Plain, ClockTerm, DifferenceTerm}
-use Rattle.chart_command.specs.declared.Command.the-variants.{Hot, Resets, Main, End}
+use Rattle.chart_command.specs.declared.Command.the-variants.{Hot, Rest, Resets, Main, End}
 use Rattle.chart_command.specs.declared.Decoded.{Decoded}
 use Rattle.chart_command.specs.declared.Decoded.the-variants.{CutShort, Unknown, Known}
 
@@ -17,7 +17,7 @@ use Rattle.chart_command.specs.declared.Decoded.the-variants.{CutShort, 
 abbrev pub operands : List ℕ → ℕ → ℕ → Command → Decoded
 operands s at n c = cond (leb (length s - at) n) CutShort (Known c (at + 1 + n))
 
--- B1: the byte picks the operands and their meaning; or R4: 2, none of the nine bytes
+-- B1: the byte picks the operands and their meaning; or R4: 2, none of the ten bytes
 abbrev pub decodeByte : List ℕ → ℕ → ℕ → Decoded
 decodeByte s at b =
     cond (eqb b headingByte) (operands s at 2 (Heading (getD s (at + 1) 0) (getD s (at + 2) 0)))
@@ -28,10 +28,11 @@ decodeByte s at b =
     (cond (eqb b differenceTermByte)
     (operands s at 7 (DifferenceTerm (getD s (at + 1) 0) (getD s (at + 2) 0) (getD s (at + 3) 0) (word32 s (at + 4))))
     (cond (eqb b hotByte) (operands s at 0 Hot)
+    (cond (eqb b restByte) (operands s at 0 Rest)
     (cond (eqb b resetsByte) (operands s at 1 (Resets (getD s (at + 1) 0)))
     (cond (eqb b mainByte) (operands s at 0 Main)
     (cond (eqb b endByte) (operands s at 0 End)
-    Unknown))))))))
+    Unknown)))))))))
 
 -- The command at an offset; or R4: 1, the bytes are used up
 abbrev pub decodeAt : List ℕ → ℕ → Decoded

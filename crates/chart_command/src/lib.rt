@@ -16,6 +16,7 @@ pub enum Command {
     // first clock, second clock, relation, n
     DifferenceTerm(u8, u8, u8, u32),
     Hot,
+    Rest,
     // clocks
     Resets(u8),
     Main,
@@ -40,6 +41,8 @@ pub const CLOCK_TERM: u8 = 0x30;
 pub const DIFFERENCE_TERM: u8 = 0x31;
 
 pub const HOT: u8 = 0x32;
+
+pub const REST: u8 = 0x33;
 
 pub const RESETS: u8 = 0x40;
 
@@ -82,6 +85,7 @@ fn decode_byte(s: &[u8], at: usize) -> Decoded
             with_operands(s, at, 7, Command::DifferenceTerm(a, b, relation, n))
         }
         HOT => with_operands(s, at, 0, Command::Hot),
+        REST => with_operands(s, at, 0, Command::Rest),
         RESETS => with_operands(s, at, 1, Command::Resets(a)),
         MAIN => with_operands(s, at, 0, Command::Main),
         END => with_operands(s, at, 0, Command::End),

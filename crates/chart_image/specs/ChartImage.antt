@@ -56,12 +56,15 @@ regionIn s at =
       count = getD s (at + 7) 0;
       hot = eqb (getD s (at + 5) 0) 1;
       resets = getD s (at + 6) 0;
+      rest = eqb (getD s (at + 8) 0) 1;
     }
 
 abbrev pub headFits : List ℕ → ℕ → Bool
 headFits s at =
     leb (getD s at 0) 1
-    && (leb (getD s (at + 5) 0) 1 && (eqb (word16 s (at + 8)) 0 && (eqb (getD s at 0) 1 || eqb (word16 s (at + 3)) 0)))
+    && (leb (getD s (at + 5) 0) 1
+    && (leb (getD s (at + 8) 0) 1
+    && (eqb (getD s (at + 9) 0) 0 && (eqb (getD s at 0) 1 || eqb (word16 s (at + 3)) 0))))
 
 abbrev pub regionFits : List ℕ → ℕ → Bool
 regionFits s at =

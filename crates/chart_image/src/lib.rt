@@ -95,6 +95,7 @@ fn region_at(s: &[u8], at: usize) -> Region
         count: wire::byte_at(s, at + 7),
         hot: wire::byte_at(s, at + 5) == 1,
         resets: wire::byte_at(s, at + 6),
+        rest: wire::byte_at(s, at + 8) == 1,
     }
 }
 
@@ -105,8 +106,10 @@ fn head_fits(s: &[u8], at: usize) -> bool
 {
     let kind = wire::byte_at(s, at);
     let whole = (kind == 1) | (wire::word16_at(s, at + 3) == 0);
-    let empty = wire::word16_at(s, at + 8) == 0;
-    (kind <= MOST_KIND) & ((wire::byte_at(s, at + 5) <= 1) & (empty & whole))
+    let hot = wire::byte_at(s, at + 5) <= 1;
+    let rest = wire::byte_at(s, at + 8) <= 1;
+    let empty = wire::byte_at(s, at + 9) == 0;
+    (kind <= MOST_KIND) & (hot & (rest & (empty & whole)))
 }
 
 // Each byte of the region has a meaning.

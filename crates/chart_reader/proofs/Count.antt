@@ -10,7 +10,7 @@ use lib.ListN.{length}
 use lib.Dec.{leb, ltb}
 use Rattle.chart_command.specs.declared.Command.{Command}
 use Rattle.chart_command.specs.declared.Command.the-variants.{Heading, Message, Plain, ClockTerm, DifferenceTerm, Hot}
-use Rattle.chart_command.specs.declared.Command.the-variants.{Resets, Main, End}
+use Rattle.chart_command.specs.declared.Command.the-variants.{Rest, Resets, Main, End}
 use Rattle.chart_command.specs.declared.Decoded.the-variants as decoded
 use Rattle.chart_command.proofs.Laws.{decode-cases}
 use Rattle.chart_step.specs.declared.Reading.{Reading}
@@ -37,6 +37,7 @@ module _ (at size next : ℕ) (h : at < next) (k : next ≤ size) where
   outcome-past (ClockTerm k′ e n) = (h, k)
   outcome-past (DifferenceTerm a b e n) = (h, k)
   outcome-past Hot = (h, k)
+  outcome-past Rest = (h, k)
   outcome-past (Resets k′) = (h, k)
   outcome-past Main = (h, k)
   outcome-past End = tt

@@ -1,4 +1,4 @@
--- Refusals have numbers from 1 to 11, each its own. Assumes nothing.
+-- Refusals have numbers from 1 to 11 and 13, each its own. Assumes nothing.
 use mathlib.Core.Path.{_≡_, refl, sym, ap, _∙_}
 use mathlib.Core.Bool.{cond}
 use Prim.Native.Nat.{ℕ, _≤_}
@@ -6,8 +6,9 @@ use native.Mathlib.Omega.{arith}
 use lib.Dec.{eqb}
 use Rattle.chart_step.specs.declared.Refusal.{Refusal}
 use Rattle.chart_step.specs.declared.Refusal.the-variants.{CutShort, Unknown, Misplaced, Outside, Excess, Bare}
-use Rattle.chart_step.specs.declared.Refusal.the-variants.{HotAlone, Early, Unanchored, Mainless, Trailing}
-use Rattle.chart_step.specs.Refusal.{refusalNumber}
+use Rattle.chart_step.specs.declared.Refusal.the-variants.{HotAlone, Early, RestInPrechart, Unanchored, Mainless}
+use Rattle.chart_step.specs.declared.Refusal.the-variants.{Trailing}
+use Rattle.chart_step.specs.Refusal.{refusalNumber, mostRefusal}
 
 -- none has the number 0
 pub refusal-nonzero : (f : Refusal) → refusalNumber f ≡ 0 → ⊥
@@ -19,12 +20,13 @@ refusal-nonzero Excess e = omega arith
 refusal-nonzero Bare e = omega arith
 refusal-nonzero HotAlone e = omega arith
 refusal-nonzero Early e = omega arith
+refusal-nonzero RestInPrechart e = omega arith
 refusal-nonzero Unanchored e = omega arith
 refusal-nonzero Mainless e = omega arith
 refusal-nonzero Trailing e = omega arith
 
--- and none a number above 11
-pub refusal-most : (f : Refusal) → refusalNumber f ≤ 11
+-- and none a higher one than the highest
+pub refusal-most : (f : Refusal) → refusalNumber f ≤ mostRefusal
 refusal-most CutShort = omega arith
 refusal-most Unknown = omega arith
 refusal-most Misplaced = omega arith
@@ -33,6 +35,7 @@ refusal-most Excess = omega arith
 refusal-most Bare = omega arith
 refusal-most HotAlone = omega arith
 refusal-most Early = omega arith
+refusal-most RestInPrechart = omega arith
 refusal-most Unanchored = omega arith
 refusal-most Mainless = omega arith
 refusal-most Trailing = omega arith
@@ -43,7 +46,7 @@ refusalWith n =
     cond (eqb n 1) CutShort
     (cond (eqb n 2) Unknown (cond (eqb n 3) Misplaced (cond (eqb n 4) Outside (cond (eqb n 5) Excess
     (cond (eqb n 6) Bare (cond (eqb n 7) HotAlone (cond (eqb n 8) Early (cond (eqb n 9) Unanchored
-    (cond (eqb n 10) Mainless Trailing)))))))))
+    (cond (eqb n 10) Mainless (cond (eqb n 11) Trailing RestInPrechart))))))))))
 
 with-number : (f : Refusal) → refusalWith (refusalNumber f) ≡ f
 unfolding refusalWith
@@ -55,6 +58,7 @@ with-number Excess = refl
 with-number Bare = refl
 with-number HotAlone = refl
 with-number Early = refl
+with-number RestInPrechart = refl
 with-number Unanchored = refl
 with-number Mainless = refl
 with-number Trailing = refl

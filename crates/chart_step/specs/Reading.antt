@@ -17,11 +17,11 @@ use Rattle.model.specs.declared.Relation.the-variants.{Less, AtMost, Equal, AtL
 use Rattle.model.specs.Chart.{leastLines, mostLines, mostClocks, mostRegions, mostTerms, zeroTerm, isBare, touched}
 use Rattle.chart_command.specs.declared.Command.{Command}
 use Rattle.chart_command.specs.declared.Command.the-variants.{Heading, Message, Plain, ClockTerm, DifferenceTerm, Hot}
-use Rattle.chart_command.specs.declared.Command.the-variants.{Resets, Main, End}
+use Rattle.chart_command.specs.declared.Command.the-variants.{Rest, Resets, Main, End}
 use Rattle.chart_step.specs.declared.Refusal.{Refusal}
 use Rattle.chart_step.specs.declared.Refusal.the-variants.{Misplaced, Outside, Excess, Bare}
-use Rattle.chart_step.specs.declared.Refusal.the-variants.{HotAlone, Early, Unanchored, Mainless}
-use Rattle.chart_step.specs.declared.Refusal.the-variants.{Trailing}
+use Rattle.chart_step.specs.declared.Refusal.the-variants.{HotAlone, Early, RestInPrechart, Unanchored}
+use Rattle.chart_step.specs.declared.Refusal.the-variants.{Mainless, Trailing}
 use Rattle.chart_step.specs.declared.Reading.{Reading}
 use Rattle.chart_step.specs.declared.Fault.{Fault}
 use Rattle.chart_step.specs.declared.Fault.the-variants.{Nothing, Found}
@@ -63,6 +63,7 @@ isMisplaced r (Plain l) = not (r .headed)
 isMisplaced r (ClockTerm k e n) = not (r .started)
 isMisplaced r (DifferenceTerm a b e n) = not (r .started)
 isMisplaced r Hot = not (r .started) || r .region .hot
+isMisplaced r Rest = not (r .started) || r .region .rest
 isMisplaced r (Resets k) = not (r .started) || not (eqb (r .region .resets) 0)
 isMisplaced r Main = not (r .headed) || r .main
 isMisplaced r End = not (r .headed)
@@ -81,6 +82,7 @@ closes r (Plain l) = closingFault r
 closes r (ClockTerm k e n) = Nothing
 closes r (DifferenceTerm a b e n) = Nothing
 closes r Hot = Nothing
+closes r Rest = Nothing
 closes r (Resets k) = Nothing
 closes r Main = closingFault r
 closes r End = closingFault r
@@ -93,6 +95,7 @@ isOutside c (Plain l) = eqb l 0 || not (within (c .lines) l)
 isOutside c (ClockTerm k e n) = leb (c .clocks) k || leb relationCount e
 isOutside c (DifferenceTerm a b e n) = leb (c .clocks) a || (leb (c .clocks) b || (eqb a b || leb relationCount e))
 isOutside c Hot = false
+isOutside c Rest = false
 isOutside c (Resets k) = eqb k 0 || not (within (c .clocks) k)
 isOutside c Main = false
 isOutside c End = false
@@ -105,6 +108,7 @@ isExcess r (Plain l) = leb mostRegions (closed r .count)
 isExcess r (ClockTerm k e n) = leb mostTerms (r .region .count)
 isExcess r (DifferenceTerm a b e n) = leb mostTerms (r .region .count)
 isExcess r Hot = false
+isExcess r Rest = false
 isExcess r (Resets k) = false
 isExcess r Main = false
 isExcess r End = false
@@ -117,9 +121,23 @@ isEarly r (Plain l) = false
 isEarly r (ClockTerm k e n) = false
 isEarly r (DifferenceTerm a b e n) = false
 isEarly r Hot = not (r .main)
+isEarly r Rest = false
 isEarly r (Resets k) = false
 isEarly r Main = false
 isEarly r End = false
+
+-- R4: 13, a mark before the 50
+abbrev pub isResting : Reading → Command → Bool
+isResting r (Heading l k) = false
+isResting r (Message s d l) = false
+isResting r (Plain l) = false
+isResting r (ClockTerm k e n) = false
+isResting r (DifferenceTerm a b e n) = false
+isResting r Hot = false
+isResting r Rest = not (r .main)
+isResting r (Resets k) = false
+isResting r Main = false
+isResting r End = false
 
 -- R8: 9, a plain region of the opening half, of whose lines no earlier region touches one
 abbrev pub isUnanchored : Reading → Command → Bool
@@ -129,6 +147,7 @@ isUnanchored r (Plain l) = (not (r .main) || eqb (r .chart .prechart) 0) && eqb 
 isUnanchored r (ClockTerm k e n) = false
 isUnanchored r (DifferenceTerm a b e n) = false
 isUnanchored r Hot = false
+isUnanchored r Rest = false
 isUnanchored r (Resets k) = false
 isUnanchored r Main = false
 isUnanchored r End = false
@@ -141,6 +160,7 @@ isEnd (Plain l) = false
 isEnd (ClockTerm k e n) = false
 isEnd (DifferenceTerm a b e n) = false
 isEnd Hot = false
+isEnd Rest = false
 isEnd (Resets k) = false
 isEnd Main = false
 isEnd End = true
@@ -155,21 +175,22 @@ isTrailing more c = isEnd c && more
 
 -- R4: the first fault that the checks of one command find. A closing fault has its own offset; 11 is at the byte after
 -- the command, every other fault at the command itself.
-abbrev pub firstFault : Bool → Fault → Bool → Bool → Bool → Bool → Bool → Bool → ℕ → ℕ → Fault
-firstFault misplaced closing outside excess early unanchored mainless trailing at next =
+abbrev pub firstFault : Bool → Fault → Bool → Bool → Bool → Bool → Bool → Bool → Bool → ℕ → ℕ → Fault
+firstFault misplaced closing outside excess early resting unanchored mainless trailing at next =
     orElse (when misplaced Misplaced at)
     (orElse closing
     (orElse (when outside Outside at)
     (orElse (when excess Excess at)
     (orElse (when early Early at)
+    (orElse (when resting RestInPrechart at)
     (orElse (when unanchored Unanchored at)
-    (orElse (when mainless Mainless at) (when trailing Trailing next)))))))
+    (orElse (when mainless Mainless at) (when trailing Trailing next))))))))
 
 -- The fault of the command c at `at`; `next` is the offset just after it, and `more` says whether bytes follow.
 abbrev pub faultOf : Reading → ℕ → ℕ → Bool → Command → Fault
 faultOf r at next more c =
-    firstFault (isMisplaced r c) (closes r c) (isOutside (r .chart) c) (isExcess r c) (isEarly r c) (isUnanchored r c)
-    (isMainless r c) (isTrailing more c) at next
+    firstFault (isMisplaced r c) (closes r c) (isOutside (r .chart) c) (isExcess r c) (isEarly r c) (isResting r c)
+    (isUnanchored r c) (isMainless r c) (isTrailing more c) at next
 
 abbrev pub withHeading : Reading → ℕ → ℕ → Reading
 withHeading r l k =
@@ -199,7 +220,15 @@ begunWith r at e =
       started = true;
       start = at;
       touched = union (r .touched) (touched e);
-      region = record { event = e; terms = replicate mostTerms zeroTerm; count = 0; hot = false; resets = 0 };
+      region =
+          record {
+            event = e;
+            terms = replicate mostTerms zeroTerm;
+            count = 0;
+            hot = false;
+            resets = 0;
+            rest = false;
+          };
       chart = closed r;
     }
 
@@ -229,6 +258,7 @@ withTerm r left e n =
       count = r .region .count + 1;
       hot = r .region .hot;
       resets = r .region .resets;
+      rest = r .region .rest;
     }))
     r
 
@@ -241,6 +271,19 @@ withHot r =
       count = r .region .count;
       hot = true;
       resets = r .region .resets;
+      rest = r .region .rest;
+    })
+
+abbrev pub withRest : Reading → Reading
+withRest r =
+    withRegion r
+    (record {
+      event = r .region .event;
+      terms = r .region .terms;
+      count = r .region .count;
+      hot = r .region .hot;
+      resets = r .region .resets;
+      rest = true;
     })
 
 abbrev pub withResets : Reading → ℕ → Reading
@@ -252,6 +295,7 @@ withResets r k =
       count = r .region .count;
       hot = r .region .hot;
       resets = k;
+      rest = r .region .rest;
     })
 
 -- the region last started is closed, and no other starts
@@ -286,6 +330,7 @@ applied r at (Plain l) = begunWith r at (event.Plain l)
 applied r at (ClockTerm k e n) = withTerm r (Clock k) e n
 applied r at (DifferenceTerm a b e n) = withTerm r (Difference a b) e n
 applied r at Hot = withHot r
+applied r at Rest = withRest r
 applied r at (Resets k) = withResets r k
 applied r at Main = withMain r
 applied r at End = withChart r (r .main) (closed r)

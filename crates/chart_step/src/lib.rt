@@ -18,15 +18,15 @@ ghost use lib.Dec.{leb};
 ghost use Rattle.model.specs.Chart.{mostRegions, mostTerms};
 ghost use Rattle.chart_step.specs.Refusal.{refusalNumber};
 ghost use Rattle.chart_step.specs.Reading.{when, orElse, closed, closingFault, firstFault, withHeading};
-ghost use Rattle.chart_step.specs.Reading.{begunWith, relationOf, withTerm, withHot, withResets, withMain};
-ghost use Rattle.chart_step.specs.Reading.{withChart, decided, stepOf};
+ghost use Rattle.chart_step.specs.Reading.{begunWith, relationOf, withTerm, withHot, withRest, withResets};
+ghost use Rattle.chart_step.specs.Reading.{withMain, withChart, decided, stepOf};
 
 const RELATIONS: u8 = 5;
 
-// Why a chart is refused (R4), from 1 to 11: too few bytes are left; no command has the byte; a command is out of
-// place; an operand is out of its range; there is a region or a term too many; a plain region lacks both term and
-// reset; a hot region has no term; a region of the prechart is hot; no region is above a plain one of the opening half;
-// the main chart has no region; bytes follow the end.
+// Why a chart is refused (R4), from 1 to 11, and 13 after 8: too few bytes are left; no command has the byte; a command
+// is out of place; an operand is out of its range; there is a region or a term too many; a plain region lacks both term
+// and reset; a hot region has no term; a region of the prechart is hot; one of the prechart is marked as a place to
+// rest; no region is above a plain one of the opening half; the main chart has no region; bytes follow the end.
 pub enum Refusal {
     CutShort,
     Unknown,
@@ -36,6 +36,7 @@ pub enum Refusal {
     Bare,
     HotAlone,
     Early,
+    RestInPrechart,
     Unanchored,
     Mainless,
     Trailing,
@@ -83,6 +84,7 @@ pub fn number(r: Refusal) -> u8
         Refusal::Bare => 6,
         Refusal::HotAlone => 7,
         Refusal::Early => 8,
+        Refusal::RestInPrechart => 13,
         Refusal::Unanchored => 9,
         Refusal::Mainless => 10,
         Refusal::Trailing => 11,
@@ -115,6 +117,7 @@ struct Checks {
     outside: bool,
     excess: bool,
     early: bool,
+    resting: bool,
     unanchored: bool,
     mainless: bool,
     trailing: bool,
@@ -127,6 +130,7 @@ fn no_fault() -> Checks
           outside = false;
           excess = false;
           early = false;
+          resting = false;
           unanchored = false;
           mainless = false;
           trailing = false;
@@ -137,6 +141,7 @@ fn no_fault() -> Checks
         outside: false,
         excess: false,
         early: false,
+        resting: false,
         unanchored: false,
         mainless: false,
         trailing: false,
@@ -146,12 +151,13 @@ fn no_fault() -> Checks
 // The checks of a command in the order of R4, put together from the last to the first.
 fn first_fault(closing: Fault, k: Checks, at: usize, next: usize) -> Fault
     ensures { λ o. ⌜ o
-        ≡ firstFault (k .misplaced) closing (k .outside) (k .excess) (k .early) (k .unanchored) (k .mainless)
-        (k .trailing) at next ⌝ }
+        ≡ firstFault (k .misplaced) closing (k .outside) (k .excess) (k .early) (k .resting) (k .unanchored)
+        (k .mainless) (k .trailing) at next ⌝ }
 {
     let f = when(k.trailing, Refusal::Trailing, next);
     let f = or_else(when(k.mainless, Refusal::Mainless, at), f);
     let f = or_else(when(k.unanchored, Refusal::Unanchored, at), f);
+    let f = or_else(when(k.resting, Refusal::RestInPrechart, at), f);
     let f = or_else(when(k.early, Refusal::Early, at), f);
     let f = or_else(when(k.excess, Refusal::Excess, at), f);
     let f = or_else(when(k.outside, Refusal::Outside, at), f);
@@ -175,8 +181,8 @@ fn decide(f: Fault, r: Reading, s: Step) -> Step
 // The first fault that the checks found, else the reading that the command leaves.
 fn answer(r: Reading, closing: Fault, k: Checks, at: usize, next: usize, left: Reading) -> Step
     ensures { λ o. ⌜ o
-        ≡ decided (firstFault (k .misplaced) closing (k .outside) (k .excess) (k .early) (k .unanchored) (k .mainless)
-        (k .trailing) at next) r (record { outcome = Outcome.Going next; reading = left }) ⌝ }
+        ≡ decided (firstFault (k .misplaced) closing (k .outside) (k .excess) (k .early) (k .resting) (k .unanchored)
+        (k .mainless) (k .trailing) at next) r (record { outcome = Outcome.Going next; reading = left }) ⌝ }
 {
     let f = first_fault(closing, k, at, next);
     decide(
@@ -255,6 +261,7 @@ fn begun(r: Reading, at: usize, e: Event) -> Reading
         count: 0,
         hot: false,
         resets: 0,
+        rest: false,
     };
     Reading {
         headed: r.headed,
@@ -277,7 +284,7 @@ fn region_step(
 ) -> Step
     ensures { λ o. ⌜ o
         ≡ decided (firstFault (not (r .headed)) (closingFault r) outside (leb mostRegions (closed r .count)) false
-        unanchored false false at next) r (record { outcome = Outcome.Going next; reading = begunWith r at e }) ⌝ }
+        false unanchored false false at next) r (record { outcome = Outcome.Going next; reading = begunWith r at e }) ⌝ }
 {
     let chart = close(r);
     let mut k = no_fault();
@@ -354,7 +361,7 @@ fn term_step(
 ) -> Step
     ensures { λ o. ⌜ o
         ≡ decided (firstFault (not (r .started)) Fault.Nothing outside (leb mostTerms (r .region .count)) false false
-        false false at next) r (record { outcome = Outcome.Going next; reading = withTerm r left relation n }) ⌝ }
+        false false false at next) r (record { outcome = Outcome.Going next; reading = withTerm r left relation n }) ⌝ }
 {
     let mut k = no_fault();
     k.misplaced = !r.started;
@@ -409,6 +416,24 @@ fn hot_step(r: Reading, at: usize, next: usize) -> Step
     k.misplaced = !r.started | r.region.hot;
     k.early = !r.main;
     answer(r, Fault::Nothing, k, at, next, with_hot(r))
+}
+
+// 33: the region is marked as a place to rest.
+fn with_rest(r: Reading) -> Reading
+    ensures { λ o. ⌜ o ≡ withRest r ⌝ }
+{
+    let mut n = r;
+    n.region.rest = true;
+    n
+}
+
+fn rest_step(r: Reading, at: usize, next: usize) -> Step
+    ensures { λ o. ⌜ o ≡ stepOf r at next false Command.Rest ⌝ }
+{
+    let mut k = no_fault();
+    k.misplaced = !r.started | r.region.rest;
+    k.resting = !r.main;
+    answer(r, Fault::Nothing, k, at, next, with_rest(r))
 }
 
 // 40: resets.
@@ -489,6 +514,7 @@ pub fn take(r: Reading, at: usize, next: usize, more: bool, c: Command) -> Step
         Command::ClockTerm(k, e, n) => clock_term_step(r, at, next, k, e, n),
         Command::DifferenceTerm(a, b, e, n) => difference_term_step(r, at, next, a, b, e, n),
         Command::Hot => hot_step(r, at, next),
+        Command::Rest => rest_step(r, at, next),
         Command::Resets(k) => resets_step(r, at, next, k),
         Command::Main => main_chart_step(r, at, next),
         Command::End => end_step(r, at, next, more),

@@ -13,11 +13,11 @@ use lib.Seq.{getD-drop, drop-drop}
 use Rattle.wire.specs.Bytes.{word16, word32}
 use Rattle.chart_command.specs.declared.Command.{Command}
 use Rattle.chart_command.specs.declared.Command.the-variants.{Heading, Message, Plain, ClockTerm, DifferenceTerm, Hot}
-use Rattle.chart_command.specs.declared.Command.the-variants.{Resets, Main, End}
+use Rattle.chart_command.specs.declared.Command.the-variants.{Rest, Resets, Main, End}
 use Rattle.chart_command.specs.declared.Decoded.{Decoded}
 use Rattle.chart_command.specs.declared.Decoded.the-variants as decoded
 use Rattle.chart_command.specs.Bytes.{headingByte, messageByte, plainByte, clockTermByte, differenceTermByte, hotByte}
-use Rattle.chart_command.specs.Bytes.{resetsByte, mainByte, endByte}
+use Rattle.chart_command.specs.Bytes.{restByte, resetsByte, mainByte, endByte}
 use Rattle.chart_command.specs.Command.{decodeAt, decodeByte, operands}
 use Rattle.chart_step.specs.declared.Reading.{Reading}
 use Rattle.chart_step.specs.declared.Step.{Step}
@@ -161,6 +161,9 @@ module _ (s : List ℕ) (x : Said) where
 
     pub on-hot : drop at s ≡ hotByte ∷ rest → Onward Hot
     on-hot h f = on at hotByte rest h r _ rest 0 Hot Hot refl refl (omega arith) refl refl f refl
+
+    pub on-rest : drop at s ≡ restByte ∷ rest → Onward Rest
+    on-rest h f = on at restByte rest h r _ rest 0 Rest Rest refl refl (omega arith) refl refl f refl
 
     pub on-resets : (k : ℕ) → drop at s ≡ resetsByte ∷ k ∷ rest → Onward (Resets k)
     on-resets k h f =

@@ -41,6 +41,7 @@ pub record Fits (lines clocks : ℕ) (main opening : Bool) (before : ℕ) (g : R
   pub resets : g .resets < 2 ^ clocks
   pub bare : isBare g ≡ false
   pub hot : (not (g .hot) || (main && not (eqb (g .count) 0))) ≡ true
+  pub rest : (not (g .rest) || main) ≡ true
 
 pub record WellFormed (c : Chart) : Type 0 where
   pub low : 2 ≤ c .lines
@@ -57,8 +58,9 @@ withRegions c n gs = record { lines = c .lines; clocks = c .clocks; prechart = c
 
 -- records are equal by their fields
 pub same-region : (g h : Region) → g .event ≡ h .event → g .terms ≡ h .terms → g .count ≡ h .count → g .hot ≡ h .hot
-    → g .resets ≡ h .resets → g ≡ h
-same-region g h a b k d e = λ i. record { event = a i; terms = b i; count = k i; hot = d i; resets = e i }
+    → g .resets ≡ h .resets → g .rest ≡ h .rest → g ≡ h
+same-region g h a b k d e f =
+    λ i. record { event = a i; terms = b i; count = k i; hot = d i; resets = e i; rest = f i }
 
 pub same-chart : (c d : Chart) → c .lines ≡ d .lines → c .clocks ≡ d .clocks → c .prechart ≡ d .prechart
     → c .count ≡ d .count
@@ -120,12 +122,14 @@ module _ (lines clocks : ℕ) (main opening : Bool) (before : ℕ) (g : Region) 
       let b = both _ _ (a .1) in
       let d = both _ _ (b .1) in
       let f = both _ _ (d .1) in
+      let h = both _ _ (f .1) in
       record {
         event = a .0;
         terms = terms-of clocks g (b .0);
         resets = within-true _ _ (d .0);
         bare = not-true _ (f .0);
-        hot = f .1;
+        hot = h .0;
+        rest = h .1;
       }
 
   pub of-fits : Fits lines clocks main opening before g → regionFits lines clocks main opening before g ≡ true
@@ -133,7 +137,7 @@ module _ (lines clocks : ℕ) (main opening : Bool) (before : ℕ) (g : Region) 
   of-fits f =
       and-both (f .event)
       (and-both (of-terms clocks g (f .terms))
-      (and-both (lt-within _ _ (f .resets)) (and-both (ap not (f .bare)) (f .hot))))
+      (and-both (lt-within _ _ (f .resets)) (and-both (ap not (f .bare)) (and-both (f .hot) (f .rest)))))
 
 -- an unused region is the region of zeros
 pub zero-region : (g : Region) → length (g .terms) ≡ 4 → isZeroRegion g ≡ true → g ≡ zeroRegion
@@ -143,13 +147,14 @@ zero-region g l e =
     let b = both _ _ (a .1) in
     let d = both _ _ (b .1) in
     let f = both _ _ (d .1) in
-    let t = terms-of 0 g (f .1) in
+    let h = both _ _ (f .1) in
+    let t = terms-of 0 g (h .1) in
     let n : g .count ≡ 0 = eqb-true _ _ (b .0) in
     let ts : g .terms ≡ replicate 4 zeroTerm =
     ext-getD zeroTerm (g .terms) (replicate 4 zeroTerm) l
-    (λ j h. t .unused j (omega arith) (omega arith) ∙ sym (getD-replicate 4 j zeroTerm zeroTerm (omega arith))) in
+    (λ j k. t .unused j (omega arith) (omega arith) ∙ sym (getD-replicate 4 j zeroTerm zeroTerm (omega arith))) in
     same-region g zeroRegion (zero-event (g .event) (a .0)) ts n (not-true (g .hot) (d .0))
-    (eqb-true (g .resets) 0 (f .0))
+    (eqb-true (g .resets) 0 (f .0)) (not-true (g .rest) (h .0))
 
 pub zero-is-zero : isZeroRegion zeroRegion ≡ true
 unfolding isZeroRegion isZeroTerm termsFit termPlaced

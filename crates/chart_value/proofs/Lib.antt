@@ -8,3 +8,4 @@ pub mod Exact
 pub mod Order
 pub mod Shown
 pub mod Guards
+pub mod Marks

@@ -1,6 +1,6 @@
 -- Reading the bytes of a well-formed chart gives the chart. The reader is followed along the writer: from an offset
 -- where the writer's bytes of something stand, reading goes on after them in the state that has it. This is shown of a
--- term, of hot, of resets, of a region, of all regions, and at last of the end. Assumes nothing.
+-- term, of hot, of resets, of the mark, of a region, of all regions, and at last of the end. Assumes nothing.
 use mathlib.Core.Path.{_≡_, refl, sym, ap, subst, _∙_}
 use mathlib.Core.Bool.{Bool, true, false, cond, not, _&&_, _||_}
 use mathlib.Core.List.{List, [], _∷_}
@@ -24,7 +24,7 @@ use Rattle.model.specs.declared.Left.the-variants.{Clock, Difference}
 use Rattle.model.specs.declared.Relation.{Relation}
 use Rattle.model.specs.declared.Relation.the-variants.{Less, AtMost, Equal, AtLeast, More}
 use Rattle.model.specs.Chart.{zeroTerm, zeroRegion, absentRegion, regionAt, termAt, touched}
-use Rattle.chart_command.specs.Bytes.{resetsByte, mainByte, endByte}
+use Rattle.chart_command.specs.Bytes.{hotByte, restByte, resetsByte, mainByte, endByte}
 use Rattle.chart_command.specs.declared.Command.the-variants.{Message, Plain}
 use Rattle.chart_step.specs.declared.Reading.{Reading}
 use Rattle.chart_step.specs.declared.Fault.the-variants.{Nothing}
@@ -35,14 +35,14 @@ use Rattle.chart_reader.specs.Read.{readChart, startReading}
 use Rattle.chart_reader.specs.Said.{Said, acceptedAs}
 use Rattle.chart_value.specs.WellFormed.{wellFormed, eventFits, leftFits, touchedBefore}
 use Rattle.chart_value.specs.Writer.{chartBytes, regionsBytes, regionBytes, eventBytes, termsBytes, leftBytes}
-use Rattle.chart_value.specs.Writer.{hotBytes, relationByte, four}
+use Rattle.chart_value.specs.Writer.{flagBytes, relationByte, four}
 use Rattle.bitset.specs.Set.{union, within}
 use Rattle.base.proofs.Bools.{both, and-both, or-neither}
 use Rattle.bitset.proofs.Laws.{lt-within}
 use Rattle.chart_value.proofs.Facts.{Shape, Terms, Fits, WellFormed, wf-of, fits-of, zero-region, same-region}
 use Rattle.chart_value.proofs.Facts.{same-chart, withRegions}
 use Rattle.chart_value.proofs.Bytes.{Gives, gives-chart, on-heading, on-message, on-plain, on-clock-term}
-use Rattle.chart_value.proofs.Bytes.{on-difference-term, on-hot, on-resets, on-main, on-end}
+use Rattle.chart_value.proofs.Bytes.{on-difference-term, on-hot, on-rest, on-resets, on-main, on-end}
 
 -- the first k elements of a list, put one by one into n copies of z
 module _ {A : Type 0} (z d : A) (n : ℕ) (xs : List A) where
@@ -97,9 +97,16 @@ relation-small AtLeast = refl
 relation-small More = refl
 
 -- the region read as far as its first j terms
-abbrev partly : Region → ℕ → Bool → ℕ → Region
-partly g j hot resets =
-    record { event = g .event; terms = firstOf zeroTerm zeroTerm 4 (g .terms) j; count = j; hot = hot; resets = resets }
+abbrev partly : Region → ℕ → Bool → ℕ → Bool → Region
+partly g j hot resets rest =
+    record {
+      event = g .event;
+      terms = firstOf zeroTerm zeroTerm 4 (g .terms) j;
+      count = j;
+      hot = hot;
+      resets = resets;
+      rest = rest;
+    }
 
 -- the state after r in which the region g is the last started
 abbrev busy : Reading → ℕ → ℕ → Region → Reading
@@ -119,12 +126,12 @@ module _ (s : List ℕ) (x : Said) (clocks : ℕ) (r : Reading) (start l : ℕ) 
     (g : Region) where
   -- adding term j in its place
   added : (j : ℕ) → j < 4 → (left : Left) → termAt g j .left ≡ left
-      → withTerm (busy r start l (partly g j false 0)) left (relationByte (termAt g j .relation)) (termAt g j .n)
-      ≡ busy r start l (partly g (suc j) false 0)
+      → withTerm (busy r start l (partly g j false 0 false)) left (relationByte (termAt g j .relation)) (termAt g j .n)
+      ≡ busy r start l (partly g (suc j) false 0 false)
   unfolding firstOf
   added j h left e =
       ap (λ (b : Bool). cond b (busy r start l (grown left (relationOf (relationByte (t .relation))) (j + 1)))
-      (busy r start l (partly g j false 0))) (lt-ltb j 4 h)
+      (busy r start l (partly g j false 0 false))) (lt-ltb j 4 h)
       ∙ (λ i. busy r start l (grown (sym e i) (relation-back (t .relation) i) (add-one j i)))
     where
       t : Term
@@ -139,6 +146,7 @@ module _ (s : List ℕ) (x : Said) (clocks : ℕ) (r : Reading) (start l : ℕ) 
             count = k;
             hot = false;
             resets = 0;
+            rest = false;
           }
 
   in-range : (k : ℕ) → ltb k clocks ≡ true → leb (closed r .clocks) k ≡ false
@@ -147,13 +155,13 @@ module _ (s : List ℕ) (x : Said) (clocks : ℕ) (r : Reading) (start l : ℕ) 
   -- one term
   term-read : (rest : List ℕ) (j : ℕ) → j < 4 → (left : Left) → termAt g j .left ≡ left → leftFits clocks left ≡ true
       → (at : ℕ) → drop at s ≡ leftBytes left (relationByte (termAt g j .relation) ∷ four (termAt g j .n) rest)
-      → ((at′ : ℕ) → drop at′ s ≡ rest → Gives s x at′ (busy r start l (partly g (suc j) false 0)))
-      → Gives s x at (busy r start l (partly g j false 0))
+      → ((at′ : ℕ) → drop at′ s ≡ rest → Gives s x at′ (busy r start l (partly g (suc j) false 0 false)))
+      → Gives s x at (busy r start l (partly g j false 0 false))
   term-read rest j h (Clock k) e f at d =
       let range = or-neither (in-range k f) (relation-small (termAt g j .relation)) in
-      on-clock-term s x at (busy r start l (partly g j false 0)) rest k (relationByte (termAt g j .relation))
+      on-clock-term s x at (busy r start l (partly g j false 0 false)) rest k (relationByte (termAt g j .relation))
       (termAt g j .n) d
-      (λ i. firstFault false Nothing (range i) (lt-leb 4 j h i) false false false false at at) _ (added j h (Clock k) e)
+      (λ i. firstFault false Nothing (range i) (lt-leb 4 j h i) false false false false false at at) _ (added j h (Clock k) e)
   term-read rest j h (Difference a b) e f at d =
       let p = both _ _ f in
       let q = both _ _ (p .1) in
@@ -161,20 +169,20 @@ module _ (s : List ℕ) (x : Said) (clocks : ℕ) (r : Reading) (start l : ℕ) 
       or-neither (in-range a (p .0))
       (or-neither (in-range b (q .0))
       (or-neither (not-true (eqb a b) (q .1)) (relation-small (termAt g j .relation)))) in
-      on-difference-term s x at (busy r start l (partly g j false 0)) rest a b (relationByte (termAt g j .relation))
+      on-difference-term s x at (busy r start l (partly g j false 0 false)) rest a b (relationByte (termAt g j .relation))
       (termAt g j .n) d
-      (λ i. firstFault false Nothing (range i) (lt-leb 4 j h i) false false false false at at) _
+      (λ i. firstFault false Nothing (range i) (lt-leb 4 j h i) false false false false false at at) _
       (added j h (Difference a b) e)
 
   -- n terms from term j on
   terms-read : Terms clocks g → (rest : List ℕ) (n j : ℕ) → j + n ≡ g .count → (at : ℕ)
       → drop at s ≡ termsBytes g n j rest
-      → ((at′ : ℕ) → drop at′ s ≡ rest → Gives s x at′ (busy r start l (partly g (g .count) false 0)))
-      → Gives s x at (busy r start l (partly g j false 0))
+      → ((at′ : ℕ) → drop at′ s ≡ rest → Gives s x at′ (busy r start l (partly g (g .count) false 0 false)))
+      → Gives s x at (busy r start l (partly g j false 0 false))
   unfolding termsBytes
   terms-read t rest zero j e at d next =
       let z : g .count ≡ j = omega arith in
-      subst (λ (k : ℕ). Gives s x at (busy r start l (partly g k false 0))) z (next at d)
+      subst (λ (k : ℕ). Gives s x at (busy r start l (partly g k false 0 false))) z (next at d)
   terms-read t rest (suc n) j e at d next =
       let m = t .count in
       term-read (termsBytes g n (suc j) rest) j (omega arith) (termAt g j .left) refl (t .used j (omega arith)) at d
@@ -183,35 +191,46 @@ module _ (s : List ℕ) (x : Said) (clocks : ℕ) (r : Reading) (start l : ℕ) 
   -- hot, if it is
   hot-read : (main : Bool) → r .main ≡ main → (rest : List ℕ) (n : ℕ) (hot : Bool)
       → (not hot || (main && not (eqb n 0))) ≡ true
-      → (at : ℕ) → drop at s ≡ hotBytes hot rest
-      → ((at′ : ℕ) → drop at′ s ≡ rest → Gives s x at′ (busy r start l (partly g n hot 0)))
-      → Gives s x at (busy r start l (partly g n false 0))
+      → (at : ℕ) → drop at s ≡ flagBytes hotByte hot rest
+      → ((at′ : ℕ) → drop at′ s ≡ rest → Gives s x at′ (busy r start l (partly g n hot 0 false)))
+      → Gives s x at (busy r start l (partly g n false 0 false))
   hot-read main m rest n true e at d =
-      on-hot s x at (busy r start l (partly g n false 0)) rest d
+      on-hot s x at (busy r start l (partly g n false 0 false)) rest d
       (λ i. firstFault false Nothing false false
-      (ap not (m ∙ both main (not (eqb n 0)) e .0) i) false false false at at)
+      (ap not (m ∙ both main (not (eqb n 0)) e .0) i) false false false false at at)
   hot-read main m rest n false e at d = λ next. next at d
 
   -- resets, if there are any
   resets-read : (rest : List ℕ) (n : ℕ) (hot : Bool) (k : ℕ) → k < 2 ^ clocks → (z : Bool) → eqb k 0 ≡ z
       → (at : ℕ) → drop at s ≡ cond z rest (resetsByte ∷ k ∷ rest)
-      → ((at′ : ℕ) → drop at′ s ≡ rest → Gives s x at′ (busy r start l (partly g n hot k)))
-      → Gives s x at (busy r start l (partly g n hot 0))
+      → ((at′ : ℕ) → drop at′ s ≡ rest → Gives s x at′ (busy r start l (partly g n hot k false)))
+      → Gives s x at (busy r start l (partly g n hot 0 false))
   resets-read rest n hot k h true e at d =
-      λ next. subst (λ (k : ℕ). Gives s x at (busy r start l (partly g n hot k))) (eqb-true k 0 e) (next at d)
+      λ next. subst (λ (k : ℕ). Gives s x at (busy r start l (partly g n hot k false))) (eqb-true k 0 e) (next at d)
   resets-read rest n hot k h false e at d =
       let range = or-neither e (ap (λ (m : ℕ). not (within m k)) same ∙ ap not (lt-within clocks k h)) in
-      on-resets s x at (busy r start l (partly g n hot 0)) rest k d
-      (λ i. firstFault false Nothing (range i) false false false false false at at)
+      on-resets s x at (busy r start l (partly g n hot 0 false)) rest k d
+      (λ i. firstFault false Nothing (range i) false false false false false false at at)
+
+  -- the mark, if there is one
+  rest-read : (main : Bool) → r .main ≡ main → (rest : List ℕ) (n : ℕ) (hot : Bool) (k : ℕ) (mark : Bool)
+      → (not mark || main) ≡ true
+      → (at : ℕ) → drop at s ≡ flagBytes restByte mark rest
+      → ((at′ : ℕ) → drop at′ s ≡ rest → Gives s x at′ (busy r start l (partly g n hot k mark)))
+      → Gives s x at (busy r start l (partly g n hot k false))
+  rest-read main m rest n hot k true e at d =
+      on-rest s x at (busy r start l (partly g n hot k false)) rest d
+      (λ i. firstFault false Nothing false false false (ap not (m ∙ e) i) false false false at at)
+  rest-read main m rest n hot k false e at d = λ next. next at d
 
 -- a region that fits, with all its terms read, is the region itself
 whole : (lines clocks : ℕ) (main opening : Bool) (before : ℕ) (g : Region) → Fits lines clocks main opening before g
     → length (g .terms) ≡ 4
-    → partly g (g .count) (g .hot) (g .resets) ≡ g
+    → partly g (g .count) (g .hot) (g .resets) (g .rest) ≡ g
 whole lines clocks main opening before g f l =
     let t = f .terms in
-    same-region (partly g (g .count) (g .hot) (g .resets)) g refl
-    (first-all zeroTerm zeroTerm 4 (g .terms) (g .count) (t .count) l (λ j h k. t .unused j h k)) refl refl refl
+    same-region (partly g (g .count) (g .hot) (g .resets) (g .rest)) g refl
+    (first-all zeroTerm zeroTerm 4 (g .terms) (g .count) (t .count) l (λ j h k. t .unused j h k)) refl refl refl refl
 
 -- from the tests of the value to the reader's: not 9, not 7
 not-alone : (main : Bool) (p : ℕ) (z : Bool) → (not (not main || eqb p 0) || not z) ≡ true
@@ -270,7 +289,7 @@ module _ (c : Chart) where
         let range = or-neither (line-fits (m .source) (p .0))
         (or-neither (line-fits (m .destination) (q .0)) (not-true (eqb (m .source) (m .destination)) (q .1))) in
         on-message s x at r rest (m .source) (m .destination) (m .label) d
-        (λ i. firstFault (ap not (b .headed) i) (b .fine i) (range i) (room i) false false false false at at)
+        (λ i. firstFault (ap not (b .headed) i) (b .fine i) (range i) (room i) false false false false false at at)
     start-read (event.Plain l) f rest at d =
         let p = both _ _ f in
         let q = both (within (c .lines) l) _ (p .1) in
@@ -280,7 +299,7 @@ module _ (c : Chart) where
         (λ i. (not (b .half i) || eqb (b .prechart i) 0) && eqb (bitAnd l (b .touched i)) 0)
         ∙ not-alone main (c .prechart) (eqb (bitAnd l (touchedBefore (c .regions) i)) 0) (q .1) in
         on-plain s x at r rest l d
-        (λ i. firstFault (ap not (b .headed) i) (b .fine i) (range i) (room i) false (alone i) false false at at)
+        (λ i. firstFault (ap not (b .headed) i) (b .fine i) (range i) (room i) false false (alone i) false false at at)
 
     -- the state after the region
     before-next : (at : ℕ) → Before (busy r at (touched (regionAt c i .event)) (regionAt c i)) main (suc i)
@@ -315,9 +334,11 @@ module _ (c : Chart) where
         (omega arith) at₁ d₁
         (λ at₂ d₂. hot-read s x (c .clocks) r at (touched (g .event)) same g main (b .half) _ (g .count) (g .hot)
         (f .hot) at₂ d₂
-        (λ at₃ d₃. resets-read s x (c .clocks) r at (touched (g .event)) same g rest (g .count) (g .hot) (g .resets)
+        (λ at₃ d₃. resets-read s x (c .clocks) r at (touched (g .event)) same g _ (g .count) (g .hot) (g .resets)
         (f .resets) (eqb (g .resets) 0) refl at₃ d₃
-        (λ at₄ d₄. next at₄ (busy r at (touched (g .event)) (partly g (g .count) (g .hot) (g .resets))) after d₄))))
+        (λ at₄ d₄. rest-read s x (c .clocks) r at (touched (g .event)) same g main (b .half) rest (g .count) (g .hot)
+        (g .resets) (g .rest) (f .rest) at₄ d₄
+        (λ at₅ d₅. next at₅ (busy r at (touched (g .event)) all) after d₅)))))
       where
         g : Region
         g = regionAt c i
@@ -325,7 +346,10 @@ module _ (c : Chart) where
         same : closed r .clocks ≡ c .clocks
         same = ap (λ (c : Chart). c .clocks) (b .chart)
 
-        after : Before (busy r at (touched (g .event)) (partly g (g .count) (g .hot) (g .resets))) main (suc i)
+        all : Region
+        all = partly g (g .count) (g .hot) (g .resets) (g .rest)
+
+        after : Before (busy r at (touched (g .event)) all) main (suc i)
         after =
             subst (λ (h : Region). Before (busy r at (touched (g .event)) h) main (suc i))
             (sym (whole (c .lines) (c .clocks) main _ _ g f l)) (before-next at)
@@ -336,7 +360,7 @@ module _ (c : Chart) where
       → ((at′ : ℕ) (r′ : Reading) → Before r′ true i → drop at′ s ≡ rest → Gives s x at′ r′) → Gives s x at r
   main-read s x i r b e rest at d next =
       on-main s x at r rest d
-      (λ i. firstFault (not (b .headed i) || b .half i) (b .fine i) false false false false false false at at)
+      (λ i. firstFault (not (b .headed i) || b .half i) (b .fine i) false false false false false false false at at)
       (λ at′ d′. next at′ (withMain r) after d′)
     where
       after : Before (withMain r) true i
@@ -368,7 +392,7 @@ module _ (c : Chart) (w : WellFormed c) (shape : Shape c) (s : List ℕ) where
   end-read : (r : Reading) → Before c r true (c .count) → (at : ℕ) → drop at s ≡ endByte ∷ [] → Gives s given at r
   end-read r b at d =
       on-end s given at r d
-      (λ i. firstFault (not (b .headed i)) (b .fine i) false false false false
+      (λ i. firstFault (not (b .headed i)) (b .fine i) false false false false false
       (or-neither (ap not (b .half)) some i) false at (at + 1 + 0))
       (λ i. acceptedAs ((b .chart ∙ whole-chart) i))
     where
@@ -428,7 +452,7 @@ unfolding chartBytes firstOf touchedBefore
 round-trip c shape e =
     gives-chart (chartBytes c) (acceptedAs c)
     (on-heading (chartBytes c) _ 0 startReading (regionsBytes c (c .count) 0 (endByte ∷ [])) (c .lines) (c .clocks) refl
-    (λ i. firstFault false Nothing (not (range i)) false false false false false 0 0)
+    (λ i. firstFault false Nothing (not (range i)) false false false false false false 0 0)
     (λ at d. regions-read c w shape (chartBytes c) (c .count) 0 (omega arith)
     (withHeading startReading (c .lines) (c .clocks)) first at d))
   where

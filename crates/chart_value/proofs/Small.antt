@@ -19,10 +19,10 @@ use Rattle.model.specs.declared.Relation.{Relation}
 use Rattle.model.specs.declared.Relation.the-variants.{Less, AtMost, Equal, AtLeast, More}
 use Rattle.model.specs.Chart.{regionAt, termAt}
 use Rattle.chart_command.specs.Bytes.{headingByte, messageByte, plainByte, clockTermByte, differenceTermByte, hotByte}
-use Rattle.chart_command.specs.Bytes.{resetsByte, mainByte, endByte}
+use Rattle.chart_command.specs.Bytes.{restByte, resetsByte, mainByte, endByte}
 use Rattle.chart_value.specs.WellFormed.{leftFits, eventFits}
 use Rattle.chart_value.specs.Writer.{chartBytes, regionsBytes, regionBytes, eventBytes, termsBytes, leftBytes}
-use Rattle.chart_value.specs.Writer.{hotBytes, relationByte, two, four}
+use Rattle.chart_value.specs.Writer.{flagBytes, relationByte, two, four}
 use Rattle.base.proofs.Bools.{both}
 use Rattle.chart_value.proofs.Facts.{Terms, WellFormed, fits-of}
 use Rattle.chart_value.proofs.Owned.{Ranges, labelFits}
@@ -92,9 +92,9 @@ terms-small clocks g h t r (suc n) j e s f =
     (four-small (termAt g j .n) _ (r .numbers j (omega arith))
     (terms-small clocks g h t r n (suc j) (omega arith) s f)))
 
-hot-small : (hot : Bool) (s : List ℕ) → Small s → Small (hotBytes hot s)
-hot-small true s f = next hotByte s (omega arith) f
-hot-small false s f = f
+flag-small : (command : ℕ) (b : Bool) (s : List ℕ) → command < 256 → Small s → Small (flagBytes command b s)
+flag-small command true s h f = next command s h f
+flag-small command false s h f = f
 
 resets-small : (k : ℕ) (b : Bool) (s : List ℕ) → k < 256 → Small s → Small (cond b s (resetsByte ∷ k ∷ s))
 resets-small k true s h f = f
@@ -109,9 +109,10 @@ module _ (c : Chart) (w : WellFormed c) (r : (i : ℕ) → i < 32 → Ranges (re
       let y = r i (omega arith) in
       event-small (c .lines) _ _ (regionAt c i .event) _ (w .high) (x .event) (y .label)
       (terms-small (c .clocks) (regionAt c i) (w .clocks) (x .terms) y (regionAt c i .count) 0 (omega arith) _
-      (hot-small (regionAt c i .hot) _
-      (resets-small (regionAt c i .resets) (eqb (regionAt c i .resets) 0) s
-      (lt-of-lt-of-le (x .resets) (pow-mono (w .clocks))) f)))
+      (flag-small hotByte (regionAt c i .hot) _ (omega arith)
+      (resets-small (regionAt c i .resets) (eqb (regionAt c i .resets) 0) _
+      (lt-of-lt-of-le (x .resets) (pow-mono (w .clocks)))
+      (flag-small restByte (regionAt c i .rest) s (omega arith) f))))
 
   main-small : (b : Bool) (s : List ℕ) → Small s → Small (cond b (mainByte ∷ s) s)
   main-small true s f = next mainByte s (omega arith) f

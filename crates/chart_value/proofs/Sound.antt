@@ -26,7 +26,7 @@ use Rattle.model.specs.declared.Left.the-variants.{Clock, Difference}
 use Rattle.model.specs.Chart.{zeroTerm, zeroRegion, absentRegion, regionAt, termAt, isBare, touched}
 use Rattle.chart_command.specs.declared.Command.{Command}
 use Rattle.chart_command.specs.declared.Command.the-variants.{Heading, Message, Plain, ClockTerm, DifferenceTerm, Hot}
-use Rattle.chart_command.specs.declared.Command.the-variants.{Resets, Main, End}
+use Rattle.chart_command.specs.declared.Command.the-variants.{Rest, Resets, Main, End}
 use Rattle.chart_command.specs.declared.Decoded.{Decoded}
 use Rattle.chart_command.specs.declared.Decoded.the-variants as decoded
 use Rattle.chart_command.specs.Command.{decodeAt}
@@ -38,7 +38,7 @@ use Rattle.chart_step.specs.declared.Outcome.{Outcome}
 use Rattle.chart_step.specs.declared.Outcome.the-variants.{Going, Ended, Refused}
 use Rattle.chart_step.specs.declared.Refusal.{Refusal}
 use Rattle.chart_step.specs.declared.Refusal.the-variants.{CutShort, Misplaced, Outside, Excess, Bare, HotAlone, Early}
-use Rattle.chart_step.specs.declared.Refusal.the-variants.{Unanchored, Mainless}
+use Rattle.chart_step.specs.declared.Refusal.the-variants.{RestInPrechart, Unanchored, Mainless}
 use Rattle.chart_step.proofs.Numbers.{refusal-nonzero}
 use Rattle.chart_step.specs.Reading.{stepOf, faultOf, decided, applied, outcomeOf, closingFault, closed, orElse, when}
 use Rattle.chart_step.specs.Reading.{withTerm, relationOf, begunWith, withRegion, withMain, withHeading, isOutside}
@@ -74,6 +74,7 @@ pub record Grows (c : Chart) (main : Bool) (g : Region) : Type 0 where
   pub terms : Terms (c .clocks) g
   pub resets : g .resets < 2 ^ c .clocks
   pub hot : (not (g .hot) || main) ≡ true
+  pub rest : (not (g .rest) || main) ≡ true
 
 -- both, between two commands; and the lines touched so far
 pub data State (r : Reading) : Type 0 where
@@ -140,6 +141,7 @@ module _ (c : Chart) (main : Bool) (s : SoFar c main) (g : Region) (w : Grows c 
         resets = w .resets;
         bare = bare;
         hot = hot-closed (g .hot) main (eqb (g .count) 0) (w .hot) hot;
+        rest = w .rest;
       }
 
   put-touched : touchedBefore (one-more .regions) (suc (c .count)) ≡ union (touchedBefore (c .regions) (c .count))
@@ -277,6 +279,7 @@ begin r h c at e room fits =
             };
             resets = pow-pos (closed r .clocks);
             hot = refl;
+            rest = refl;
           })
           (ap (λ (t : ℕ). union t (touched e)) (c .touched));
     }
@@ -292,6 +295,7 @@ module _ (clocks : ℕ) (g : Region) (size : length (g .terms) ≡ 4) (w : Terms
         count = g .count + 1;
         hot = g .hot;
         resets = g .resets;
+        rest = g .rest;
       }
 
   term-used : (j : ℕ) → j ≤ g .count → Dec (j ≡ g .count) → leftFits clocks (termAt with-term j .left) ≡ true
@@ -331,13 +335,15 @@ grow r h (busy s c w t) f left e n room fits =
             terms = more-terms (r .chart .clocks) g (w .size) (w .terms) l x fits;
             resets = w .resets;
             hot = w .hot;
+            rest = w .rest;
           })
           t;
     })
 
--- 32, 40: the region becomes hot, or has resets
-change : (r : Reading) (hot : Bool) (k : ℕ) → r .headed ≡ true → State r → not (r .started) ≡ false
-    → (Grows (r .chart) (r .main) (r .region) → ((not hot || r .main) ≡ true) × (k < 2 ^ r .chart .clocks))
+-- 32, 33, 40: the region becomes hot, is marked, or has resets
+change : (r : Reading) (hot : Bool) (k : ℕ) (rest : Bool) → r .headed ≡ true → State r → not (r .started) ≡ false
+    → (Grows (r .chart) (r .main) (r .region)
+    → ((not hot || r .main) ≡ true) × (k < 2 ^ r .chart .clocks) × ((not rest || r .main) ≡ true))
     → Inv (withRegion r
     (record {
       event = r .region .event;
@@ -345,9 +351,10 @@ change : (r : Reading) (hot : Bool) (k : ℕ) → r .headed ≡ true → State r
       count = r .region .count;
       hot = hot;
       resets = k;
+      rest = rest;
     }))
-change r hot k h (idle s c t) f u = absurd (true≢false (sym (not-false _ f) ∙ s))
-change r hot k h (busy s c w t) f u =
+change r hot k rest h (idle s c t) f u = absurd (true≢false (sym (not-false _ f) ∙ s))
+change r hot k rest h (busy s c w t) f u =
     record {
       headed = h;
       state =
@@ -359,6 +366,7 @@ change r hot k h (busy s c w t) f u =
             terms = record { count = w .terms .count; used = w .terms .used; unused = w .terms .unused };
             resets = u w .1;
             hot = u w .0;
+            rest = u w .2;
           })
           t;
     }
@@ -465,13 +473,18 @@ module _ (r : Reading) (h : r .headed ≡ true) (s : State r) (at next : ℕ) (m
   kept Hot e =
       let p = clear (not (r .started) || r .region .hot) Misplaced at _ e in
       let u = clear (not (r .main)) Early at _ (p .1) in
-      change r true (r .region .resets) h s (neither (not (r .started)) _ (p .0) .0)
-      (λ w. (not-false _ (u .0), w .resets))
+      change r true (r .region .resets) (r .region .rest) h s (neither (not (r .started)) _ (p .0) .0)
+      (λ w. (not-false _ (u .0), w .resets, w .rest))
+  kept Rest e =
+      let p = clear (not (r .started) || r .region .rest) Misplaced at _ e in
+      let u = clear (not (r .main)) RestInPrechart at _ (p .1) in
+      change r (r .region .hot) (r .region .resets) true h s (neither (not (r .started)) _ (p .0) .0)
+      (λ w. (w .hot, w .resets, not-false _ (u .0)))
   kept (Resets k) e =
       let p = clear (not (r .started) || not (eqb (r .region .resets) 0)) Misplaced at _ e in
       let u = clear (isOutside (r .chart) (Resets k)) Outside at _ (p .1) in
-      change r (r .region .hot) k h s (neither (not (r .started)) _ (p .0) .0)
-      (λ w. (w .hot, within-true _ _ (not-false _ (neither (eqb k 0) _ (u .0) .1))))
+      change r (r .region .hot) k (r .region .rest) h s (neither (not (r .started)) _ (p .0) .0)
+      (λ w. (w .hot, within-true _ _ (not-false _ (neither (eqb k 0) _ (u .0) .1)), w .rest))
   kept Main e =
       let p = clear (not (r .headed) || r .main) Misplaced at _ e in
       let q = first-clear (closingFault r) _ (p .1) in
@@ -518,6 +531,7 @@ started at next more (Plain l) = tt
 started at next more (ClockTerm k e n) = tt
 started at next more (DifferenceTerm a b e n) = tt
 started at next more Hot = tt
+started at next more Rest = tt
 started at next more (Resets k) = tt
 started at next more Main = tt
 started at next more End = tt

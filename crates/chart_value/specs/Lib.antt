@@ -3,4 +3,5 @@ pub mod Writer
 pub mod Given
 pub mod Guards
 pub mod View
+pub mod Marks
 pub mod Records

@@ -54,13 +54,13 @@ eventFits lines opening before (Message m) =
 eventFits lines opening before (Plain l) =
     not (eqb l 0) && (within lines l && (not opening || not (eqb (bitAnd l before) 0)))
 
--- M6: a region in use; it has none of the faults 4 to 9
+-- M6: a region in use; it has none of the faults 4 to 9 and 13
 unfoldable pub regionFits : ℕ → ℕ → Bool → Bool → ℕ → Region → Bool
 regionFits lines clocks main opening before g =
     eventFits lines opening before (g .event)
     && (termsFit clocks g
     && (within clocks (g .resets)
-    && (not (isBare g) && (not (g .hot) || (main && not (eqb (g .count) 0))))))
+    && (not (isBare g) && ((not (g .hot) || (main && not (eqb (g .count) 0))) && (not (g .rest) || main)))))
 
 abbrev pub isZeroEvent : Event → Bool
 isZeroEvent (Message m) = false
@@ -68,7 +68,8 @@ isZeroEvent (Plain l) = eqb l 0
 
 unfoldable pub isZeroRegion : Region → Bool
 isZeroRegion g =
-    isZeroEvent (g .event) && (eqb (g .count) 0 && (not (g .hot) && (eqb (g .resets) 0 && termsFit 0 g)))
+    isZeroEvent (g .event)
+    && (eqb (g .count) 0 && (not (g .hot) && (eqb (g .resets) 0 && (not (g .rest) && termsFit 0 g))))
 
 -- the lines that the first i regions touch
 unfoldable pub touchedBefore : List Region → ℕ → ℕ

@@ -1,5 +1,6 @@
 -- One way to write a chart in bytes: the heading, the regions by their numbers with a 50 before the first of the main
--- chart, and the 7F. A region is its 20 or 21, its terms, a 32 if it is hot, and a 40 if it resets a clock.
+-- chart, and the 7F. A region is its 20 or 21, its terms, a 32 if it is hot, a 40 if it resets a clock, and a 33 if it
+-- is marked as a place to rest.
 use Prim.Native.Nat.{ℕ, zero, suc, _/_, _%_}
 use mathlib.Core.Bool.{Bool, true, false, cond}
 use mathlib.Core.List.{List, [], _∷_}
@@ -15,7 +16,7 @@ use Rattle.model.specs.declared.Relation.{Relation}
 use Rattle.model.specs.declared.Relation.the-variants.{Less, AtMost, Equal, AtLeast, More}
 use Rattle.model.specs.Chart.{regionAt, termAt}
 use Rattle.chart_command.specs.Bytes.{headingByte, messageByte, plainByte, clockTermByte, differenceTermByte, hotByte}
-use Rattle.chart_command.specs.Bytes.{resetsByte, mainByte, endByte}
+use Rattle.chart_command.specs.Bytes.{restByte, resetsByte, mainByte, endByte}
 
 -- a number in two bytes, or in four, and what follows it; most significant byte first
 abbrev pub two : ℕ → List ℕ → List ℕ
@@ -47,16 +48,19 @@ unfoldable pub termsBytes : Region → ℕ → ℕ → List ℕ → List ℕ
 termsBytes g zero j rest = rest
 termsBytes g (suc n) j rest = termBytes (termAt g j) (termsBytes g n (suc j) rest)
 
-abbrev pub hotBytes : Bool → List ℕ → List ℕ
-hotBytes true rest = hotByte ∷ rest
-hotBytes false rest = rest
+-- a command without operands, if it is there
+abbrev pub flagBytes : ℕ → Bool → List ℕ → List ℕ
+flagBytes command true rest = command ∷ rest
+flagBytes command false rest = rest
 
 abbrev pub resetsBytes : ℕ → List ℕ → List ℕ
 resetsBytes k rest = cond (eqb k 0) rest (resetsByte ∷ k ∷ rest)
 
 unfoldable pub regionBytes : Region → List ℕ → List ℕ
 regionBytes g rest =
-    eventBytes (g .event) (termsBytes g (g .count) 0 (hotBytes (g .hot) (resetsBytes (g .resets) rest)))
+    eventBytes (g .event)
+    (termsBytes g (g .count) 0
+    (flagBytes hotByte (g .hot) (resetsBytes (g .resets) (flagBytes restByte (g .rest) rest))))
 
 -- 50 before the first main region
 abbrev pub mainBytes : Chart → ℕ → List ℕ → List ℕ

@@ -24,6 +24,7 @@ ghost use Rattle.chart_value.specs.Writer.{chartBytes};
 ghost use Rattle.chart_value.specs.Given.{Given};
 ghost use Rattle.chart_value.specs.Guards.{NeverFire};
 ghost use Rattle.chart_value.specs.View.{Shown, CodesTell};
+ghost use Rattle.chart_value.specs.Marks.{MarksApart};
 
 fn is_zero_left(l: Left) -> bool
     ensures { λ r. ⌜ r ≡ isZeroLeft l ⌝ }
@@ -110,7 +111,9 @@ fn region_fits(lines: u8, clocks: u8, main: bool, opening: bool, before: u16, g:
     let terms = terms_fit(clocks, g);
     let resets = bitset::within(clocks as u32, g.resets as u32);
     let bare = model::is_bare(g);
-    event & (terms & (resets & (!bare & (!g.hot | (main & (g.count != 0))))))
+    let hot = !g.hot | (main & (g.count != 0));
+    let rest = !g.rest | main;
+    event & (terms & (resets & (!bare & (hot & rest))))
 }
 
 // Each place for a term holds zeros.
@@ -142,7 +145,7 @@ fn is_zero_region(g: Region) -> bool
     let e = g.event;
     let event = is_zero_event(e);
     let terms = terms_zero(g);
-    event & ((g.count == 0) & (!g.hot & ((g.resets == 0) & terms)))
+    event & ((g.count == 0) & (!g.hot & ((g.resets == 0) & (!g.rest & terms))))
 }
 
 // Region g at place i, with the lines touched before it: used and fitting, or zeros.
@@ -202,6 +205,7 @@ pub fn well_formed(c: Chart) -> bool
 pub fn accepted_charts()
     ensures shown { λ r. ⌜ ((c : Chart) → Given c → Shown c) ⌝ }
     ensures codes { λ r. ⌜ CodesTell ⌝ }
+    ensures marks { λ r. ⌜ MarksApart ⌝ }
 {}
 
 // The guards of the reader's definition.

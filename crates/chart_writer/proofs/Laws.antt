@@ -20,12 +20,12 @@ use Rattle.model.specs.declared.Term.{Term}
 use Rattle.model.specs.declared.Left.{Left}
 use Rattle.model.specs.declared.Left.the-variants.{Clock, Difference}
 use Rattle.model.specs.Chart.{regionAt, termAt}
-use Rattle.chart_command.specs.Bytes.{headingByte, resetsByte, mainByte, endByte}
+use Rattle.chart_command.specs.Bytes.{headingByte, hotByte, restByte, resetsByte, mainByte, endByte}
 use Rattle.wire.specs.Writing.{Wrote, writerBuffer, wordBytes}
 use Rattle.wire.proofs.Writing.{then, spelled, counted, taken-back}
 use Rattle.chart_value.specs.WellFormed.{wellFormed}
 use Rattle.chart_value.proofs.Facts.{wf-of, fits-of}
-use Rattle.chart_value.specs.Writer.{four, leftBytes, termBytes, eventBytes, termsBytes, hotBytes, resetsBytes}
+use Rattle.chart_value.specs.Writer.{four, leftBytes, termBytes, eventBytes, termsBytes, flagBytes, resetsBytes}
 use Rattle.chart_value.specs.Writer.{relationByte, regionBytes, mainBytes, regionsBytes, chartBytes}
 use Rattle.chart_writer.specs.declared.ChartWritten.the-variants.{Written, NotAChart, TooShort}
 use Rattle.chart_writer.specs.Parts.{marksBytes}
@@ -62,9 +62,10 @@ terms-join g zero j s rest = refl
 terms-join g (suc n) j s rest =
     term-join (termAt g j) (termsBytes g n (suc j) s) rest ∙ ap (termBytes (termAt g j)) (terms-join g n (suc j) s rest)
 
-pub hot-join : (hot : Bool) (s rest : List ℕ) → hotBytes hot s ++ rest ≡ hotBytes hot (s ++ rest)
-hot-join true s rest = refl
-hot-join false s rest = refl
+flag-join : (command : ℕ) (b : Bool) (s rest : List ℕ)
+    → flagBytes command b s ++ rest ≡ flagBytes command b (s ++ rest)
+flag-join command true s rest = refl
+flag-join command false s rest = refl
 
 resets-join : (k : ℕ) (s rest : List ℕ) → resetsBytes k s ++ rest ≡ resetsBytes k (s ++ rest)
 resets-join k s rest = by (eqb k 0)
@@ -80,7 +81,9 @@ region-join g s rest =
     ∙ ap (eventBytes (g .event))
     (terms-join g (g .count) 0 _ rest
     ∙ ap (termsBytes g (g .count) 0)
-    (hot-join (g .hot) _ rest ∙ ap (hotBytes (g .hot)) (resets-join (g .resets) s rest)))
+    (flag-join hotByte (g .hot) _ rest
+    ∙ ap (flagBytes hotByte (g .hot))
+    (resets-join (g .resets) _ rest ∙ ap (resetsBytes (g .resets)) (flag-join restByte (g .rest) s rest))))
 
 main-join : (c : Chart) (i : ℕ) (s rest : List ℕ) → mainBytes c i s ++ rest ≡ mainBytes c i (s ++ rest)
 main-join c i s rest = by (eqb i (c .prechart))
@@ -157,38 +160,44 @@ regions-next c n a b d =
     ∙ ap (λ (k : ℕ). regionsBytes c k 0 []) (sym (add-one n)))
     (then a (then b d))
 
--- where the bytes of i regions can end: at 40 for each, and one more after the first of the main chart
+-- where the bytes of i regions can end: at 41 for each, and one more after the first of the main chart
 pub record Ends (prechart at i next : ℕ) : Type 0 where
-  pub early : i ≤ prechart → next ≤ at + 40 * i
-  pub most : next ≤ at + 40 * i + 1
+  pub early : i ≤ prechart → next ≤ at + 41 * i
+  pub most : next ≤ at + 41 * i + 1
 
 pub ends-main : {prechart at i next start : ℕ} (b : Bool) → eqb i prechart ≡ b → Ends prechart at i next
     → start ≡ next + length (cond b (mainByte ∷ []) [])
-    → (start ≤ at + 40 * i + 1) × (suc i ≤ prechart → start ≤ at + 40 * i)
+    → (start ≤ at + 41 * i + 1) × (suc i ≤ prechart → start ≤ at + 41 * i)
 ends-main {prechart} {at} {i} {next} {start} true e E s =
     let d : i ≡ prechart = eqb-true i prechart e in
-    let h : next ≤ at + 40 * i = E .early (omega arith) in
+    let h : next ≤ at + 41 * i = E .early (omega arith) in
     (omega arith, λ (k : suc i ≤ prechart). absurd (omega (arith, k, d)))
 ends-main {prechart} {at} {i} {next} {start} false e E s = (
   omega (arith, E .most),
-  λ (k : suc i ≤ prechart). let h : next ≤ at + 40 * i = E .early (omega (arith, k)) in omega arith,
+  λ (k : suc i ≤ prechart). let h : next ≤ at + 41 * i = E .early (omega (arith, k)) in omega arith,
 )
 
-pub ends-next : {prechart at i start stop : ℕ} → (start ≤ at + 40 * i + 1) × (suc i ≤ prechart → start ≤ at + 40 * i)
-    → stop ≤ start + 40
+pub ends-next : {prechart at i start stop : ℕ} → (start ≤ at + 41 * i + 1) × (suc i ≤ prechart → start ≤ at + 41 * i)
+    → stop ≤ start + 41
     → Ends prechart at (i + 1) stop
 ends-next {prechart} {at} {i} {start} {stop} p h = record {
-  early = λ (k : i + 1 ≤ prechart). let d : start ≤ at + 40 * i = p .1 (omega (arith, k)) in omega arith;
+  early = λ (k : i + 1 ≤ prechart). let d : start ≤ at + 41 * i = p .1 (omega (arith, k)) in omega arith;
   most = omega (arith, p .0);
 }
 
--- a region, and a chart, from its parts
+-- what follows the terms, a region, and a chart, from its parts
+pub marks-parts : (hot : Bool) (resets : ℕ) (rest : Bool)
+    → flagBytes hotByte hot [] ++ (resetsBytes resets [] ++ flagBytes restByte rest []) ≡ marksBytes hot resets rest
+marks-parts hot resets rest =
+    flag-join hotByte hot [] _ ∙ ap (flagBytes hotByte hot) (resets-join resets [] (flagBytes restByte rest []))
+
 pub region-parts : (g : Region)
-    → eventBytes (g .event) [] ++ (termsBytes g (g .count) 0 [] ++ marksBytes (g .hot) (g .resets)) ≡ regionBytes g []
+    → eventBytes (g .event) [] ++ (termsBytes g (g .count) 0 [] ++ marksBytes (g .hot) (g .resets) (g .rest))
+    ≡ regionBytes g []
 unfolding regionBytes
 region-parts g =
     event-join (g .event) [] _
-    ∙ ap (eventBytes (g .event)) (terms-join g (g .count) 0 [] (marksBytes (g .hot) (g .resets)))
+    ∙ ap (eventBytes (g .event)) (terms-join g (g .count) 0 [] (marksBytes (g .hot) (g .resets) (g .rest)))
 
 pub chart-parts : (c : Chart)
     → headingByte ∷ c .lines ∷ c .clocks ∷ (regionsBytes c (c .count) 0 [] ++ (endByte ∷ [])) ≡ chartBytes c

@@ -2,8 +2,9 @@
 use mathlib.Core.Bool.{Bool}
 use mathlib.Core.List.{List, []}
 use Prim.Native.Nat.{ℕ}
-use Rattle.chart_value.specs.Writer.{hotBytes, resetsBytes}
+use Rattle.chart_command.specs.Bytes.{hotByte, restByte}
+use Rattle.chart_value.specs.Writer.{flagBytes, resetsBytes}
 
--- D3: 32 if it is hot, then its resets
-abbrev pub marksBytes : Bool → ℕ → List ℕ
-marksBytes hot resets = hotBytes hot (resetsBytes resets [])
+-- D3: 32 if it is hot, then its resets, then 33 if it is marked
+abbrev pub marksBytes : Bool → ℕ → Bool → List ℕ
+marksBytes hot resets rest = flagBytes hotByte hot (resetsBytes resets (flagBytes restByte rest []))

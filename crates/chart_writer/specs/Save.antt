@@ -11,9 +11,9 @@ use Rattle.chart_value.specs.Writer.{chartBytes}
 use Rattle.chart_writer.specs.declared.ChartWritten.{ChartWritten}
 use Rattle.chart_writer.specs.declared.ChartWritten.the-variants.{Written, NotAChart, TooShort}
 
--- D6: three bytes of heading, 40 for each region, 50 and 7F
+-- D6: three bytes of heading, 41 for each region, 50 and 7F
 abbrev pub mostBytes : ℕ
-mostBytes = 3 + mostRegions * 40 + 2
+mostBytes = 3 + mostRegions * 41 + 2
 
 -- D1, D4: 20, or a writer's answer for the chart's bytes
 abbrev pub savedAnswer : Chart → List ℕ → ChartWritten

@@ -8,6 +8,7 @@ use chart_command::MAIN;
 use chart_command::MESSAGE;
 use chart_command::PLAIN;
 use chart_command::RESETS;
+use chart_command::REST;
 use model::Chart;
 use model::Event;
 use model::Left;
@@ -29,13 +30,13 @@ ghost use Rattle.chart_command.specs.Bytes.{mainByte};
 ghost use Rattle.chart_reader.specs.Read.{readChart};
 ghost use Rattle.chart_reader.specs.Said.{acceptedAs};
 ghost use Rattle.chart_value.specs.WellFormed.{wellFormed};
-ghost use Rattle.chart_value.specs.Writer.{relationByte, leftBytes, termBytes, eventBytes, termsBytes, hotBytes};
+ghost use Rattle.chart_value.specs.Writer.{relationByte, leftBytes, termBytes, eventBytes, termsBytes, flagBytes};
 ghost use Rattle.chart_value.specs.Writer.{resetsBytes, regionBytes, regionsBytes, chartBytes};
 ghost use Rattle.chart_writer.specs.Parts.{marksBytes};
 ghost use Rattle.chart_writer.specs.Save.{mostBytes, savedAnswer, savedBuffer, savedNumber, savedSize};
 
 // D6: no chart has more bytes.
-pub const MOST_BYTES: usize = 1_285;
+pub const MOST_BYTES: usize = 1_317;
 
 // How many bytes were written, or why none were: no chart, or a buffer with fewer bytes than the number needed.
 pub enum ChartWritten {
@@ -157,13 +158,14 @@ fn put_event(out: &mut [u8], at: usize, e: Event) -> usize
     }
 }
 
-fn put_hot(out: &mut [u8], at: usize, hot: bool) -> usize
+// A command without operands, if it is wanted.
+fn put_flag(out: &mut [u8], at: usize, command: u8, wanted: bool) -> usize
     requires { ⌜ at + 1 ≤ length (now out) ⌝ }
-    ensures bytes { λ r. ⌜ Wrote (now (out .entry)) at (hotBytes hot []) (now (out .exit)) r ⌝ }
+    ensures bytes { λ r. ⌜ Wrote (now (out .entry)) at (flagBytes command wanted []) (now (out .exit)) r ⌝ }
     ensures short { λ r. ⌜ r ≤ at + 1 ⌝ }
 {
-    if hot {
-        return wire::put_byte(out, at, HOT);
+    if wanted {
+        return wire::put_byte(out, at, command);
     }
     at
 }
@@ -181,26 +183,27 @@ fn put_resets(out: &mut [u8], at: usize, resets: u8) -> usize
 }
 
 // D3: what stands after the terms.
-fn put_marks(out: &mut [u8], at: usize, hot: bool, resets: u8) -> usize
-    requires { ⌜ at + 3 ≤ length (now out) ⌝ }
-    ensures bytes { λ r. ⌜ Wrote (now (out .entry)) at (marksBytes hot resets) (now (out .exit)) r ⌝ }
-    ensures short { λ r. ⌜ r ≤ at + 3 ⌝ }
+fn put_marks(out: &mut [u8], at: usize, hot: bool, resets: u8, rest: bool) -> usize
+    requires { ⌜ at + 4 ≤ length (now out) ⌝ }
+    ensures bytes { λ r. ⌜ Wrote (now (out .entry)) at (marksBytes hot resets rest) (now (out .exit)) r ⌝ }
+    ensures short { λ r. ⌜ r ≤ at + 4 ⌝ }
 {
-    let next = put_hot(out, at, hot);
-    put_resets(out, next, resets)
+    let second = put_flag(out, at, HOT, hot);
+    let third = put_resets(out, second, resets);
+    put_flag(out, third, REST, rest)
 }
 
 // D3: one region.
 fn put_region(out: &mut [u8], at: usize, g: Region) -> usize
     requires { ⌜ g .count ≤ mostTerms ⌝ }
-    requires { ⌜ at + 40 ≤ length (now out) ⌝ }
+    requires { ⌜ at + 41 ≤ length (now out) ⌝ }
     ensures bytes { λ r. ⌜ Wrote (now (out .entry)) at (regionBytes g []) (now (out .exit)) r ⌝ }
-    ensures short { λ r. ⌜ r ≤ at + 40 ⌝ }
+    ensures short { λ r. ⌜ r ≤ at + 41 ⌝ }
 {
     let e = g.event;
     let second = put_event(out, at, e);
     let third = put_terms(out, second, g);
-    put_marks(out, third, g.hot, g.resets)
+    put_marks(out, third, g.hot, g.resets, g.rest)
 }
 
 // D2: the byte between the halves, before the first region of the main chart.
@@ -218,9 +221,9 @@ fn put_main(out: &mut [u8], at: usize, first: bool) -> usize
 // D2: the regions in their order.
 fn put_regions(out: &mut [u8], at: usize, c: Chart) -> usize
     requires { ⌜ wellFormed c ≡ true ⌝ }
-    requires { ⌜ at + 1281 ≤ length (now out) ⌝ }
+    requires { ⌜ at + 1313 ≤ length (now out) ⌝ }
     ensures bytes { λ r. ⌜ Wrote (now (out .entry)) at (regionsBytes c (c .count) 0 []) (now (out .exit)) r ⌝ }
-    ensures short { λ r. ⌜ r ≤ at + 1281 ⌝ }
+    ensures short { λ r. ⌜ r ≤ at + 1313 ⌝ }
 {
     let prechart = c.prechart as usize;
     let count = c.count as usize;

@@ -34,7 +34,14 @@ abbrev pub zeroTerm : Term
 zeroTerm = record { left = Clock 0; relation = Less; n = 0 }
 
 abbrev pub zeroRegion : Region
-zeroRegion = record { event = Plain 0; terms = replicate mostTerms zeroTerm; count = 0; hot = false; resets = 0 }
+zeroRegion = record {
+  event = Plain 0;
+  terms = replicate mostTerms zeroTerm;
+  count = 0;
+  hot = false;
+  resets = 0;
+  rest = false;
+}
 
 abbrev pub zeroChart : Chart
 zeroChart = record { lines = 0; clocks = 0; prechart = 0; count = 0; regions = replicate mostRegions zeroRegion }
@@ -47,6 +54,7 @@ absentRegion = record {
   count = 0;
   hot = false;
   resets = 0;
+  rest = false;
 }
 
 abbrev pub regionAt : Chart → ℕ → Region

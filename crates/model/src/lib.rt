@@ -78,13 +78,14 @@ pub struct Term {
     pub n: u32,
 }
 
-// A region; `resets` is a set of clocks.
+// A region; `hot` is its condition's temperature, `resets` a set of clocks, `rest` the mark of a place to rest (C20).
 pub struct Region {
     pub event: Event,
     pub terms: [Term; MOST_TERMS],
     pub count: u8,
     pub hot: bool,
     pub resets: u8,
+    pub rest: bool,
 }
 
 // A chart: its regions in file order, of which the first `prechart` are the prechart's.
@@ -116,6 +117,7 @@ pub fn zero_region() -> Region
         count: 0,
         hot: false,
         resets: 0,
+        rest: false,
     }
 }
 

@@ -76,6 +76,9 @@ with-operands-requires-8 c κs = search needs
 with-operands-requires-9 : tie.Need-with-operands-requires-9
 with-operands-requires-9 c κs = search needs
 
+with-operands-requires-10 : tie.Need-with-operands-requires-10
+with-operands-requires-10 c κs = search needs
+
 returns : tie.Need-returns
 returns c =
     rw (
@@ -134,16 +137,16 @@ returns-6 c =
 
 returns-7 : tie.Need-returns-7
 returns-7 c =
-    rw (
-      ← (c .before .before .before .before .byte-at .ensures .0),
-      c .before .match .keys7,
-      ← (c .before .before .before .byte-at2 .ensures .0),
-    ) (c .with-operands7 .ensures)
+    rw (← (c .before .before .before .before .byte-at .ensures .0), c .before .match .keys7)
+    (c .with-operands7 .ensures)
 
 returns-8 : tie.Need-returns-8
 returns-8 c =
-    rw (← (c .before .before .before .before .byte-at .ensures .0), c .before .match .keys8)
-    (c .with-operands8 .ensures)
+    rw (
+      ← (c .before .before .before .before .byte-at .ensures .0),
+      c .before .match .keys8,
+      ← (c .before .before .before .byte-at2 .ensures .0),
+    ) (c .with-operands8 .ensures)
 
 returns-9 : tie.Need-returns-9
 returns-9 c =
@@ -151,9 +154,15 @@ returns-9 c =
     (c .with-operands9 .ensures)
 
 returns-10 : tie.Need-returns-10
-returns-10 c = let r = c .match .rest in
+returns-10 c =
+    rw (← (c .before .before .before .before .byte-at .ensures .0), c .before .match .keys10)
+    (c .with-operands10 .ensures)
+
+returns-11 : tie.Need-returns-11
+returns-11 c = let r = c .match .rest in
     rw (← (c .before .before .before .byte-at .ensures .0))
     (simp (
+      ne-eqb _ _ (r .0 .0 .0 .0 .0 .0 .0 .0 .0 .1),
       ne-eqb _ _ (r .0 .0 .0 .0 .0 .0 .0 .0 .1),
       ne-eqb _ _ (r .0 .0 .0 .0 .0 .0 .0 .1),
       ne-eqb _ _ (r .0 .0 .0 .0 .0 .0 .1),
@@ -193,6 +202,7 @@ decode-byte-spec =
     with-operands-requires-7
     with-operands-requires-8
     with-operands-requires-9
+    with-operands-requires-10
     returns
     returns-2
     returns-3
@@ -202,4 +212,5 @@ decode-byte-spec =
     returns-7
     returns-8
     returns-9
-    returns-10)
+    returns-10
+    returns-11)

@@ -48,17 +48,24 @@ add-byte-at-3 c = search needs
 byte-at-requires-3 : tie.Need-byte-at-requires-3
 byte-at-requires-3 c κs = search needs
 
+add-byte-at-4 : tie.Need-add-byte-at-4
+add-byte-at-4 c = search needs
+
+byte-at-requires-4 : tie.Need-byte-at-requires-4
+byte-at-requires-4 c κs = search needs
+
 returns : tie.Need-returns
 returns c =
     rw (
-      c .byte-at3 .ensures .0,
-      c .before .byte-at2 .ensures .0,
-      c .before .before .byte-at .ensures .0,
-      c .before .before .before .term-at4 .ensures,
-      c .before .before .before .before .term-at3 .ensures,
-      c .before .before .before .before .before .term-at2 .ensures,
-      c .before .before .before .before .before .before .term-at .ensures,
-      c .before .before .before .before .before .before .before .event-at .ensures,
+      c .byte-at4 .ensures .0,
+      c .before .byte-at3 .ensures .0,
+      c .before .before .byte-at2 .ensures .0,
+      c .before .before .before .byte-at .ensures .0,
+      c .before .before .before .before .term-at4 .ensures,
+      c .before .before .before .before .before .term-at3 .ensures,
+      c .before .before .before .before .before .before .term-at2 .ensures,
+      c .before .before .before .before .before .before .before .term-at .ensures,
+      c .before .before .before .before .before .before .before .before .event-at .ensures,
     )
 
 pub region-at-spec : {M : Type 1} → statement M
@@ -80,4 +87,6 @@ region-at-spec =
     byte-at-requires-2
     add-byte-at-3
     byte-at-requires-3
+    add-byte-at-4
+    byte-at-requires-4
     returns)

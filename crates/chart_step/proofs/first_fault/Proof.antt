@@ -35,32 +35,40 @@ when-requires-6 c κs = search needs
 or-else-requires-5 : tie.Need-or-else-requires-5
 or-else-requires-5 c κs = search needs
 
-or-else-requires-6 : tie.Need-or-else-requires-6
-or-else-requires-6 c κs = search needs
-
 when-requires-7 : tie.Need-when-requires-7
 when-requires-7 c κs = search needs
+
+or-else-requires-6 : tie.Need-or-else-requires-6
+or-else-requires-6 c κs = search needs
 
 or-else-requires-7 : tie.Need-or-else-requires-7
 or-else-requires-7 c κs = search needs
 
+when-requires-8 : tie.Need-when-requires-8
+when-requires-8 c κs = search needs
+
+or-else-requires-8 : tie.Need-or-else-requires-8
+or-else-requires-8 c κs = search needs
+
 returns : tie.Need-returns
 returns c =
     rw (
-      c .or-else7 .ensures,
-      c .before .when7 .ensures,
-      c .before .before .or-else6 .ensures,
-      c .before .before .before .or-else5 .ensures,
-      c .before .before .before .before .when6 .ensures,
-      c .before .before .before .before .before .or-else4 .ensures,
-      c .before .before .before .before .before .before .when5 .ensures,
-      c .before .before .before .before .before .before .before .or-else3 .ensures,
-      c .before .before .before .before .before .before .before .before .when4 .ensures,
-      c .before .before .before .before .before .before .before .before .before .or-else2 .ensures,
-      c .before .before .before .before .before .before .before .before .before .before .when3 .ensures,
-      c .before .before .before .before .before .before .before .before .before .before .before .or-else .ensures,
-      c .before .before .before .before .before .before .before .before .before .before .before .before .when2 .ensures,
-      c .before .before .before .before .before .before .before .before .before .before .before .before .before .when .ensures,
+      c .or-else8 .ensures,
+      c .before .when8 .ensures,
+      c .before .before .or-else7 .ensures,
+      c .before .before .before .or-else6 .ensures,
+      c .before .before .before .before .when7 .ensures,
+      c .before .before .before .before .before .or-else5 .ensures,
+      c .before .before .before .before .before .before .when6 .ensures,
+      c .before .before .before .before .before .before .before .or-else4 .ensures,
+      c .before .before .before .before .before .before .before .before .when5 .ensures,
+      c .before .before .before .before .before .before .before .before .before .or-else3 .ensures,
+      c .before .before .before .before .before .before .before .before .before .before .when4 .ensures,
+      c .before .before .before .before .before .before .before .before .before .before .before .or-else2 .ensures,
+      c .before .before .before .before .before .before .before .before .before .before .before .before .when3 .ensures,
+      c .before .before .before .before .before .before .before .before .before .before .before .before .before .or-else .ensures,
+      c .before .before .before .before .before .before .before .before .before .before .before .before .before .before .when2 .ensures,
+      c .before .before .before .before .before .before .before .before .before .before .before .before .before .before .before .when .ensures,
     )
 
 pub first-fault-spec : {M : Type 1} → statement M
@@ -78,7 +86,9 @@ first-fault-spec =
     or-else-requires-4
     when-requires-6
     or-else-requires-5
-    or-else-requires-6
     when-requires-7
+    or-else-requires-6
     or-else-requires-7
+    when-requires-8
+    or-else-requires-8
     returns)

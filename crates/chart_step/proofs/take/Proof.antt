@@ -38,20 +38,26 @@ enum-told c = search needs
 hot-step-requires : tie.Need-hot-step-requires
 hot-step-requires c κs = search needs
 
+enum-told-2 : tie.Need-enum-told-2
+enum-told-2 c = search needs
+
+rest-step-requires : tie.Need-rest-step-requires
+rest-step-requires c κs = search needs
+
 enum-known-c-6 : tie.Need-enum-known-c-6
 enum-known-c-6 c = search needs
 
 resets-step-requires : tie.Need-resets-step-requires
 resets-step-requires c κs = search needs
 
-enum-told-2 : tie.Need-enum-told-2
-enum-told-2 c = search needs
+enum-told-3 : tie.Need-enum-told-3
+enum-told-3 c = search needs
 
 main-chart-step-requires : tie.Need-main-chart-step-requires
 main-chart-step-requires c κs = search needs
 
-enum-told-3 : tie.Need-enum-told-3
-enum-told-3 c = search needs
+enum-told-4 : tie.Need-enum-told-4
+enum-told-4 c = search needs
 
 end-step-requires : tie.Need-end-step-requires
 end-step-requires c κs = search needs
@@ -75,13 +81,16 @@ returns-6 : tie.Need-returns-6
 returns-6 c = rw (c .before .enum-told .given .1) (c .hot-step .ensures)
 
 returns-7 : tie.Need-returns-7
-returns-7 c = rw (c .before .before .c6 .given .1) (c .resets-step .ensures)
+returns-7 c = rw (c .before .enum-told2 .given .1) (c .rest-step .ensures)
 
 returns-8 : tie.Need-returns-8
-returns-8 c = rw (c .before .enum-told2 .given .1) (c .main-chart-step .ensures)
+returns-8 c = rw (c .before .before .c6 .given .1) (c .resets-step .ensures)
 
 returns-9 : tie.Need-returns-9
-returns-9 c = rw (c .before .enum-told3 .given .1) (c .end-step .ensures)
+returns-9 c = rw (c .before .enum-told3 .given .1) (c .main-chart-step .ensures)
+
+returns-10 : tie.Need-returns-10
+returns-10 c = rw (c .before .enum-told4 .given .1) (c .end-step .ensures)
 
 pub take-spec : {M : Type 1} → statement M
 take-spec =
@@ -99,11 +108,13 @@ take-spec =
     difference-term-step-requires
     enum-told
     hot-step-requires
+    enum-told-2
+    rest-step-requires
     enum-known-c-6
     resets-step-requires
-    enum-told-2
-    main-chart-step-requires
     enum-told-3
+    main-chart-step-requires
+    enum-told-4
     end-step-requires
     returns
     returns-2
@@ -113,4 +124,5 @@ take-spec =
     returns-6
     returns-7
     returns-8
-    returns-9)
+    returns-9
+    returns-10)

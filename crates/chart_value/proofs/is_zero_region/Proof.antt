@@ -18,11 +18,12 @@ unfolding termsFit termPlaced
 none-used g e = rw e
 
 -- only where n is 0 does the last test count
-where-zero : (n : ℕ) (p q x y : Bool) → (n ≡ 0 → x ≡ y) → (eqb n 0 && (p && (q && x))) ≡ (eqb n 0 && (p && (q && y)))
-where-zero n p q x y f = by (eqb n 0) refl
+where-zero : (n : ℕ) (p q r x y : Bool) → (n ≡ 0 → x ≡ y)
+    → (eqb n 0 && (p && (q && (r && x)))) ≡ (eqb n 0 && (p && (q && (r && y))))
+where-zero n p q r x y f = by (eqb n 0) refl
   where
-    by : (b : Bool) → eqb n 0 ≡ b → (b && (p && (q && x))) ≡ (b && (p && (q && y)))
-    by true e = ap (λ (z : Bool). p && (q && z)) (f (eqb-true n 0 e))
+    by : (b : Bool) → eqb n 0 ≡ b → (b && (p && (q && (r && x)))) ≡ (b && (p && (q && (r && y))))
+    by true e = ap (λ (z : Bool). p && (q && (r && z))) (f (eqb-true n 0 e))
     by false e = refl
 
 is-zero-event-requires : tie.Need-is-zero-event-requires
@@ -34,11 +35,11 @@ terms-zero-requires c κs = search needs
 returns : tie.Need-returns
 unfolding isZeroRegion
 returns c =
-    let g = c .before .before .before .before .before .args .g in
+    let g = c .before .before .before .before .before .before .args .g in
     rw (
-      c .before .before .before .before .is-zero-event .ensures,
-      c .before .before .before .terms-zero .ensures,
-      where-zero (g .count) (not (g .hot)) (eqb (g .resets) 0) _ _ (none-used g),
+      c .before .before .before .before .before .is-zero-event .ensures,
+      c .before .before .before .before .terms-zero .ensures,
+      where-zero (g .count) (not (g .hot)) (eqb (g .resets) 0) (not (g .rest)) _ _ (none-used g),
     )
 
 pub is-zero-region-spec : {M : Type 1} → statement M

@@ -22,10 +22,10 @@ returns : tie.Need-returns
 unfolding regionFits
 returns c =
     rw (
-      c .before .before .before .before .before .before .event-fits .ensures,
-      c .before .before .before .before .before .terms-fit .ensures,
-      c .before .before .before .within .ensures,
-      c .before .before .is-bare .ensures,
+      c .before .before .before .before .before .before .before .event-fits .ensures,
+      c .before .before .before .before .before .before .terms-fit .ensures,
+      c .before .before .before .before .within .ensures,
+      c .before .before .before .is-bare .ensures,
     )
 
 pub region-fits-spec : {M : Type 1} → statement M
