@@ -1,7 +1,7 @@
 -- Facts on searches, on the lowest number that passes a test, and on lists that grow at their end. Assumes nothing.
-use mathlib.Core.Path.{_≡_, refl, sym, ap, _∙_}
+use mathlib.Core.Path.{_≡_, refl, sym, ap, ap₂, _∙_}
 use mathlib.Core.Logic.{_⊎_, inl, inr}
-use mathlib.Core.Bool.{Bool, false, not, So, _||_, true≢false, false≢true}
+use mathlib.Core.Bool.{Bool, false, not, So, _&&_, _||_, true≢false, false≢true}
 use mathlib.Core.Option.{Option, none, some}
 use Prim.Native.Nat.{ℕ, zero, suc, _+_, _≤_, _<_}
 use native.Mathlib.Nat.{not-suc-le-zero}
@@ -10,7 +10,8 @@ use native.Mathlib.Decide.{decLt, ℕ-discrete}
 use lib.Dec.{eqb, ltb}
 use borrow.Author.Tests.{eq-eqb, ne-eqb, lt-ltb, le-ltb, not-true, not-false}
 use Rattle.base.proofs.Bools.{split, clash, and-both, and-left, and-right}
-use Rattle.base.specs.Lists.{Snoc, ε, _▸_, size, each, allBelow, countBelow, first, isFound, failsAt}
+use Rattle.base.specs.Lists.{Snoc, ε, _▸_, size, each, allBelow, countBelow, first, last, isFound}
+use Rattle.base.specs.Lists.{failsAt}
 
 -- a search's value, with the equation
 pub found : {A : Type 0} (o : Option A) → (o ≡ none) ⊎ ((a : A) × (o ≡ some a))
@@ -87,6 +88,50 @@ first-is-none k t h = elim (found (first k t)) [
   | inr f ↦ absurd (h (f .0) (first-some k t (f .0) (f .1) .below) (first-some k t (f .0) (f .1) .passes))
 ]
 
+-- i is the highest number below k that passes
+pub record Highest (k : ℕ) (t : ℕ → Bool) (i : ℕ) : Type 0 where
+  pub below : i < k
+  pub passes : So (t i)
+  pub highest : (j : ℕ) → j < k → So (t j) → j ≤ i
+
+pub last-none : (k : ℕ) (t : ℕ → Bool) → last k t ≡ none → (j : ℕ) → j < k → t j ≡ false
+last-none zero t e j h = absurd (not-suc-le-zero h)
+last-none (suc k) t e j h = elim (split (t k)) [
+  | inl p ↦ none-some {a = k} e (rw p)
+  | inr p ↦ elim (ℕ-discrete j k) [ yes q ↦ rw q p | no q ↦ last-none k t (rw p at e) j (omega arith) ]
+]
+
+pub last-some : (k : ℕ) (t : ℕ → Bool) (i : ℕ) → last k t ≡ some i → Highest k t i
+last-some zero t i e = none-some refl e
+last-some (suc k) t i e = elim (split (t k)) [
+  | inl p ↦
+      let q : k ≡ i = some-same {o = last (suc k) t} {a = k} {b = i} (rw p) e in
+      record { below = omega arith; passes = rw (← q) p; highest = λ j h c. omega arith }
+  | inr p ↦
+      let H : Highest k t i = last-some k t i (rw p at e) in
+      record {
+        below = omega (arith, H .below);
+        passes = H .passes;
+        highest = λ j h c. elim
+            (ℕ-discrete j k) [ yes d ↦ clash (rw d at c) p | no d ↦ H .highest j (omega arith) c ];
+      }
+]
+
+pub last-is : (k : ℕ) (t : ℕ → Bool) (i : ℕ) → Highest k t i → last k t ≡ some i
+last-is k t i H = elim (found (last k t)) [
+  | inl n ↦ clash (H .passes) (last-none k t n i (H .below))
+  | inr f ↦
+      let F : Highest k t (f .0) = last-some k t (f .0) (f .1) in
+      let q : f .0 ≡ i = omega (arith, F .highest i (H .below) (H .passes), H .highest (f .0) (F .below) (F .passes)) in
+      rw q at (f .1)
+]
+
+pub last-is-none : (k : ℕ) (t : ℕ → Bool) → ((j : ℕ) → j < k → t j ≡ false) → last k t ≡ none
+last-is-none k t h = elim (found (last k t)) [
+  | inl n ↦ n
+  | inr f ↦ let H = last-some k t (f .0) (f .1) in clash (H .passes) (h (f .0) (H .below))
+]
+
 -- i is the lowest number below n that fails
 pub record FailsFirst (n : ℕ) (t : ℕ → Bool) (i : ℕ) : Type 0 where
   pub below : i < n
@@ -155,6 +200,10 @@ all-at (suc k) t h j l = elim (ℕ-discrete j k) [
   | yes q ↦ rw q (and-right (allBelow k t) (t k) h)
   | no q ↦ all-at k t (and-left (allBelow k t) (t k) h) j (omega arith)
 ]
+
+pub all-same : (n : ℕ) (s t : ℕ → Bool) → ((i : ℕ) → i < n → s i ≡ t i) → allBelow n s ≡ allBelow n t
+all-same zero s t h = refl
+all-same (suc n) s t h = ap₂ _&&_ (all-same n s t (λ i l. h i (omega arith))) (h n (omega arith))
 
 -- one more number fails: the count falls by one
 count-same : (k : ℕ) (f : ℕ → Bool) (i : ℕ) → k ≤ i

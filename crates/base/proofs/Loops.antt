@@ -46,9 +46,12 @@ one-passes t k (suc n) l h = elim (ℕ-discrete k n) [
   | no q ↦ rw (one-passes t k n (omega arith) h)
 ]
 
-pub some-at : (n : ℕ) (t : ℕ → Bool) → someBelow n t ≡ true → (i : ℕ) × (t i ≡ true)
+pub some-at : (n : ℕ) (t : ℕ → Bool) → someBelow n t ≡ true → (i : ℕ) × (t i ≡ true) × (i < n)
 some-at zero t h = absurd (false≢true h)
-some-at (suc n) t h = elim (either (someBelow n t) (t n) h) [ inl p ↦ some-at n t p | inr p ↦ (n, p) ]
+some-at (suc n) t h = elim (either (someBelow n t) (t n) h) [
+  | inl p ↦ let s = some-at n t p in (s .0, s .1, omega (arith, s .2))
+  | inr p ↦ (n, p, omega arith)
+]
 
 pub none-some : {t : ℕ → Bool} (n : ℕ) → SoFar t false n → someBelow n t ≡ false
 none-some zero S = refl

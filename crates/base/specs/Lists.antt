@@ -58,6 +58,11 @@ abbrev pub first : ℕ → (ℕ → Bool) → Option ℕ
 first zero t = none
 first (suc k) t = orElse (first k t) (cond (t k) (some k) none)
 
+-- the highest number below the bound that passes
+abbrev pub last : ℕ → (ℕ → Bool) → Option ℕ
+last zero t = none
+last (suc k) t = cond (t k) (some k) (last k t)
+
 -- `b` if nothing was found, otherwise `f` of what was found
 abbrev pub onFound : {A B : Type 0} → Option A → B → (A → B) → B
 onFound none b f = b

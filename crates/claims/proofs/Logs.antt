@@ -456,7 +456,7 @@ module _ (c : Chart) (G : (wellFormed c ≡ true) ↔ Given c) (s : List ℕ) wh
       (λ (l : Snoc Record). record {
         number = 0;
         offset = 0;
-        verdict = verdictOf (chartOf c) (after (chartOf c) (logged l));
+        verdict = verdictOf c (after (chartOf c) (logged l));
       }) (sym (walk-records s W F))
       ∙ judged-by g (checked.Fine (size es)) (sym (walk-fine s W F))
 

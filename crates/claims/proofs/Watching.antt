@@ -4,9 +4,7 @@ use mathlib.Core.Logic.{_≢_}
 use mathlib.Core.List.{List}
 use Prim.Native.Nat.{ℕ, _-_, _<_}
 use lib.ListN.{length}
-use borrow.Author.Tests.{ne-eqb}
 use Rattle.model.specs.declared.Chart.{Chart}
-use Rattle.model.specs.declared.Cause.{Cause}
 use Rattle.model.specs.declared.Moment.{Moment}
 use Rattle.model.specs.declared.Monitor.{Monitor}
 use Rattle.model.specs.declared.Record.{Record}
@@ -24,15 +22,10 @@ use Rattle.log_clock.specs.declared.MomentRefusal.{MomentRefusal}
 use Rattle.log_clock.specs.declared.Dated.the-variants.{End, NoRecord, NoMoment, At}
 use Rattle.log_clock.specs.Dated.{datedAt}
 use Rattle.base.specs.Lists.{Snoc, ε, _▸_}
-use Rattle.rounds.specs.Chart.{Chart as Abstract, Accepted}
-use Rattle.rounds.specs.Rows.{LogRecord}
-use Rattle.rounds.specs.Tally.{Tally}
-use Rattle.rounds.specs.Feeds.{Answer as AbstractAnswer, Last, unended, afterBreak}
-use Rattle.rounds.specs.Machine.{Monitor as AbstractMonitor, after}
-use Rattle.rounds.specs.Demand3.{Meaning, AtLast, Agrees}
-use Rattle.rounds.proofs.Feeds.{Besides, besides, monitor-agrees}
-use Rattle.rounds.proofs.Agreeing.{agrees-only}
-use Rattle.judge.specs.Verdict.{broken, standingOf, verdictWith, verdictOf}
+use Rattle.rounds.specs.Feeds.{Answer as AbstractAnswer}
+use Rattle.rounds.specs.Machine.{Monitor as AbstractMonitor}
+use Rattle.rounds.specs.Demand3.{Meaning, Agrees}
+use Rattle.judge.specs.Verdict.{verdictOf}
 use Rattle.paper.proofs.Demand2.{demand-2}
 use Rattle.rounds.proofs.Demand3.{demand-3}
 use Rattle.chart_value.specs.View.{chartOf}
@@ -48,6 +41,7 @@ use Rattle.monitor.proofs.History.{feeding}
 use Rattle.claims.specs.declared.Watched.{Watched}
 use Rattle.claims.specs.Watch.{FedAll, Watches}
 use Rattle.claims.specs.Claims.{Demands}
+use Rattle.claims.proofs.Standing.{same-verdict}
 use Rattle.log_clock.specs.Records.{recordsFrom, recordsIn}
 use Rattle.log_clock.proofs.Records.{one-record}
 
@@ -124,36 +118,12 @@ watched chart log x r e a z f = record {
         subst (λ (d : Chart). FedAll d (recordsIn log) (r .monitor)) (ap (λ (s : Said). s .chart) (e ∙ q))
         (f (ap (λ (s : Said). s .number) (e ∙ q)))
 
--- a broken monitor's standing
-standing-broken : (C : Abstract) (m : AbstractMonitor) → m .tally .broken .at ≢ 0 → standingOf C m ≡ broken
-unfolding standingOf
-standing-broken C m n = rw (ne-eqb (m .tally .broken .at) 0 n)
-
--- monitors that agree with the stretches have one verdict
-module _ (C : Abstract) (A : Accepted C) {fs : Snoc LogRecord} (M : Meaning C fs) (m : AbstractMonitor)
-    (G : Agrees C (M .accepted) (M .stretches) (M .last) m) where
-  same-broken : {k : ℕ} {x : Cause} → M .last ≡ afterBreak k x → verdictOf C m ≡ verdictOf C (after C fs)
-  unfolding AtLast
-  same-broken {k} {x} q =
-      let t = agrees-only C A M m G .0 in
-      let H : Agrees C (M .accepted) (M .stretches) (afterBreak k x) (after C fs) = rw q at (monitor-agrees C A M .1) in
-      let B : Besides C A (afterBreak k x) (M .accepted) = rw q at (besides C A (M .fed)) in
-      let n : after C fs .tally .broken .at ≢ 0 = λ z. B (sym (H .at-last .at-last-accepted) ∙ z) in
-      let w : m .tally .broken .at ≢ 0 = λ z. n (sym (ap (λ (u : Tally). u .broken .at) t) ∙ z) in
-      ap (λ (s : ℕ). verdictWith s (m .tally)) (standing-broken C m w)
-      ∙ ap (verdictWith broken) t
-      ∙ sym (ap (λ (s : ℕ). verdictWith s (after C fs .tally)) (standing-broken C (after C fs) n))
-
-  same-verdict : (l : Last) → M .last ≡ l → verdictOf C m ≡ verdictOf C (after C fs)
-  same-verdict (unended o s) q = ap (verdictOf C) (agrees-only C A M m G .1 o s q)
-  same-verdict (afterBreak k x) q = same-broken q
-
 -- the verdict, by the stretches
 pub judged-walk : (c : Chart) → Given c → (log : List ℕ) {es : Snoc Record} {k : Kind} {at last : ℕ}
     → Walk log es k at last → FindsAs log at (found.end at)
     → (M : Meaning (chartOf c) (logged es)) (m : AbstractMonitor)
     → Agrees (chartOf c) (M .accepted) (M .stretches) (M .last) m
-    → JudgesAs c log (judgedLog (verdictOf (chartOf c) m))
+    → JudgesAs c log (judgedLog (verdictOf c m))
 judged-walk c g log W F M m G =
     subst (λ (v : Verdict). JudgesAs c log (judgedLog v))
-    (sym (same-verdict (chartOf c) (shown c g .accepted) M m G (M .last) refl)) (judges g W F)
+    (sym (same-verdict c (shown c g .accepted) M m G)) (judges g W F)

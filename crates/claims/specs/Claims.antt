@@ -6,6 +6,7 @@ use Prim.Native.Nat.{ℕ, _-_, _≤_}
 use lib.ListN.{getD}
 use Rattle.bitset.specs.Set.{contains}
 use Rattle.model.specs.declared.Chart.{Chart}
+use Rattle.model.specs.declared.Cause.{Cause}
 use Rattle.model.specs.declared.Monitor.{Monitor}
 use Rattle.model.specs.declared.Record.{Record}
 use Rattle.model.specs.declared.Answer.{Answer}
@@ -19,8 +20,11 @@ use Rattle.chart_reader.specs.Said.{acceptedAs}
 use Rattle.chart_faults.specs.Claims.{Faults}
 use Rattle.chart_value.specs.Given.{Given}
 use Rattle.chart_value.specs.View.{regionOf, chartOf, Shown, CodesTell}
+use Rattle.chart_value.specs.Marks.{MarksApart}
 use Rattle.chart_value.specs.Guards.{NeverFire}
 use Rattle.base.specs.Lists.{Snoc, size}
+use Rattle.rounds.specs.Rows.{LogRecord, Row, Lawful}
+use Rattle.rounds.specs.Feeds.{unended, afterBreak}
 use Rattle.rounds.specs.Machine.{Monitor as AbstractMonitor}
 use Rattle.rounds.specs.Demand3.{Demand3, Meaning, Agrees}
 use Rattle.paper.specs.Demand2.{Demand2}
@@ -37,8 +41,9 @@ use Rattle.monitor.specs.History.{Feeding, ViewTells}
 use Rattle.chart_value.specs.Records.{logged}
 use Rattle.judge.specs.declared.Judgement.{Judgement}
 use Rattle.judge.specs.Verdict as judge
-use Rattle.judge.specs.Verdict.{verdictOf}
+use Rattle.judge.specs.Verdict.{broken, standingOf, verdictOf}
 use Rattle.claims.specs.Demand1.{FindsAs, Walk, Stamped, JudgesAs, judgedLog}
+use Rattle.claims.specs.Standing.{StandsAs}
 use Rattle.claims.specs.Examples.{examples, AllSaid}
 
 -- what is said of an answer fixes it: two answers of which the same is said are the same value
@@ -75,6 +80,9 @@ pub record Claims : Type 0 where
   pub faults : Faults
   -- a chart that accepted bytes give shows an accepted abstract chart, whose order is the closure over shared lines
   pub shown : (c : Chart) → Given c → Shown c
+  -- C20, J14: the abstract chart, of which rows, stretches, answers and counts are said, does not show the marks of
+  -- places to rest
+  pub marks-apart : MarksApart
   -- messages with the same code are the same
   pub codes-tell : CodesTell
   -- each entry of the table that decides terms is yes exactly if its relation holds for differences of its sign
@@ -93,7 +101,15 @@ pub record Claims : Type 0 where
       → Walk log es k at last → FindsAs log at (found.end at)
       → (M : Meaning (chartOf c) (logged es)) (m : AbstractMonitor)
       → Agrees (chartOf c) (M .accepted) (M .stretches) (M .last) m
-      → JudgesAs c log (judgedLog (verdictOf (chartOf c) m))
+      → JudgesAs c log (judgedLog (verdictOf c m))
+  -- J8, J13: if the last stretch has no end, the standing is the one that its row gives, and no other; after a broken
+  -- stretch it is 3
+  pub stands : (c : Chart) → Given c → {fs : Snoc LogRecord} (M : Meaning (chartOf c) fs) (m : AbstractMonitor)
+      → Agrees (chartOf c) (M .accepted) (M .stretches) (M .last) m → (o : ℕ) (s : Snoc LogRecord)
+      → M .last ≡ unended o s → (r : Row) → Lawful (chartOf c) o s r → (k : ℕ) → (standingOf c m ≡ k) ↔ StandsAs c r k
+  pub stands-broken : (c : Chart) → Given c → {fs : Snoc LogRecord} (M : Meaning (chartOf c) fs) (m : AbstractMonitor)
+      → Agrees (chartOf c) (M .accepted) (M .stretches) (M .last) m → {k : ℕ} {x : Cause} → M .last ≡ afterBreak k x
+      → standingOf c m ≡ broken
   -- and these are the records that are fed from its bytes
   pub walked : (log : List ℕ) {es : Snoc Record} {k : Kind} {at last : ℕ} → Walk log es k at last
       → FindsAs log at (found.end at) → recordsIn log ≡ es

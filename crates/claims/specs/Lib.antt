@@ -1,4 +1,5 @@
 pub mod Examples
 pub mod Demand1
 pub mod Watch
+pub mod Standing
 pub mod Claims

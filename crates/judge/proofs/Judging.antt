@@ -2,19 +2,16 @@
 use mathlib.Core.Path.{_≡_, sym, ap, subst, _∙_}
 use mathlib.Core.Bool.{true, false}
 use mathlib.Core.List.{List}
-use Prim.Native.Nat.{ℕ, _≤_, _<_}
-use native.Mathlib.Omega.{arith}
+use Prim.Native.Nat.{ℕ}
 use Rattle.model.specs.declared.Chart.{Chart}
 use Rattle.model.specs.declared.Monitor.{Monitor}
 use Rattle.model.specs.declared.Record.{Record}
-use Rattle.model.specs.Chart.{mostRegions}
 use Rattle.model.specs.declared.Verdict.{Verdict}
 use Rattle.model.specs.Answers.{zeroVerdict}
 use Rattle.base.specs.Lists.{Snoc}
 use Rattle.chart_value.specs.WellFormed.{wellFormed}
 use Rattle.chart_value.specs.Given.{Given}
 use Rattle.chart_value.specs.View.{chartOf}
-use Rattle.chart_value.proofs.Facts.{wf-of}
 use Rattle.chart_value.proofs.Shown.{shown}
 use Rattle.rounds.specs.Machine.{Monitor as AbstractMonitor, Fit, after}
 use Rattle.rounds.proofs.Fitness.{after-fit}
@@ -34,13 +31,6 @@ use Rattle.judge.specs.Verdict.{verdictOf, said}
 use Rattle.judge.specs.Parts.{verdictBy}
 use Rattle.judge.proofs.Stands.{verdict-same}
 
-pub half-fits : (c : Chart) → wellFormed c ≡ true → c .prechart ≤ mostRegions
-half-fits c e =
-    let w = wf-of c e in
-    let m : c .prechart < c .count = w .main in
-    let r : c .count ≤ mostRegions = w .room in
-    omega arith
-
 module _ (c : Chart) (s : List ℕ) where
   pub judged-no-chart : (r : Judgement) → wellFormed c ≡ false → r ≡ record { answer = NoChart; verdict = zeroVerdict }
       → said r ≡ judgeOf c s
@@ -53,7 +43,7 @@ module _ (c : Chart) (s : List ℕ) where
   judged-refused r k o w q e = rw (w, q) (ap said e)
 
   pub judged-fine : (v : Verdict) (m : Monitor) (n : ℕ) → wellFormed c ≡ true → Given c → checkLog s ≡ checked.Fine n
-      → monitorAt m ≡ after (chartOf c) (logged (soundRecords s)) → v ≡ verdictBy (c .prechart) m
+      → monitorAt m ≡ after (chartOf c) (logged (soundRecords s)) → v ≡ verdictBy c m
       → said (record { answer = Judged; verdict = v }) ≡ judgeOf c s
   unfolding judgeOf
   judged-fine v m n w g q b e =
@@ -63,6 +53,6 @@ module _ (c : Chart) (s : List ℕ) where
       let fit : Fit (chartOf c) (monitorAt m) =
       subst (λ (x : AbstractMonitor). Fit (chartOf c) x) (sym a)
       (after-fit (chartOf c) (shown c g .accepted) (logged (recordsIn s))) in
-      let same : v ≡ verdictOf (chartOf c) (after (chartOf c) (logged (recordsIn s))) =
-      e ∙ verdict-same (chartOf c) (c .prechart) m (λ i. c .prechart) fit ∙ ap (verdictOf (chartOf c)) a in
+      let same : v ≡ verdictOf c (after (chartOf c) (logged (recordsIn s))) =
+      e ∙ verdict-same c m fit ∙ ap (verdictOf c) a in
       rw (w, q) (λ i. record { number = 0; offset = 0; verdict = same i })

@@ -19,7 +19,7 @@ use Rattle.judge.specs.Verdict.{verdictOf, Said}
 -- the verdict over a log that was checked: its records, fed one after the other to a fresh monitor
 abbrev pub byCheck : Chart → List ℕ → Checked → Said
 byCheck c s (checked.Fine n) =
-    record { number = 0; offset = 0; verdict = verdictOf (chartOf c) (after (chartOf c) (logged (recordsIn s))) }
+    record { number = 0; offset = 0; verdict = verdictOf c (after (chartOf c) (logged (recordsIn s))) }
 byCheck c s (checked.Refused k offset) = record { number = logRefusalNumber k; offset = offset; verdict = zeroVerdict }
 
 -- 20 at 0, then the faults of the log, all before a record is fed, then the verdict

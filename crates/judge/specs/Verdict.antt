@@ -1,11 +1,13 @@
--- What judging a log says: the standing and the verdict of a monitor (J6 to J8), and the number of each answer.
+-- What judging a log says: the standing and the verdict of a monitor (J6 to J8, J13), and the number of each answer.
 use mathlib.Core.Bool.{cond, not}
 use Prim.Native.Nat.{ℕ}
 use lib.Dec.{eqb}
+use Rattle.model.specs.declared.Chart.{Chart}
 use Rattle.model.specs.declared.Verdict.{Verdict}
 use Rattle.model.specs.Answers.{notAChart, verdictFrom}
 use Rattle.base.specs.Lists.{allBelow}
-use Rattle.rounds.specs.Chart.{Chart as Abstract}
+use Rattle.chart_value.specs.View.{chartOf}
+use Rattle.resting.specs.Rest.{rests}
 use Rattle.rounds.specs.Tally.{Tally}
 use Rattle.rounds.specs.Machine.{Monitor as AbstractMonitor, prechartDone}
 use Rattle.log_check.specs.Refusal.{logRefusalNumber}
@@ -26,11 +28,16 @@ inPrechart = 1
 abbrev pub owed : ℕ
 owed = 2
 
-unfoldable pub standingOf : Abstract → AbstractMonitor → ℕ
-standingOf C m =
+-- J13: owed, at a place where it may rest
+abbrev pub resting : ℕ
+resting = 4
+
+unfoldable pub standingOf : Chart → AbstractMonitor → ℕ
+standingOf c m =
     cond (not (eqb (m .tally .broken .at) 0)) broken
-    (cond (allBelow (C .regions) (λ i. not (m .place .fired i))) nothingFired
-    (cond (not (prechartDone C (m .place .fired))) inPrechart owed))
+    (cond (allBelow (c .count) (λ i. not (m .place .fired i))) nothingFired
+    (cond (not (prechartDone (chartOf c) (m .place .fired))) inPrechart
+    (cond (rests c (m .place .fired)) resting owed)))
 
 -- J6: the verdict, by the standing and the counts
 abbrev pub verdictWith : ℕ → Tally → Verdict
@@ -38,8 +45,8 @@ verdictWith standing t =
     verdictFrom standing (t .kept) (t .dropped) (t .records) (t .broken .at) (t .broken .reason)
     (t .broken .cause .region) (t .broken .cause .term)
 
-abbrev pub verdictOf : Abstract → AbstractMonitor → Verdict
-verdictOf C m = verdictWith (standingOf C m) (m .tally)
+abbrev pub verdictOf : Chart → AbstractMonitor → Verdict
+verdictOf c m = verdictWith (standingOf c m) (m .tally)
 
 -- What judging says: 0 and the verdict, or a refusal with its offset and zeros for the verdict.
 pub record Said : Type 0 where

@@ -5,9 +5,9 @@ use model::Chart;
 use model::Monitor;
 use model::Verdict;
 ghost use mathlib.Core.Path.{_≡_};
-ghost use Prim.Native.Nat.{_≤_};
-ghost use Rattle.model.specs.Chart.{mostRegions};
+ghost use mathlib.Core.Bool.{true};
 ghost use Rattle.model.specs.Answers.{zeroVerdict};
+ghost use Rattle.chart_value.specs.WellFormed.{wellFormed};
 ghost use Rattle.judge.specs.Verdict.{said};
 ghost use Rattle.judge.specs.Judge.{judgeOf};
 ghost use Rattle.judge.specs.Parts.{standingBy, verdictBy};
@@ -31,9 +31,11 @@ const IN_PRECHART: u8 = 1;
 
 const OWED: u8 = 2;
 
-fn standing(prechart: usize, m: Monitor) -> u8
-    requires { ⌜ prechart ≤ mostRegions ⌝ }
-    ensures { λ r. ⌜ r ≡ standingBy prechart m ⌝ }
+const RESTING: u8 = 4;
+
+fn standing(chart: Chart, m: Monitor) -> u8
+    requires { ⌜ wellFormed chart ≡ true ⌝ }
+    ensures { λ r. ⌜ r ≡ standingBy chart m ⌝ }
 {
     let place = m.place;
     if m.tally.broken.at != 0 {
@@ -42,22 +44,25 @@ fn standing(prechart: usize, m: Monitor) -> u8
     if place.fired == 0 {
         return NOTHING_FIRED;
     }
-    if firing::all_fired(prechart, place.fired) {
-        return OWED;
+    if !firing::all_fired(chart.prechart as usize, place.fired) {
+        return IN_PRECHART;
     }
-    IN_PRECHART
+    if resting::rests(chart, place.fired) {
+        return RESTING;
+    }
+    OWED
 }
 
-// The verdict of a monitor, given the number of prechart regions.
-pub fn verdict_of(prechart: usize, m: Monitor) -> Verdict
-    requires { ⌜ prechart ≤ mostRegions ⌝ }
-    ensures { λ r. ⌜ r ≡ verdictBy prechart m ⌝ }
+// The verdict of a monitor for a chart.
+pub fn verdict_of(chart: Chart, m: Monitor) -> Verdict
+    requires { ⌜ wellFormed chart ≡ true ⌝ }
+    ensures { λ r. ⌜ r ≡ verdictBy chart m ⌝ }
 {
     let tally = m.tally;
     let broken = tally.broken;
     let cause = broken.cause;
     Verdict {
-        standing: standing(prechart, m),
+        standing: standing(chart, m),
         kept: tally.kept,
         dropped: tally.dropped,
         records: tally.records,
@@ -90,7 +95,7 @@ pub fn judge(chart: Chart, log: &[u8]) -> Judgement
     match rest {
         Checked::Refused(k, offset) => refused(JudgeAnswer::Refused(k, offset)),
         Checked::Fine(_) => {
-            let verdict = verdict_of(chart.prechart as usize, m);
+            let verdict = verdict_of(chart, m);
             Judgement {
                 answer: JudgeAnswer::Judged,
                 verdict,

@@ -1,5 +1,5 @@
 -- The standing of a monitor for a chart, by its tests in their order. Assumes nothing.
-use mathlib.Core.Path.{_≡_, refl, ap, subst, _∙_}
+use mathlib.Core.Path.{_≡_, ap, subst, _∙_}
 use mathlib.Core.Bool.{Bool, true, false}
 use Rattle.model.specs.declared.Chart.{Chart}
 use Rattle.model.specs.declared.Monitor.{Monitor}
@@ -31,9 +31,8 @@ module _ (c : Chart) (m : Monitor) where
     stands-unfit r b t n q = rw (w, ← fit-same b t, n) q
 
     pub stands-fit : (v : Verdict) (b : Bool) → b ≡ fits C m → b ≡ true → Fit C (monitorAt m)
-        → v ≡ verdictBy (c .prechart) m
-        → record { number = 0; verdict = v } ≡ standingBy c m
+        → v ≡ verdictBy c m → record { number = 0; verdict = v } ≡ standingBy c m
     stands-fit v b t y F q =
         let fit : Fit (chartOf c) (monitorAt m) = subst (λ (C : Abstract). Fit C (monitorAt m)) same F in
         rw (w, ← fit-same b t, y)
-        (λ i. record { number = 0; verdict = (q ∙ verdict-same (chartOf c) (c .prechart) m refl fit) i })
+        (λ i. record { number = 0; verdict = (q ∙ verdict-same c m fit) i })

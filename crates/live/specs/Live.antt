@@ -124,7 +124,7 @@ abbrev pub standingBy : Chart → Monitor → LiveVerdict
 standingBy c m =
     cond (not (wellFormed c)) (record { number = notAChart; verdict = zeroVerdict })
     (cond (not (fits (chartOf c) m)) (record { number = notFit; verdict = zeroVerdict })
-    (record { number = 0; verdict = verdictOf (chartOf c) (monitorAt m) }))
+    (record { number = 0; verdict = verdictOf c (monitorAt m) }))
 
 unfoldable pub standingIn : List ℕ → LiveVerdict
 standingIn l = standingBy (chartIn l) (monitorIn l)

@@ -167,7 +167,7 @@ fn standing_of(chart: Chart, m: Monitor) -> LiveVerdict
     if !monitor::is_fit(h, &p.keys, &p.above, &p.resets, &p.terms, m) {
         return refused(FeedRefusal::Unfit);
     }
-    let verdict = judge::verdict_of(chart.prechart as usize, m);
+    let verdict = judge::verdict_of(chart, m);
     LiveVerdict { number: 0, verdict }
 }
 

@@ -11,7 +11,7 @@ use Rattle.wire.proofs.Writing.{written}
 use Rattle.model.specs.declared.Chart.{Chart}
 use Rattle.model.specs.Answers.{tooShort}
 use Rattle.model.specs.Numbers.{places}
-use Rattle.chart_step.specs.Refusal.{refusalNumber}
+use Rattle.chart_step.specs.Refusal.{refusalNumber, mostRefusal}
 use Rattle.chart_step.proofs.Numbers.{refusal-nonzero, refusal-most}
 use Rattle.chart_reader.specs.Said.{Said}
 use Rattle.chart_value.specs.WellFormed.{wellFormed}
@@ -68,8 +68,7 @@ chart-listed : (log : List ℕ) {x : Said} → Reads x → (x .number ≡ 0 → 
 unfolding judgeOf
 chart-listed log (accepts c) w = rw (w refl) (log-listed c log (checkLog log))
 chart-listed log (refuses f offset) w =
-    let h : refusalNumber f ≤ tooShort = omega (arith, refusal-most f) in
-    rw (ne-eqb (refusalNumber f) 0 (refusal-nonzero f), le-leb (refusalNumber f) tooShort h) refl
+    rw (ne-eqb (refusalNumber f) 0 (refusal-nonzero f), le-leb (refusalNumber f) mostRefusal (refusal-most f)) refl
 
 pub parts-listed : (chart log : List ℕ) → isJudgedNumber (reportNumber (partsReport chart log)) ≡ true
 unfolding partsReport

@@ -6,6 +6,7 @@ use lib.Dec.{eqb, leb, ltb}
 use lib.ListN.{length}
 use Rattle.wire.specs.Writing.{inRoom}
 use Rattle.model.specs.Answers.{tooShort, timeFalls, tooManyRecords}
+use Rattle.chart_step.specs.Refusal.{mostRefusal}
 use Rattle.model.specs.Numbers.{places, verdictNumbers}
 use Rattle.log_reader.specs.Record.{cutShort, unknownByte}
 use Rattle.log_clock.specs.Clock.{tooLate, twoKinds}
@@ -39,10 +40,10 @@ judgedNumber report out = cond (ltb (length out) places) tooShort (reportNumber 
 abbrev pub judgedOut : Report → List ℕ → List ℕ
 judgedOut report out = inRoom places (reportNumbers report) out
 
--- the numbers that judging returns: 0, a chart's refusal from 1 to 11, 12, or a log's, 22 to 24 or 30 to 32
+-- the numbers that judging returns: 0, a chart's refusal, 1 to 11 or 13, or 12, or a log's, 22 to 24 or 30 to 32
 abbrev pub isJudgedNumber : ℕ → Bool
 isJudgedNumber n =
-    leb n tooShort || (eqb n timeFalls || (eqb n tooManyRecords || (eqb n tooLate
+    leb n mostRefusal || (eqb n timeFalls || (eqb n tooManyRecords || (eqb n tooLate
     || (eqb n cutShort || (eqb n unknownByte || eqb n twoKinds)))))
 
 -- V8: 0 printed, 12 if out may be too short

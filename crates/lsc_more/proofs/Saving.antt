@@ -9,9 +9,8 @@ use lib.Dec.{eqb, ltb}
 use lib.ListN.{length, take, drop}
 use Rattle.wire.specs.Writing.{startingWith, writerAnswer, writerBuffer}
 use Rattle.wire.proofs.Writing.{take-front}
-use Rattle.model.specs.Answers.{tooShort}
 use Rattle.chart_step.specs.declared.Refusal.{Refusal}
-use Rattle.chart_step.specs.Refusal.{refusalNumber}
+use Rattle.chart_step.specs.Refusal.{refusalNumber, mostRefusal}
 use Rattle.chart_step.proofs.Numbers.{refusal-nonzero, refusal-most}
 use Rattle.chart_reader.specs.declared.ChartAnswer.the-variants.{Accepted, Refused}
 use Rattle.chart_reader.specs.declared.ChartRead.{ChartRead}
@@ -27,7 +26,7 @@ use Rattle.chart_writer.specs.Save.{savedAnswer, savedBuffer, savedNumber, save
 use Rattle.lsc_more.specs.Write.{writeNumber, writeAt, writeOut, ReadsAgain}
 
 -- a writer's answer has the number 0 or 12
-listed-by : (b : Bool) (n : ℕ) → savedNumber (cond b (TooShort n) (Written n)) ≤ tooShort
+listed-by : (b : Bool) (n : ℕ) → savedNumber (cond b (TooShort n) (Written n)) ≤ mostRefusal
 listed-by true n = omega arith
 listed-by false n = omega arith
 
@@ -41,7 +40,7 @@ module _ (chart out : List ℕ) where
   -- returned and written as the definitions say
   pub record Writes (r at : ℕ) (m : List ℕ) : Type 0 where
     pub number : r ≡ writeNumber (readChart chart) out
-    pub listed : r ≤ tooShort
+    pub listed : r ≤ mostRefusal
     pub place : at ≡ writeAt (readChart chart) out
     pub bytes : m ≡ writeOut (readChart chart) out
     pub again : ReadsAgain chart r at m

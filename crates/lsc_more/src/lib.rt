@@ -20,7 +20,7 @@ ghost use Rattle.preview.specs.Preview.{previewNumber, bufferOf};
 ghost use Rattle.monitor_image.specs.MonitorImage.{monitorIn};
 ghost use Rattle.live.specs.Live.{chartIn};
 ghost use Rattle.lsc_more.specs.Preview.{previewIn, regionsTold, Foretells};
-ghost use Rattle.model.specs.Answers.{tooShort};
+ghost use Rattle.chart_step.specs.Refusal.{mostRefusal};
 ghost use Rattle.chart_reader.specs.Read.{readChart};
 ghost use Rattle.lsc_more.specs.Write.{writeNumber, writeAt, writeOut, ReadsAgain};
 
@@ -168,7 +168,7 @@ pub extern "C" fn lsc_preview(live: &[u8], time: u32, out: &mut [u8], regions: &
 #[no_mangle]
 pub extern "C" fn lsc_write(chart: &[u8], out: &mut [u8], at: &mut u64) -> u8
     ensures number { λ r. ⌜ r ≡ writeNumber (readChart (now (chart .entry))) (now (out .entry)) ⌝ }
-    ensures listed { λ r. ⌜ r ≤ tooShort ⌝ }
+    ensures listed { λ r. ⌜ r ≤ mostRefusal ⌝ }
     ensures at { λ r. ⌜ now (at .exit) ≡ writeAt (readChart (now (chart .entry))) (now (out .entry)) ⌝ }
     ensures bytes { λ r. ⌜ now (out .exit) ≡ writeOut (readChart (now (chart .entry))) (now (out .entry)) ⌝ }
     ensures again { λ r. ⌜ ReadsAgain (now (chart .entry)) r (now (at .exit)) (now (out .exit)) ⌝ }

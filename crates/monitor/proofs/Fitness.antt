@@ -1,5 +1,5 @@
 -- The test of a monitor is the list of M10. Assumes nothing.
-use mathlib.Core.Path.{_≡_, refl, sym, ap, ap₂, subst, _∙_}
+use mathlib.Core.Path.{_≡_, refl, sym, ap, subst, _∙_}
 use mathlib.Core.Logic.{inl, inr, _↔_}
 use mathlib.Core.Bool.{Bool, true, false, not, So, _&&_, _||_}
 use mathlib.Core.Option.{Option, none, some}
@@ -25,7 +25,7 @@ use Rattle.rounds.specs.Chart.{Chart as Abstract, Accepted}
 use Rattle.rounds.specs.Rows.{plain, Ready, Full}
 use Rattle.rounds.specs.Machine.{full, readyPlain, Fit}
 use Rattle.base.proofs.Bools.{split, clash, and-both, and-left, and-right, or-left, or-right}
-use Rattle.base.proofs.Facts.{all-of, all-at}
+use Rattle.base.proofs.Facts.{all-of, all-at, all-same}
 use Rattle.rounds.proofs.Machine.{full-true, full-false, plain-none, plain-is-none}
 use Rattle.layout.specs.declared.Head.{Head}
 use Rattle.firing.specs.declared.Found.{Found}
@@ -199,10 +199,6 @@ module _ (C : Abstract) (A : Accepted C) (m : Monitor) where
   pub fit-exactly : length (m .place .resets) ≡ mostClocks → (r : Bool) → r ≡ fits C m
       → (r ≡ true) ↔ Fit C (monitorAt m)
   fit-exactly size r e = (λ p. fit-of size (sym e ∙ p), λ F. e ∙ of-fit F)
-
-all-same : (n : ℕ) (s t : ℕ → Bool) → ((i : ℕ) → i < n → s i ≡ t i) → allBelow n s ≡ allBelow n t
-all-same zero s t h = refl
-all-same (suc n) s t h = ap₂ _&&_ (all-same n s t (λ i l. h i (omega arith))) (h n (omega arith))
 
 module _ {h : Head} {keys above resets terms : List ℕ} (K : Compiled h keys above resets terms) where
   abbrev compiled : Abstract

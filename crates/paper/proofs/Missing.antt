@@ -46,7 +46,7 @@ module _ (C : Chart) (A : Accepted C) (e : LogRecord) where
         record {
           unmatched = λ s R. for-none C A here e s (P .unready) R;
           in-prechart = P .in-prechart;
-          fired-before = some-at (C .regions) here (P .started);
+          fired-before = let s = some-at (C .regions) here (P .started) in (s .0, s .1);
         }
 
     of-missed : ((i : ℕ) → So (here i) → i < C .regions) → So (chartMessage C e)

@@ -1,3 +1,4 @@
 pub mod Breaking
 pub mod Previewing
 pub mod Saving
+pub mod Marking

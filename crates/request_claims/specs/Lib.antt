@@ -1,4 +1,5 @@
 pub mod Breaks
 pub mod Previews
 pub mod Saves
+pub mod Marks
 pub mod Requests

@@ -53,7 +53,7 @@ pub fn show_then_feed(chart: Chart, m: Monitor, t: Moment, x: Message, out: &mut
     Pressed { shown, fed }
 }
 
-// Saving a chart: every chart value and buffer. No chart has more than 1,285 bytes.
+// Saving a chart: every chart value and buffer. No chart has more than 1,317 bytes.
 pub fn save_chart(chart: Chart, out: &mut [u8]) -> ChartWritten
     ensures saves { λ r. ⌜ SavesJust chart (now (out .entry)) r (now (out .exit)) ⌝ }
     ensures most { λ r. ⌜ (Given chart → length (chartBytes chart) ≤ mostBytes) ⌝ }

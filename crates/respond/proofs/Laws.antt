@@ -1,14 +1,14 @@
 -- What is printed of an answer: no refusal has the number 0, so each is printed as a refusal. Assumes nothing.
 use mathlib.Core.Path.{_≡_, refl, ap}
 use mathlib.Core.List.{List}
-use borrow.Author.Tests.{lt-ltb, le-ltb}
+use borrow.Author.Tests.{ne-eqb, lt-ltb, le-ltb}
 use lib.ListN.{length}
 use Prim.Native.Nat.{ℕ, _≤_, _<_}
 use Rattle.model.specs.declared.Chart.{Chart}
 use Rattle.model.specs.declared.Verdict.{Verdict}
 use Rattle.chart_step.specs.declared.Refusal.{Refusal}
-use Rattle.chart_step.specs.declared.Refusal.the-variants as chart
 use Rattle.chart_step.specs.Refusal.{refusalNumber}
+use Rattle.chart_step.proofs.Numbers.{refusal-nonzero}
 use Rattle.chart_reader.specs.declared.ChartAnswer.{ChartAnswer}
 use Rattle.chart_reader.specs.declared.ChartAnswer.the-variants as read
 use Rattle.chart_reader.specs.Said as read-specs
@@ -47,17 +47,7 @@ ofRead c s a = chartReport (record { number = read-specs.numberOf a; offset = re
 
 pub chart-refused : (c : Chart) (s : List ℕ) (f : Refusal) (offset : ℕ)
     → ofRead c s (read.Refused f offset) ≡ Refused part.Chart (refusalNumber f) offset
-chart-refused c s chart.CutShort offset = refl
-chart-refused c s chart.Unknown offset = refl
-chart-refused c s chart.Misplaced offset = refl
-chart-refused c s chart.Outside offset = refl
-chart-refused c s chart.Excess offset = refl
-chart-refused c s chart.Bare offset = refl
-chart-refused c s chart.HotAlone offset = refl
-chart-refused c s chart.Early offset = refl
-chart-refused c s chart.Unanchored offset = refl
-chart-refused c s chart.Mainless offset = refl
-chart-refused c s chart.Trailing offset = refl
+chart-refused c s f offset = rw (ne-eqb (refusalNumber f) 0 (refusal-nonzero f))
 
 pub too-short : (l t : List ℕ) → length l < room → (TooShort ≡ responseOf (length l) t) × (l ≡ bufferAfter l t)
 too-short l t h = let e = lt-ltb (length l) room h in (rw e, rw e)

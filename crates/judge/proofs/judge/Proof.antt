@@ -1,7 +1,7 @@
 -- `judge::judge` meets its contract: the check from where the pass stopped gives what the whole gives. Assumes nothing.
 use mathlib.Core.Path.{refl, sym, _∙_}
 use borrow.Author.Tests.{not-true, not-false}
-use Rattle.judge.proofs.Judging.{half-fits, judged-no-chart, judged-refused, judged-fine}
+use Rattle.judge.proofs.Judging.{judged-no-chart, judged-refused, judged-fine}
 use borrow.Author.Needs.{needs}
 use Rattle.judge.proofs.judge.Statement.{statement}
 use Rattle.judge.proofs.judge.Tie as tie
@@ -34,30 +34,30 @@ refused-requires-2 c κs = search needs
 enum-told : tie.Need-enum-told
 enum-told c = search needs
 
-cast-verdict-of : tie.Need-cast-verdict-of
-cast-verdict-of c = search needs
-
 verdict-of-requires : tie.Need-verdict-of-requires
 verdict-of-requires c κs =
-    half-fits (c .before .before .before .before .before .before .before .before .before .args .chart)
-    (sym (c .before .before .before .before .before .before .before .well-formed .ensures .0) ∙ not-false _ (c .before .before .before .before .before .before .if1 .left))
+    sym (c .before .before .before .before .before .before .well-formed .ensures .0) ∙ not-false _ (c .before .before .before .before .before .if1 .left)
 
 returns-2 : tie.Need-returns-2
-returns-2 c = (
-  judged-refused _ _ _ _ _ (sym (c .before .before .before .before .before .before .before .before .well-formed .ensures .0) ∙ not-false _ (c .before .before .before .before .before .before .before .if1 .left))
-      (sym (c .before .before .before .before .before .before .pass .ensures .1 .0) ∙ sym (c .before .before .before .before .check-rest .ensures .0) ∙ c .before .before .rest .given .1)
-      (c .refused2 .ensures),
-  refl,
-)
+returns-2 c =
+    let formed = c .before .before .before .before .before .before .before .before .well-formed .ensures in
+    let pass = c .before .before .before .before .before .before .pass .ensures in (
+      judged-refused _ _ _ _ _ (sym (formed .0) ∙ not-false _ (c .before .before .before .before .before .before .before .if1 .left))
+          (sym (pass .1 .0) ∙ sym (c .before .before .before .before .check-rest .ensures .0) ∙ c .before .before .rest .given .1)
+          (c .refused2 .ensures),
+      refl,
+    )
 
 returns-3 : tie.Need-returns-3
-returns-3 c = (
-  judged-fine _ _ _ _ _ (sym (c .before .before .before .before .before .before .before .before .well-formed .ensures .0) ∙ not-false _ (c .before .before .before .before .before .before .before .if1 .left))
-      (c .before .before .before .before .before .before .before .before .well-formed .ensures .1 .0 (not-false _ (c .before .before .before .before .before .before .before .if1 .left)))
-      (sym (c .before .before .before .before .before .before .pass .ensures .1 .0) ∙ sym (c .before .before .before .before .check-rest .ensures .0) ∙ c .before .before .enum-told .given .1)
-      (c .before .before .before .before .before .before .pass .ensures .0) (c .verdict-of .ensures),
-  refl,
-)
+returns-3 c =
+    let formed = c .before .before .before .before .before .before .before .well-formed .ensures in
+    let yes = not-false _ (c .before .before .before .before .before .before .if1 .left) in
+    let pass = c .before .before .before .before .before .pass .ensures in (
+      judged-fine _ _ _ _ _ (sym (formed .0) ∙ yes) (formed .1 .0 yes)
+          (sym (pass .1 .0) ∙ sym (c .before .before .before .check-rest .ensures .0) ∙ c .before .enum-told .given .1)
+          (pass .0) (c .verdict-of .ensures),
+      refl,
+    )
 
 pub judge-spec : {M : Type 1} → statement M
 judge-spec =
@@ -71,7 +71,6 @@ judge-spec =
     enum-known-rest
     refused-requires-2
     enum-told
-    cast-verdict-of
     verdict-of-requires
     returns-2
     returns-3)

@@ -1,6 +1,5 @@
 -- `live::standing_of` meets its contract: the tests in their order, then the verdict. Assumes nothing.
 use Rattle.live.proofs.Standings.{stands-no-chart, stands-unfit, stands-fit}
-use Rattle.judge.proofs.Judging.{half-fits}
 use borrow.Author.Tests.{not-true, not-false}
 use mathlib.Core.Path.{sym, _∙_}
 use borrow.Author.Needs.{needs}
@@ -29,21 +28,19 @@ refused-requires-2 c κs = search needs
 
 returns-2 : tie.Need-returns-2
 returns-2 c =
-    stands-unfit _ _
-    (sym (c .before .before .before .before .before .before .before .before .before .before .before .well-formed .ensures .0) ∙ not-false _ (c .before .before .before .before .before .before .before .before .before .before .if1 .left)) _ (c .before .before .before .before .before .before .before .before .before .compile .ensures .shows) _ _ (c .before .before .is-fit .ensures .0) (not-true _ (c .before .if2 .taken)) (c .refused2 .ensures)
-
-cast-verdict-of : tie.Need-cast-verdict-of
-cast-verdict-of c = search needs
+    let formed = sym (c .before .before .before .before .before .before .before .before .before .before .before .well-formed .ensures .0) ∙ not-false _ (c .before .before .before .before .before .before .before .before .before .before .if1 .left) in
+    stands-unfit _ _ formed _ (c .before .before .before .before .before .before .before .before .before .compile .ensures .shows) _ _ (c .before .before .is-fit .ensures .0)
+    (not-true _ (c .before .if2 .taken)) (c .refused2 .ensures)
 
 verdict-of-requires : tie.Need-verdict-of-requires
-verdict-of-requires c κs =
-    half-fits _
-    (sym (c .before .before .before .before .before .before .before .before .before .before .before .well-formed .ensures .0) ∙ not-false _ (c .before .before .before .before .before .before .before .before .before .before .if1 .left))
+verdict-of-requires c κs = sym (c .before .before .before .before .before .before .before .before .before .before .well-formed .ensures .0) ∙ not-false _ (c .before .before .before .before .before .before .before .before .before .if1 .left)
 
 returns-3 : tie.Need-returns-3
-returns-3 c = let t = not-false _ (c .before .before .if2 .left) in
-    stands-fit _ _
-    (sym (c .before .before .before .before .before .before .before .before .before .before .before .before .well-formed .ensures .0) ∙ not-false _ (c .before .before .before .before .before .before .before .before .before .before .before .if1 .left)) _ (c .before .before .before .before .before .before .before .before .before .before .compile .ensures .shows) _ _ (c .before .before .before .is-fit .ensures .0) t (c .before .before .before .is-fit .ensures .1 .0 t) (c .verdict-of .ensures)
+returns-3 c =
+    let formed = sym (c .before .before .before .before .before .before .before .before .before .before .before .well-formed .ensures .0) ∙ not-false _ (c .before .before .before .before .before .before .before .before .before .before .if1 .left) in
+    let fit = c .before .before .is-fit .ensures in
+    let yes = not-false _ (c .before .if2 .left) in
+    stands-fit _ _ formed _ (c .before .before .before .before .before .before .before .before .before .compile .ensures .shows) _ _ (fit .0) yes (fit .1 .0 yes) (c .verdict-of .ensures)
 
 pub standing-of-spec : {M : Type 1} → statement M
 standing-of-spec =
@@ -56,6 +53,5 @@ standing-of-spec =
     is-fit-requires
     refused-requires-2
     returns-2
-    cast-verdict-of
     verdict-of-requires
     returns-3)
