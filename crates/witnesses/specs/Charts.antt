@@ -5,7 +5,7 @@ use Prim.Native.Nat.{ℕ, zero, suc}
 use Rattle.claims.specs.Examples.{Example, judged, refusedChart}
 use Rattle.witnesses.specs.Hex.{hex}
 
--- Refusals 1 to 11. A chart's first command stands at 0; a command's operands follow it.
+-- Refusals 1 to 11; 13 is in Rested. A chart's first command stands at 0; a command's operands follow it.
 abbrev pub refusals : List Example
 refusals =
     -- 1: nine bytes, and no end among them

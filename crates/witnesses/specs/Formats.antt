@@ -27,6 +27,7 @@ use Rattle.witnesses.specs.Offers.{offers, offered, counts, Leads, leads
 use Rattle.witnesses.specs.Raw.{Reads, readings, raws}
 use Rattle.witnesses.specs.Asked.{Asks, asks}
 use Rattle.witnesses.specs.Foreseen.{Previews, previews}
+use Rattle.witnesses.specs.Rested.{misplaced, stands, Marks, Sets, Apart}
 use Rattle.witnesses.specs.Saved.{Saves, saves, LongestSaved}
 
 -- an input, and the text that is printed for it
@@ -142,6 +143,11 @@ pub record Formats : Type 0 where
   pub records-checked : Each Checks checks
   pub breaks-asked : Each Asks asks
   pub previews-shown : Each Previews previews
+  pub marks-placed : Each Says misplaced
+  pub rests-said : Each Says stands
+  pub marks-tested : Marks
+  pub rests-tested : Sets
+  pub marks-apart : Apart
   pub charts-saved : Each Saves saves
   pub longest-saved : LongestSaved
   pub log-numbers : LogNumbers

@@ -7,5 +7,6 @@ pub mod Offers
 pub mod Raw
 pub mod Asked
 pub mod Foreseen
+pub mod Rested
 pub mod Saved
 pub mod Formats

@@ -16,6 +16,7 @@ use Rattle.chart_value.specs.Writer.{chartBytes}
 use Rattle.chart_writer.specs.Save.{mostBytes, savedAnswer, savedBuffer, savedNumber, savedSize}
 use Rattle.claims.specs.Examples.{chartU}
 use Rattle.witnesses.specs.Hex.{hex}
+use Rattle.witnesses.specs.Rested.{paused}
 
 -- The chart that is read from some bytes, and a buffer; the number, the length written or needed, and the buffer then.
 pub record Saving : Type 0 where
@@ -65,6 +66,10 @@ hotReset = hex "10 02 01 20 00 01 00 01 50 20 00 01 00 02 30 00 01 00 00 00 28 3
 abbrev pub twoTerms : List ℕ
 twoTerms = hex "10 02 02 50 20 00 01 00 01 31 01 00 03 FF FF FF FB 30 00 04 00 00 00 05 40 03 7F"
 
+-- the same, marked as a place to rest: the 33 comes last
+abbrev pub hotResetRest : List ℕ
+hotResetRest = hex "10 02 01 20 00 01 00 01 50 20 00 01 00 02 30 00 01 00 00 00 28 32 40 01 33 7F"
+
 abbrev pub saves : List Saving
 saves =
     -- chart U, with two bytes to spare, and with one too few
@@ -80,6 +85,13 @@ saves =
     ∷ saved (hex "10 02 01 20 00 01 00 01 50 20 00 01 00 02 40 01 32 30 00 01 00 00 00 28 7F") 25 25 hotReset
     ∷ saved (hex "10 02 01 20 00 01 00 01 50 20 00 01 00 02 32 30 00 01 00 00 00 28 40 01 7F") 25 25 hotReset
     ∷ refused (hex "10 02 01 20 00 01 00 01 50 20 00 01 00 02 40 01 32 30 00 01 00 00 00 28 7F") 24 12 25
+    -- the mark last, wherever it stood
+    ∷ alike hotResetRest 26
+    ∷ saved (hex "10 02 01 20 00 01 00 01 50 20 00 01 00 02 33 40 01 32 30 00 01 00 00 00 28 7F") 26 26 hotResetRest
+    ∷ saved (hex "10 02 01 20 00 01 00 01 50 20 00 01 00 02 30 00 01 00 00 00 28 33 32 40 01 7F") 26 26 hotResetRest
+    ∷ refused hotResetRest 25 12 26
+    ∷ alike (hex "10 02 00 50 20 00 01 00 01 33 7F") 11
+    ∷ alike paused 37
     -- the terms stay in their order
     ∷ alike twoTerms 27
     ∷ saved (hex "10 02 02 50 20 00 01 00 01 31 01 00 03 FF FF FF FB 40 03 30 00 04 00 00 00 05 7F") 27 27 twoTerms
@@ -93,7 +105,8 @@ saves =
     ∷ refused (hex "10 02 00 50 20 00 01 00 01") 40 20 0
     ∷ []
 
--- D6: no chart is longer than this one: each of its 32 regions is hot, resets clocks, and has four differences
+-- D6: no chart is longer than this one: each of its 32 regions is hot, resets clocks, is marked, and has four
+-- differences
 abbrev pub difference : Term
 difference = record { left = Difference 0 1; relation = Less; n = 0 }
 
@@ -104,6 +117,7 @@ longRegion = record {
   count = 4;
   hot = true;
   resets = 1;
+  rest = true;
 }
 
 abbrev pub longest : Chart
