@@ -9,6 +9,7 @@ pub enum Command {
     ClockTerm = 0x30,
     DifferenceTerm = 0x31,
     Hot = 0x32,
+    Rest = 0x33,
     Resets = 0x40,
     MainChart = 0x50,
     End = 0x7F,
@@ -16,13 +17,14 @@ pub enum Command {
 
 use Command::*;
 
-const ALL: [Command; 9] = [
+const ALL: [Command; 10] = [
     Heading,
     MessageRegion,
     PlainRegion,
     ClockTerm,
     DifferenceTerm,
     Hot,
+    Rest,
     Resets,
     MainChart,
     End,
@@ -47,7 +49,7 @@ impl Command {
             ClockTerm => 6,
             DifferenceTerm => 7,
             Resets => 1,
-            Hot | MainChart | End => 0,
+            Hot | Rest | MainChart | End => 0,
         }
     }
 }

@@ -20,8 +20,9 @@ pub const WIDEST: [u8; 23] = [
     0, 0, 0, 0x7F,
 ];
 
-/// A chart of 1,285 bytes, as long as one can be (D6): 32 main regions of 40 bytes, in each a
-/// message, four terms on two clocks, hot, resets. It is in the order that it is saved in.
+/// A chart of 1,317 bytes, as long as one can be (D6): 32 main regions of 41 bytes, in each a
+/// message, four terms on two clocks, hot, resets, the mark to rest on. It is in the order that it
+/// is saved in.
 pub fn longest() -> Vec<u8> {
     let mut bytes = vec![0x10, 16, 8, 0x50];
     for place in 0..32 {
@@ -29,7 +30,7 @@ pub fn longest() -> Vec<u8> {
         for clock in 0..4 {
             bytes.extend([0x31, clock, 7, clock, 0x80, clock, place, 0xFF]);
         }
-        bytes.extend([0x32, 0x40, 0xFF]);
+        bytes.extend([0x32, 0x40, 0xFF, 0x33]);
     }
     bytes.push(0x7F);
     bytes

@@ -1,6 +1,6 @@
 //! Reading one record, judging a whole log, and asking only whether it breaks the chart.
 
-use crate::monitor::{feed_fit, in_prechart, Order};
+use crate::monitor::{feed_fit, has, in_prechart, Order};
 use crate::record::LogRecord;
 use crate::value::*;
 use crate::well_formed::is_given;
@@ -159,7 +159,7 @@ pub fn write_log(records: &[RecordValue]) -> Vec<u8> {
     records.iter().flat_map(RecordValue::to_bytes).collect()
 }
 
-/// How a fit monitor stands (J8, J9).
+/// How a fit monitor stands (J8, J9, J13).
 fn standing(chart: &ChartValue, monitor: &MonitorValue) -> u8 {
     if monitor.broken().is_some() {
         3
@@ -167,9 +167,30 @@ fn standing(chart: &ChartValue, monitor: &MonitorValue) -> u8 {
         0
     } else if in_prechart(chart, monitor.fired) {
         1
+    } else if rests(chart, monitor.fired) {
+        4
     } else {
         2
     }
+}
+
+/// Whether every line that counts is cold (J13), with these regions fired. A line counts if some
+/// main region that touches it is not fired. It is as hot as its last fired main region, the one
+/// with the highest number, which is cold if it is marked (C20); without one it is hot.
+fn rests(chart: &ChartValue, fired: u32) -> bool {
+    let main = usize::from(chart.prechart)..usize::from(chart.count);
+    (0..chart.lines).all(|line| {
+        let touches = |region: &usize| chart.regions[*region].event.touches(line);
+        let counts = main
+            .clone()
+            .filter(touches)
+            .any(|region| !has(fired, region));
+        let last = main
+            .clone()
+            .filter(touches)
+            .rfind(|&region| has(fired, region));
+        !counts || last.is_some_and(|region| chart.regions[region].rest)
+    })
 }
 
 /// The verdict that a fit monitor stands for.

@@ -48,7 +48,7 @@ impl Order {
 }
 
 /// Whether region `region` (from 0) is fired.
-fn has(fired: u32, region: usize) -> bool {
+pub fn has(fired: u32, region: usize) -> bool {
     (fired >> region) & 1 == 1
 }
 

@@ -15,8 +15,8 @@ struct Reading {
     open: Option<usize>,
 }
 
-/// The chart the bytes give, or the refusal (1 to 11) and its offset. The chart that R3 hands
-/// out with a refusal is left to the caller: `ChartValue::ZERO`.
+/// The chart the bytes give, or the refusal (1 to 11 and 13) and its offset. The chart that R3
+/// hands out with a refusal is left to the caller: `ChartValue::ZERO`.
 pub fn read_chart(bytes: &[u8]) -> Result<ChartValue, Fault> {
     let mut reading = Reading {
         chart: ChartValue::ZERO,
@@ -54,7 +54,7 @@ fn command_at(bytes: &[u8], offset: usize) -> Result<(Command, &[u8]), Fault> {
 }
 
 impl Reading {
-    /// A command's faults from 3 to 10, in the order of R4.
+    /// A command's faults from 3 to 10, and 13, in the order of R4.
     fn check(&mut self, command: Command, operands: &[u8], offset: usize) -> Result<(), Fault> {
         if self.out_of_place(command) {
             return Err((3, offset));
@@ -72,6 +72,10 @@ impl Reading {
         // R4: 8, the region is of the prechart.
         if command == Hot && !self.in_main {
             return Err((8, offset));
+        }
+        // R4: 13, no region of the prechart is rested on.
+        if command == Rest && !self.in_main {
+            return Err((13, offset));
         }
         if command == PlainRegion && self.none_above(&plain(operands)) {
             return Err((9, offset));
@@ -94,6 +98,7 @@ impl Reading {
             MainChart => self.in_main,
             ClockTerm | DifferenceTerm => self.open.is_none(),
             Hot => self.open.is_none() || self.last_region().hot,
+            Rest => self.open.is_none() || self.last_region().rest,
             Resets => self.open.is_none() || self.last_region().resets != 0,
             MessageRegion | PlainRegion | End => false,
         }
@@ -179,6 +184,7 @@ impl Reading {
                 n: i32::from_be_bytes(four(&operands[3..])),
             }),
             Hot => self.last_region_mut().hot = true,
+            Rest => self.last_region_mut().rest = true,
             Resets => self.last_region_mut().resets = operands[0],
             MainChart => {
                 self.in_main = true;

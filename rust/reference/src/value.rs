@@ -52,6 +52,8 @@ pub struct RegionValue {
     pub term_count: u8,
     pub hot: bool,
     pub resets: u8,
+    /// The mark of C20: cold to rest on. The condition's heat is another thing.
+    pub rest: bool,
 }
 
 /// A chart. The first `prechart` regions are the prechart, the rest up to `count` the main
@@ -154,7 +156,7 @@ impl Message {
 
 impl EventValue {
     /// Whether a region with this event touches the line (C7).
-    fn touches(&self, line: u8) -> bool {
+    pub fn touches(&self, line: u8) -> bool {
         match *self {
             EventValue::Message(message) => line == message.source || line == message.destination,
             EventValue::Plain(lines) => (lines >> line) & 1 == 1,
@@ -267,6 +269,7 @@ impl RegionValue {
         term_count: 0,
         hot: false,
         resets: 0,
+        rest: false,
     };
 
     /// The region's message; none for a plain region.

@@ -5,7 +5,7 @@ use crate::value::*;
 use crate::well_formed::is_given;
 
 /// The most bytes that a chart is saved as (D6).
-pub const MAX_BYTES: usize = 1_285;
+pub const MAX_BYTES: usize = 1_317;
 
 /// Writes the bytes of a chart to the start of `out`, and answers how many there are. Later bytes
 /// stay (D4).
@@ -59,6 +59,9 @@ fn put_region(region: &RegionValue, bytes: &mut Vec<u8>) -> Option<()> {
     }
     if region.resets != 0 {
         bytes.extend([Resets.byte(), region.resets]);
+    }
+    if region.rest {
+        bytes.push(Rest.byte());
     }
     Some(())
 }

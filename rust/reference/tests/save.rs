@@ -201,14 +201,14 @@ fn a_label_has_its_high_byte_first() {
     stays(&[0x10, 2, 0, 0x50, 0x20, 1, 0, 0x34, 0x12, 0x7F]);
 }
 
-/// The longest chart with resets, hot and terms in this order in each region.
+/// The longest chart with the mark to rest on, resets, hot and terms in this order in each region.
 fn longest_backwards() -> Vec<u8> {
     let bytes = longest();
     let (heading, regions) = bytes.split_at(4);
     let mut backwards = heading.to_vec();
-    for region in regions.chunks_exact(40) {
+    for region in regions.chunks_exact(41) {
         backwards.extend(&region[..5]);
-        backwards.extend([0x40, 0xFF, 0x32]);
+        backwards.extend([0x33, 0x40, 0xFF, 0x32]);
         backwards.extend(&region[5..37]);
     }
     backwards.push(0x7F);
@@ -218,17 +218,17 @@ fn longest_backwards() -> Vec<u8> {
 #[test]
 fn the_longest_chart() {
     let bytes = longest();
-    assert_eq!(bytes.len(), 1_285);
-    assert_eq!(MAX_BYTES, 3 + 1 + 1 + 32 * (5 + 4 * 8 + 1 + 2));
+    assert_eq!(bytes.len(), 1_317);
+    assert_eq!(MAX_BYTES, 3 + 1 + 1 + 32 * (5 + 4 * 8 + 1 + 2 + 1));
     stays(&bytes);
     assert_ne!(longest_backwards(), bytes);
     assert_eq!(saved(&longest_backwards()), bytes);
-    let mut exact = filled(1_285);
-    assert_eq!(write(&value(&bytes), &mut exact), Ok(1_285));
+    let mut exact = filled(1_317);
+    assert_eq!(write(&value(&bytes), &mut exact), Ok(1_317));
     assert_eq!(exact, bytes);
-    let mut short = filled(1_284);
-    assert_eq!(write(&value(&bytes), &mut short), Err((12, 1_285)));
-    assert_eq!(short, filled(1_284));
+    let mut short = filled(1_316);
+    assert_eq!(write(&value(&bytes), &mut short), Err((12, 1_317)));
+    assert_eq!(short, filled(1_316));
 }
 
 #[test]

@@ -96,6 +96,22 @@ impl<'a> Rows<'a> {
         (0..usize::from(self.chart.prechart)).all(|region| row.contains(&region))
     }
 
+    /// Whether a row with every prechart region may be rested on (J13). A line takes its heat from
+    /// the main regions in the order of the row; it counts if one of them is not in it.
+    pub(super) fn may_rest(&self, row: &[usize]) -> bool {
+        let main = usize::from(self.chart.prechart)..self.count();
+        (0..self.chart.lines).all(|line| {
+            let on_line =
+                |&region: &usize| main.contains(&region) && self.region(region).event.touches(line);
+            let stand: Vec<usize> = row.iter().copied().filter(on_line).collect();
+            match stand.last() {
+                _ if stand.len() == main.clone().filter(on_line).count() => true,
+                None => false,
+                Some(&last) => self.region(last).rest,
+            }
+        })
+    }
+
     fn region(&self, place: usize) -> &RegionValue {
         &self.chart.regions[place]
     }

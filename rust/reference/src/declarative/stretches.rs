@@ -2,6 +2,7 @@
 //! record two of them share (W31).
 
 use super::rows::{Rows, Stretch};
+use crate::log::Verdict;
 use crate::value::*;
 use std::collections::BTreeSet;
 
@@ -34,9 +35,22 @@ pub struct Meaning {
     pub cut: BTreeSet<usize>,
     /// Each clock's last reset in that cut, or the opening.
     pub resets: Vec<u32>,
+    /// How the chart stands after the list (J8, J13), by that row.
+    pub standing: u8,
 }
 
 impl Meaning {
+    /// The verdict after the list.
+    pub fn verdict(&self) -> Verdict {
+        Verdict {
+            standing: self.standing,
+            kept: self.kept,
+            dropped: self.dropped,
+            records: self.accepted,
+            broken: self.broken,
+        }
+    }
+
     /// The monitor after the list.
     pub fn monitor(&self) -> MonitorValue {
         let mut resets = [0; MAX_CLOCKS];
@@ -82,6 +96,7 @@ impl Rows<'_> {
             broken: cutting.broken,
             now: cutting.now,
             resets: cutting.resets(),
+            standing: cutting.standing(),
             ended: cutting.ended,
             cut: cutting.row.into_iter().collect(),
         }
@@ -244,6 +259,17 @@ impl<'a> Cutting<'a> {
         self.broken = Some(known);
         self.row = row;
         Answer::Broken(known)
+    }
+
+    /// J8: without a break, what the last stretch's row has decides.
+    fn standing(&self) -> u8 {
+        match self.broken {
+            Some(_) => 3,
+            None if self.row.is_empty() => 0,
+            None if !self.rows.has_prechart(&self.row) => 1,
+            None if self.rows.may_rest(&self.row) => 4,
+            None => 2,
+        }
     }
 
     /// The reset moments that the last stretch's row leaves.

@@ -1,6 +1,7 @@
 //! What several tests of rounds worked out by hand use.
 
 use lsc_reference::declarative::Rows;
+use lsc_reference::log::verdict;
 use lsc_reference::monitor::feed;
 use lsc_reference::value::*;
 
@@ -31,7 +32,7 @@ pub fn broken(record: u32, reason: Reason, cause: Cause) -> Answer {
 }
 
 /// Feeds the records to a fresh monitor: the answers and the monitor after them, which the rows
-/// give too.
+/// give too, and the verdict.
 pub fn fed(chart: &ChartValue, records: &[RecordValue]) -> (Vec<Answer>, MonitorValue) {
     let mut monitor = MonitorValue::ZERO;
     let mut answers = Vec::new();
@@ -42,5 +43,6 @@ pub fn fed(chart: &ChartValue, records: &[RecordValue]) -> (Vec<Answer>, Monitor
     }
     let meaning = Rows::of(chart).meaning(records);
     assert_eq!((&meaning.answers, meaning.monitor()), (&answers, monitor));
+    assert_eq!(meaning.verdict(), verdict(chart, &monitor));
     (answers, monitor)
 }
