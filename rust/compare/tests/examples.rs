@@ -1,9 +1,9 @@
-//! The repository's examples: what `lsc_print` says for each log against `NAME.expected`, by the
-//! chart as it stands there and by the saved chart.
+//! The repository's examples: what `lsc_print` and the reference say for each log against
+//! `NAME.expected`, by the chart as it stands there and by the saved chart, if it is not refused.
 
 use lsc_compare::hex;
 use lsc_compare::random::{self, Rng};
-use lsc_reference::print::input_of;
+use lsc_reference::print::{input_of, respond};
 use lsc_reference::reader::read_chart;
 use std::fs;
 use std::path::{Path, PathBuf};
@@ -49,6 +49,7 @@ fn print_logs(folder: &Path, chart: &[u8]) -> usize {
         let expected =
             fs::read_to_string(&expected).unwrap_or_else(|fault| panic!("{expected:?}: {fault}"));
         let input = input_of(chart, &bytes_of(&path));
+        assert_eq!(respond(&input), expected, "{path:?}");
         assert_eq!(lsc::print(&input), expected, "{path:?}");
         logs += 1;
     }
@@ -71,7 +72,14 @@ fn every_chart_is_saved_and_judges_the_same() {
     let (mut others, mut logs) = (0, 0);
     for folder in folders() {
         let chart = chart_of(&folder);
-        let value = read_chart(&chart).unwrap();
+        let value = match read_chart(&chart) {
+            Ok(value) => value,
+            Err((number, offset)) => {
+                let refused = lsc::saved(&chart).unwrap_err();
+                assert_eq!((refused.number, refused.offset), (number, offset));
+                continue;
+            }
+        };
         let saved = lsc::saved(&chart).unwrap();
         assert_eq!(read_chart(&saved), Ok(value), "{folder:?}");
         assert_eq!(lsc::saved(&saved).as_ref(), Ok(&saved), "{folder:?}");

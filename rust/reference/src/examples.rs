@@ -1,4 +1,5 @@
-//! Chart U, the examples over it, the widest and the longest chart, for every test that wants them.
+//! Chart U and a chart that may rest, the examples over them, the widest and the longest chart, for
+//! every test that wants them.
 
 use crate::value::{Message, RecordValue};
 
@@ -10,6 +11,21 @@ pub const CHART_U: [u8; 38] = [
     0x50, // the main chart starts
     0x20, 1, 0, 0, 2, 0x30, 0, 1, 0, 0, 0, 40, 0x32, // headings, clock 0 <= 40, hot
     0x20, 2, 3, 0, 3, 0x30, 0, 1, 0, 0, 0, 40, 0x32, // references likewise
+    0x7F,
+];
+
+/// A chart that may rest (C20), the one of the sample `undo_paused`: undo brings headings back, and
+/// the list of references is locked and released; then nothing need happen until the user confirms,
+/// which brings references back, at most 40 ticks later.
+pub const PAUSED: [u8; 57] = [
+    0x10, 4, 1, // 4 lines, 1 clock
+    0x20, 0, 1, 0, 1, 0x40, 1,    // prechart: undo resets clock 0
+    0x50, // the main chart starts
+    0x20, 1, 0, 0, 2, 0x30, 0, 1, 0, 0, 0, 40, 0x32, 0x33, // headings, hot, cold to rest on
+    0x20, 2, 3, 0, 3, // the list is locked
+    0x20, 2, 3, 0, 4, 0x33, // it is released, cold to rest on
+    0x20, 0, 1, 0, 5, 0x40, 1, // the user confirms, which resets clock 0
+    0x20, 2, 0, 0, 6, 0x30, 0, 1, 0, 0, 0, 40, 0x32, // references, hot
     0x7F,
 ];
 
@@ -82,3 +98,50 @@ pub const OVER_CHART_U: [(&[RecordValue], &str); 9] = [
     (&[], "0 0 0 0 0 0 0 0"),
     (&[undo(100), undo(99)], "refused log 22 at 9"),
 ];
+
+/// Logs over the chart that may rest, and the verdict's line; `examples/README.md` says why.
+pub const OVER_PAUSED: [(&[RecordValue], &str); 9] = [
+    (&[undo(100)], "2 0 0 1 0 0 0 0"),
+    (&[undo(100), headings(120)], "2 0 0 2 0 0 0 0"),
+    (&[undo(100), headings(120), LOCKED], "2 0 0 3 0 0 0 0"),
+    (&[undo(100), LOCKED, RELEASED], "2 0 0 3 0 0 0 0"),
+    (
+        &[undo(100), headings(120), LOCKED, RELEASED],
+        "4 0 0 4 0 0 0 0",
+    ),
+    (
+        &[undo(100), headings(120), LOCKED, RELEASED, CONFIRMED],
+        "2 0 0 5 0 0 0 0",
+    ),
+    (
+        &[
+            undo(100),
+            headings(120),
+            LOCKED,
+            RELEASED,
+            CONFIRMED,
+            message(2, 0, 6, 90_040),
+        ],
+        "0 1 0 6 0 0 0 0",
+    ),
+    (
+        &[
+            undo(100),
+            headings(120),
+            LOCKED,
+            RELEASED,
+            CONFIRMED,
+            message(2, 0, 6, 90_041),
+        ],
+        "3 0 0 6 6 2 6 1",
+    ),
+    (
+        &[undo(100), headings(120), LOCKED, RELEASED, undo(5_000)],
+        "3 0 0 5 5 1 0 0",
+    ),
+];
+
+/// The list locked and released, and the user's word long after.
+const LOCKED: RecordValue = message(2, 3, 3, 125);
+const RELEASED: RecordValue = message(2, 3, 4, 130);
+const CONFIRMED: RecordValue = message(0, 1, 5, 90_000);

@@ -5,7 +5,7 @@
 mod common;
 
 use common::{clock, fed, AT_MOST};
-use lsc_reference::examples::{longest, message, CHART_U};
+use lsc_reference::examples::{longest, message, CHART_U, OVER_PAUSED, PAUSED};
 use lsc_reference::log::{breaks, judge, verdict, write_log, Verdict};
 use lsc_reference::monitor::{feed, new};
 use lsc_reference::preview::preview;
@@ -300,6 +300,16 @@ fn marks_that_no_chart_has() {
     assert!(!is_refused(&chart));
     chart.regions[2].rest = true;
     assert!(is_refused(&chart));
+}
+
+#[test]
+fn the_sample_that_may_rest() {
+    // Worked out in `examples/README.md`.
+    for (records, expected) in OVER_PAUSED {
+        let words = judged(&PAUSED, records).numbers().map(|n| n.to_string());
+        assert_eq!(words.join(" "), expected, "{records:?}");
+    }
+    assert_eq!(saved(&PAUSED), PAUSED);
 }
 
 /// The main chart's messages on lines 0 and 1.
