@@ -17,10 +17,15 @@
  * that of the record before and the difference of the two stamps, taken round the wrap. While true
  * gaps stay below 2,147,483,648, each moment is the true time since the first stamp.
  *
- * Refusals: 1 to 11 a chart's fault; 12 a buffer too short; 20 no live monitor; 21 an unfit
+ * Refusals: 1 to 11 and 13 a chart's fault; 12 a buffer too short; 20 no live monitor; 21 an unfit
  * monitor; 22 a time that falls, or stamps that differ by 2,147,483,648 or more; 23 more than
  * 1,000,000 records; 24 a raw stamp's moment above 4,294,967,295; 30 a record cut short; 31 an
  * unknown record byte; 32 raw and plain records in one log.
+ *
+ * In a chart the command 33 marks a region of the main chart as cold to rest on; one without it is
+ * hot. The mark changes no answer and no break: only whether the main chart, while it is owed, may
+ * rest where it stands (LSC_STANDS_RESTING). In the prechart a 33 is refused with 13; a second one
+ * in a region, or one with no region of its half before it, with 3.
  */
 #ifndef LSC_H
 #define LSC_H
@@ -43,8 +48,15 @@ extern "C" {
 /* Standings, a verdict's first number. */
 #define LSC_STANDS_OPEN 0     /* nothing is fired */
 #define LSC_STANDS_PRECHART 1 /* a round runs, in the prechart */
-#define LSC_STANDS_OWED 2     /* the main chart is owed */
+#define LSC_STANDS_OWED 2     /* the main chart is owed, and may not rest here */
 #define LSC_STANDS_BROKEN 3   /* broken, for good */
+#define LSC_STANDS_RESTING 4  /* the main chart is owed, and may rest here */
+
+/*
+ * It may rest where every line that counts is cold. A line counts if it still has an unfired region
+ * of the main chart. It is as hot as the last fired region of the main chart that touches it: cold
+ * if that one is marked with 33. A line on which none is fired is hot.
+ */
 
 /* Places of a verdict, of a record and of lsc_breaks, and the room that lsc_print wants. */
 #define LSC_VERDICT_PLACES 8
@@ -56,7 +68,7 @@ extern "C" {
 #define LSC_PREVIEW_ROOM 32
 
 /* Bytes that are enough for lsc_write, whatever the chart: none is saved as more. */
-#define LSC_CHART_ROOM 1285
+#define LSC_CHART_ROOM 1317
 
 /* Kinds of a record, the first number of lsc_read_record. */
 #define LSC_RECORD_END 0         /* no record: the place is at the log's end or beyond */
@@ -74,9 +86,9 @@ extern "C" {
  * after a break too; otherwise its records are taken up to the end or a break.
  *
  * Returns 0, and out[0..7] = standing, kept, dropped, records, break, reason, region, term; or
- * the refusal's number (chart 1 to 11; log 22, 23, 24, 30, 31, 32), and out[0..7] = part, number,
- * offset within the part and five zeros; or 12 if out has fewer than 8 places, and out stays as
- * it was. Places of out beyond the eighth stay as they were.
+ * the refusal's number (chart 1 to 11 and 13; log 22, 23, 24, 30, 31, 32), and out[0..7] = part,
+ * number, offset within the part and five zeros; or 12 if out has fewer than 8 places, and out
+ * stays as it was. Places of out beyond the eighth stay as they were.
  *
  * Region and term, both from 1, are those of the hot condition that broke the chart: its region,
  * and the first of its terms that failed, in the order of the bytes. They are 0 unless the reason
@@ -107,9 +119,9 @@ size_t lsc_live_size(size_t chart_length);
  * Reads a chart and makes a fresh live monitor in live: the monitor's image (59 bytes), the
  * chart's length (8 bytes), the chart. The bytes may be copied and stored.
  *
- * Returns 0, and *at is the size of the live monitor; or the chart's refusal (1 to 11), and
- * *at is its offset; or 12 if live is too short, and *at is the size it needs. A refusal
- * leaves live as it was. Bytes of live beyond the monitor stay as they were.
+ * Returns 0, and *at is the size of the live monitor; or the chart's refusal (1 to 11 and 13), and
+ * *at is its offset; or 12 if live is too short, and *at is the size it needs. A refusal leaves
+ * live as it was. Bytes of live beyond the monitor stay as they were.
  */
 uint8_t lsc_open(const uint8_t *chart, size_t chart_length,
                  uint8_t *live, size_t live_length, uint64_t *at);
@@ -181,9 +193,9 @@ uint8_t lsc_read_record(const uint8_t *log, size_t log_length, size_t place,
  * fault is refused as in lsc_judge unless a break comes before it; then the answer is yes.
  *
  * Returns 0, and out[0..2] = 1 for yes or 0 for no, and two zeros; or the refusal's number (chart 1
- * to 11; log 22, 23, 24, 30, 31, 32), and out[0..2] = part, number, offset within the part; or 12
- * if out has fewer than 3 places, tested first, and out stays as it was. Places of out beyond the
- * third stay as they were.
+ * to 11 and 13; log 22, 23, 24, 30, 31, 32), and out[0..2] = part, number, offset within the part;
+ * or 12 if out has fewer than 3 places, tested first, and out stays as it was. Places of out beyond
+ * the third stay as they were.
  */
 uint8_t lsc_breaks(const uint8_t *chart, size_t chart_length,
                    const uint8_t *log, size_t log_length,
@@ -214,14 +226,14 @@ uint8_t lsc_preview(const uint8_t *live, size_t live_length, uint32_t time,
  * Saves a chart: reads it and writes it to the start of out in one fixed form. The form is the
  * heading; the regions in order; 50 before the first region of the main chart, just behind the
  * heading if the prechart is empty; 7F. In a region: its 20 or 21, its terms in order, then 32 if
- * its condition is hot, then 40 if it resets a clock.
+ * its condition is hot, then 40 if it resets a clock, then 33 if it is cold to rest on.
  *
  * Reading what was written gives the same chart, and saving it once more the same bytes. Two charts
  * are the same exactly if they are saved as the same bytes.
  *
- * Returns 0, and *at is the length written, at most 1,285; or the chart's refusal (1 to 11), and
- * *at is its offset; or 12 if out is too short, and *at is the length needed. A refusal leaves out
- * as it was. Bytes of out beyond the length stay as they were. *at is always written.
+ * Returns 0, and *at is the length written, at most 1,317; or the chart's refusal (1 to 11 and 13),
+ * and *at is its offset; or 12 if out is too short, and *at is the length needed. A refusal leaves
+ * out as it was. Bytes of out beyond the length stay as they were. *at is always written.
  */
 uint8_t lsc_write(const uint8_t *chart, size_t chart_length,
                   uint8_t *out, size_t out_length, uint64_t *at);

@@ -23,7 +23,7 @@ pub const TEXT_ROOM: usize = 223;
 pub const PREVIEW_ROOM: usize = 32;
 
 /// The bytes that are enough for `lsc_write`: no chart is saved as more.
-pub const CHART_ROOM: usize = 1_285;
+pub const CHART_ROOM: usize = 1_317;
 
 /// `lsc_judge`: 0 and the verdict, or the refusal's number and where; 12 for a short `out`.
 pub fn judge(chart: &[u8], log: &[u8], out: &mut [u64]) -> u8 {

@@ -2,10 +2,10 @@
 //!
 //! A chart is a promise about messages between the parts of a program: whenever the prechart
 //! was seen, the main chart comes next, in its order and in time. Given messages with their
-//! times, the monitor finds how often the promise was kept, whether it is owed just now, and
-//! which record broke it. It is proved, and stands in the static libraries `liblsc.a`,
-//! `liblsc_breaks.a`, `liblsc_live.a` and `liblsc_more.a`: this crate calls them and decides nothing
-//! by itself.
+//! times, the monitor finds how often the promise was kept, whether it is owed just now and may
+//! rest there, and which record broke it. It is proved, and stands in the static libraries
+//! `liblsc.a`, `liblsc_breaks.a`, `liblsc_live.a` and `liblsc_more.a`: this crate calls them and
+//! decides nothing by itself.
 //!
 //! [`judge`] takes a whole log, [`breaks`] says only whether it breaks the chart, [`read_record`]
 //! reads one record of it. [`saved`] and [`write`] give a chart's bytes in one fixed form.
@@ -66,6 +66,23 @@
 //!
 //! // Saved, this chart has the bytes that it has already.
 //! assert_eq!(lsc::saved(&chart)?, chart);
+//!
+//! // Each of the two marked as cold to rest on, by 33: once both have come it would be kept, so
+//! // that it never rests. With a last word of the library (label 4, 3 to 2) it may wait for that.
+//! let chart = [
+//!     0x10, 4, 0, 0x20, 0, 1, 0, 1, 0x50, // undo
+//!     0x20, 1, 0, 0, 2, 0x33, 0x20, 2, 3, 0, 3, 0x33, // headings, references
+//!     0x20, 3, 2, 0, 4, 0x7F,
+//! ];
+//! let mut monitor = LiveMonitor::open(&chart)?;
+//! let mut standing = |source, destination, label, time| {
+//!     let answer = monitor.feed_message(source, destination, label, time);
+//!     answer.map(|_| monitor.standing().standing)
+//! };
+//! assert_eq!(standing(0, 1, 1, 100), Ok(Standing::Owed));
+//! assert_eq!(standing(1, 0, 2, 120), Ok(Standing::Owed));
+//! assert_eq!(standing(2, 3, 3, 140), Ok(Standing::Resting));
+//! assert_eq!(standing(3, 2, 4, 9_000), Ok(Standing::Open));
 //! # Ok::<(), lsc::Refusal>(())
 //! ```
 #![deny(unsafe_code)]

@@ -8,7 +8,7 @@ use std::fmt;
 /// Why a chart is not written.
 #[derive(Clone, Copy, Debug, PartialEq, Eq, Hash)]
 pub enum WriteRefusal {
-    /// 1 to 11: the chart's bytes are refused.
+    /// 1 to 11 and 13: the chart's bytes are refused.
     Chart(Refusal),
     /// 12: the buffer is too short.
     TooShort {
@@ -47,8 +47,9 @@ impl Error for WriteRefusal {}
 /// written. Later bytes stay as they were, and after a refusal all of them.
 ///
 /// The regions keep their order. In each come its terms in their order, then the mark of a hot
-/// condition, then the resets. So two charts are the same exactly if the same bytes are written for
-/// them, and reading these gives the chart again.
+/// condition, then the resets, then the mark of a region that is cold to rest on. So two charts are
+/// the same exactly if the same bytes are written for them, and reading these gives the chart
+/// again.
 ///
 /// The chart is read first. [`CHART_ROOM`] bytes are enough for every chart.
 ///

@@ -11,10 +11,14 @@ pub enum Standing {
     Open,
     /// 1: a round runs, in the prechart.
     Prechart,
-    /// 2: the prechart is complete, the main chart is owed.
+    /// 2: the prechart is complete, the main chart is owed, and may not rest here.
     Owed,
     /// 3: broken, for good.
     Broken,
+    /// 4: the prechart is complete, the main chart is owed, and may rest here: on every line that
+    /// still has an unfired region of the main chart, the last fired one is marked as cold to rest
+    /// on.
+    Resting,
 }
 
 impl Standing {
@@ -25,6 +29,7 @@ impl Standing {
             Standing::Prechart => 1,
             Standing::Owed => 2,
             Standing::Broken => 3,
+            Standing::Resting => 4,
         }
     }
 
@@ -33,6 +38,7 @@ impl Standing {
             0 => Standing::Open,
             1 => Standing::Prechart,
             2 => Standing::Owed,
+            4 => Standing::Resting,
             _ => Standing::Broken,
         }
     }
@@ -234,7 +240,7 @@ impl fmt::Display for Foreseen {
 /// Which part of the input is refused.
 #[derive(Clone, Copy, Debug, PartialEq, Eq, Hash)]
 pub enum Part {
-    /// The chart's bytes, numbers 1 to 11.
+    /// The chart's bytes, numbers 1 to 11 and 13.
     Chart,
     /// The log's bytes, numbers 22, 23, 24, 30, 31, 32.
     Log,

@@ -2,7 +2,7 @@
 
 use lsc::{Answer, Cause, FeedRefusal, LiveMonitor, Part, Reason, Refusal, Standing};
 use lsc::{Foreseen, LogRecord, RecordRefusal, Stamp, WriteRefusal};
-use lsc_reference::examples::{longest, CHART_U, OVER_CHART_U};
+use lsc_reference::examples::{longest, CHART_U, OVER_CHART_U, OVER_PAUSED, PAUSED};
 use lsc_reference::log::write_log;
 use lsc_reference::print::input_of;
 
@@ -539,7 +539,95 @@ fn the_longest_chart_is_saved() {
     assert_eq!(bytes.len(), lsc::call::CHART_ROOM);
     assert_eq!(lsc::saved(&bytes).as_ref(), Ok(&bytes));
     let mut short = [7; lsc::call::CHART_ROOM - 1];
-    let refused = WriteRefusal::TooShort { needed: 1_285 };
+    let refused = WriteRefusal::TooShort { needed: 1_317 };
     assert_eq!(lsc::write(&bytes, &mut short), Err(refused));
-    assert_eq!(short, [7; 1_284]);
+    assert_eq!(short, [7; 1_316]);
+}
+
+#[test]
+fn logs_over_a_chart_that_may_rest() {
+    for (records, expected) in OVER_PAUSED {
+        let log = write_log(records);
+        let verdict = lsc::judge(&PAUSED, &log).unwrap();
+        assert_eq!(verdict.to_string(), expected);
+        let resting = expected.starts_with('4');
+        assert_eq!(verdict.standing == Standing::Resting, resting);
+        let text = lsc::print(&input_of(&PAUSED, &log));
+        assert_eq!(text.lines().nth(1), Some(expected));
+        let broken = verdict.standing == Standing::Broken;
+        assert_eq!(lsc::breaks(&PAUSED, &log), Ok(broken));
+    }
+}
+
+#[test]
+fn a_live_monitor_that_rests() {
+    let mut monitor = LiveMonitor::open(&PAUSED).unwrap();
+    let mut stands = |source, destination, label, time| {
+        let answer = monitor.feed_message(source, destination, label, time);
+        let standing = monitor.standing().standing;
+        (answer, standing, standing.number())
+    };
+    // Undo, headings, the list locked and released, the user's word, references.
+    let moved = Ok(Answer::Moved);
+    let entered = Ok(Answer::Entered);
+    assert_eq!(stands(0, 1, 1, 100), (entered, Standing::Owed, 2));
+    assert_eq!(stands(1, 0, 2, 120), (moved, Standing::Owed, 2));
+    assert_eq!(stands(2, 3, 3, 125), (moved, Standing::Owed, 2));
+    assert_eq!(stands(2, 3, 4, 130), (moved, Standing::Resting, 4));
+    // A refused record, and a message of no region, leave it.
+    let falls = Err(FeedRefusal::TimeFalls);
+    assert_eq!(stands(0, 1, 5, 129), (falls, Standing::Resting, 4));
+    let quiet = Ok(Answer::Quiet);
+    assert_eq!(stands(3, 2, 3, 80_000), (quiet, Standing::Resting, 4));
+    assert_eq!(stands(0, 1, 5, 90_000), (moved, Standing::Owed, 2));
+    assert_eq!(
+        stands(2, 0, 6, 90_040),
+        (Ok(Answer::Kept), Standing::Open, 0)
+    );
+    assert_eq!(monitor.standing().to_string(), "0 1 0 7 0 0 0 0");
+}
+
+/// Undo, a mark in some place, and headings.
+fn marked(before: &[u8], after: &[u8]) -> Vec<u8> {
+    let undo = [0x10, 2, 0, 0x20, 0, 1, 0, 1];
+    let headings = [0x20, 1, 0, 0, 2];
+    [&undo, before, &[0x50], &headings, after, &[0x7F]].concat()
+}
+
+#[test]
+fn marks_that_are_refused() {
+    for (chart, number, offset) in [
+        (marked(&[0x33], &[]), 13, 8),
+        (marked(&[0x50, 0x33], &[]), 3, 9),
+        (marked(&[], &[0x33, 0x33]), 3, 15),
+        (vec![0x10, 2, 0, 0x33], 3, 3),
+        (vec![0x33], 3, 0),
+    ] {
+        let refusal = Refusal {
+            part: Part::Chart,
+            number,
+            offset,
+        };
+        assert_eq!(lsc::judge(&chart, &[]), Err(refusal));
+        assert_eq!(lsc::breaks(&chart, &[]), Err(refusal));
+        assert_eq!(lsc::saved(&chart), Err(refusal));
+        let refused = lsc::write(&chart, &mut []);
+        assert_eq!(refused, Err(WriteRefusal::Chart(refusal)));
+        assert_eq!(LiveMonitor::open(&chart).err(), Some(refusal));
+        let text = lsc::print(&input_of(&chart, &[]));
+        assert_eq!(text, format!("refused chart {number} at {offset}\n"));
+    }
+}
+
+#[test]
+fn a_mark_is_saved_last() {
+    assert_eq!(lsc::saved(&PAUSED), Ok(PAUSED.to_vec()));
+    let chart = marked(&[], &[0x33]);
+    assert_eq!(lsc::saved(&chart).as_ref(), Ok(&chart));
+    assert_ne!(lsc::saved(&marked(&[], &[])), Ok(chart));
+    // The mark, the resets, the hot mark and the two terms.
+    let [resets, middle, term] = [14..16, 16..25, 25..32].map(|part| &OUT_OF_ORDER[part]);
+    let backwards = [&OUT_OF_ORDER[..14], &[0x33], resets, middle, term].concat();
+    let expected = [&IN_ORDER[..], &[0x33]].concat();
+    assert_eq!(lsc::saved(&ended(&backwards)), Ok(ended(&expected)));
 }
