@@ -75,7 +75,7 @@ pub const ASKED: [Asked; 35] = [
 ];
 
 /// And beside a chart's bytes, in places of the caller; the last four by fixed inputs.
-pub const ASKED_BYTES: [Asked; 16] = [
+pub const ASKED_BYTES: [Asked; 17] = [
     Short,
     Chart(1),
     Chart(2),
@@ -88,6 +88,7 @@ pub const ASKED_BYTES: [Asked; 16] = [
     Chart(9),
     Chart(10),
     Chart(11),
+    Chart(13),
     Refused(Plain, 23),
     Refused(Raw, 23),
     FaultAfterBreak(Plain, 23),

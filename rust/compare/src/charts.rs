@@ -44,8 +44,14 @@ pub const TWO_OPENINGS: [u8; 42] = [
     3, 0, 0, 0, 2, 0x20, 1, 2, 0, 3, 0x50, 0x20, 1, 0, 0, 4, 0x7F,
 ];
 
+/// Two messages on each of two pairs of lines; it may rest where both first ones were the last.
+const RESTS_BETWEEN: [u8; 32] = [
+    0x10, 4, 0, 0x20, 0, 1, 0, 1, 0x50, 0x20, 1, 0, 0, 2, 0x33, 0x20, 2, 3, 0, 3, 0x33, 0x20, 0, 1,
+    0, 4, 0x20, 3, 2, 0, 5, 0x7F,
+];
+
 /// Small charts for trying every row.
-pub const SMALL: [&[u8]; 7] = [
+pub const SMALL: [&[u8]; 8] = [
     &CHART_U,
     &EITHER_ORDER,
     &TWO_THEN_ONE,
@@ -53,6 +59,7 @@ pub const SMALL: [&[u8]; 7] = [
     &SETTLES_AT_ONCE,
     &THROUGH_A_THIRD,
     &TWO_OPENINGS,
+    &RESTS_BETWEEN,
 ];
 
 /// One of these, or a random one as small: its bytes and its value.

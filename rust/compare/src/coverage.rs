@@ -4,6 +4,7 @@ use crate::asked::{self, Asked};
 use crate::fitness::{self, FIT, UNFIT};
 use crate::outcomes::{outcomes, Outcome};
 use crate::previewed::Previewed;
+use crate::rested;
 use crate::saved::Saved;
 use lsc_reference::log::Verdict;
 use lsc_reference::monitor::{feed_fit, Order};
@@ -12,9 +13,12 @@ use std::collections::BTreeMap;
 use std::fmt::Display;
 
 /// The refusals of N9 except 12.
-pub const REFUSALS: [u8; 21] = [
-    1, 2, 3, 4, 5, 6, 7, 8, 9, 10, 11, 20, 21, 22, 23, 24, 30, 31, 32, 40, 41,
+pub const REFUSALS: [u8; 22] = [
+    1, 2, 3, 4, 5, 6, 7, 8, 9, 10, 11, 13, 20, 21, 22, 23, 24, 30, 31, 32, 40, 41,
 ];
+
+/// The standings of J8.
+pub const STANDINGS: [u8; 5] = [0, 1, 2, 3, 4];
 
 /// How often each name was seen.
 pub type Counts<K> = BTreeMap<K, u64>;
@@ -43,6 +47,8 @@ pub struct Coverage {
     pub previewed: Counts<(&'static str, Previewed)>,
     /// Kinds of comparison, and what saving a chart came to in them.
     pub saved: Counts<(&'static str, Saved)>,
+    /// Kinds of comparison, and what marks to rest on came to in them.
+    pub marks: Counts<(&'static str, &'static str)>,
 }
 
 /// The answers' names, broken once for each reason.
@@ -154,8 +160,14 @@ impl Coverage {
         }
     }
 
-    /// The second offers of records that a fresh monitor takes, in a comparison of this kind.
-    pub fn taken(&mut self, kind: &'static str, chart: &ChartValue, records: &[RecordValue]) {
+    /// The second offers of records that a fresh monitor takes, in a comparison of this kind. Gives
+    /// the monitor after them.
+    pub fn taken(
+        &mut self,
+        kind: &'static str,
+        chart: &ChartValue,
+        records: &[RecordValue],
+    ) -> MonitorValue {
         let order = Order::of(chart);
         let mut before = MonitorValue::ZERO;
         for record in records {
@@ -163,6 +175,7 @@ impl Coverage {
             self.offered(kind, second_offer(chart, &before, &answer, &after));
             before = after;
         }
+        before
     }
 
     fn offered(&mut self, kind: &'static str, offer: Option<&'static str>) {
@@ -213,6 +226,30 @@ impl Coverage {
     /// What saving a chart came to, in a comparison of this kind.
     pub fn saved(&mut self, kind: &'static str, name: Saved) {
         count(&mut self.saved, Some((kind, name)));
+    }
+
+    /// What marks came to, if there is a name for it, in a comparison of this kind.
+    pub fn marked(&mut self, kind: &'static str, name: Option<&'static str>) {
+        count(&mut self.marks, name.map(|name| (kind, name)));
+    }
+
+    /// Why a fit monitor of a chart stands as it does, in a comparison of this kind.
+    pub fn stood(&mut self, kind: &'static str, chart: &ChartValue, monitor: &MonitorValue) {
+        for name in rested::stand_names(chart, monitor) {
+            self.marked(kind, Some(name));
+        }
+    }
+
+    /// What the marks of an image came to, in a comparison of this kind.
+    pub fn marked_image(&mut self, kind: &'static str, image: &[u8]) {
+        for name in rested::image_names(image) {
+            self.marked(kind, Some(name));
+        }
+    }
+
+    /// What marks have to do with the refusal of a chart's bytes, in a comparison of this kind.
+    pub fn refused_chart(&mut self, kind: &'static str, chart: &[u8], fault: (u8, usize)) {
+        self.marked(kind, rested::refused_name(chart, fault));
     }
 
     /// An answer, to a round that was broken before or not.
@@ -269,10 +306,11 @@ impl Coverage {
         add(&mut self.asked, &other.asked);
         add(&mut self.previewed, &other.previewed);
         add(&mut self.saved, &other.saved);
+        add(&mut self.marks, &other.marks);
     }
 
-    /// What was never reached; second offers, logs, single records, yes or no, previews and saved
-    /// charts aside.
+    /// What was never reached; second offers, logs, single records, yes or no, previews, saved charts
+    /// and marks aside.
     pub fn missing(&self) -> Vec<String> {
         let mut missing = Vec::new();
         for code in REFUSALS {
@@ -281,7 +319,7 @@ impl Coverage {
             }
         }
         missing.extend(uncounted("answer", &self.answers, &ANSWERS));
-        for standing in 0..=3 {
+        for standing in STANDINGS {
             if !self.standings.contains_key(&standing) {
                 missing.push(format!("standing {standing}"));
             }
@@ -330,6 +368,11 @@ impl Coverage {
     /// What no preview came to, in a kind of comparison.
     pub fn missing_previewed(&self, kind: &'static str, names: &[Previewed]) -> Vec<String> {
         uncounted_in(kind, &self.previewed, names)
+    }
+
+    /// What marks never came to, in a kind of comparison.
+    pub fn missing_marks(&self, kind: &'static str, names: &[&'static str]) -> Vec<String> {
+        uncounted_in(kind, &self.marks, names)
     }
 
     /// What saving a chart never came to, in a kind of comparison.

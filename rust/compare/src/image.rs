@@ -8,6 +8,8 @@ use lsc_reference::value::*;
 
 /// Bytes of a region's image.
 const REGION_IMAGE: usize = 42;
+/// Where a region's image has the mark to rest on; the byte after it is 0.
+const MARK: usize = 8;
 /// Bytes of a chart's image.
 pub const CHART_IMAGE: usize = 4 + MAX_REGIONS * REGION_IMAGE;
 /// Bytes of a monitor's image.
@@ -16,6 +18,11 @@ pub const MONITOR_IMAGE: usize = 59;
 const REASON: usize = 56;
 /// Bytes of a live monitor before its chart: the image and the chart's length.
 pub const LIVE_HEAD: usize = MONITOR_IMAGE + 8;
+
+/// Where a chart's image has the mark to rest on of the region at a place.
+pub fn mark_place(region: usize) -> usize {
+    4 + region * REGION_IMAGE + MARK
+}
 
 /// A value that has an image.
 pub trait Image: Sized {
@@ -81,6 +88,7 @@ fn put_region(region: &RegionValue, place: &mut [u8]) {
     place[5] = u8::from(region.hot);
     place[6] = region.resets;
     place[7] = region.term_count;
+    place[MARK] = u8::from(region.rest);
     for (term, part) in region.terms.iter().zip(place[10..].chunks_exact_mut(8)) {
         match term.left {
             LeftValue::Clock(clock) => part[..2].copy_from_slice(&[0, clock]),
@@ -101,7 +109,7 @@ fn get_region(place: &[u8]) -> Option<RegionValue> {
         [1, m0, m1, m2, m3] => EventValue::Message(Message::from_bytes([m0, m1, m2, m3])),
         _ => return None,
     };
-    if place[5] > 1 || place[8] != 0 || place[9] != 0 {
+    if place[5] > 1 || place[MARK] > 1 || place[MARK + 1] != 0 {
         return None;
     }
     let mut region = RegionValue {
@@ -109,6 +117,7 @@ fn get_region(place: &[u8]) -> Option<RegionValue> {
         hot: place[5] == 1,
         resets: place[6],
         term_count: place[7],
+        rest: place[MARK] == 1,
         ..RegionValue::ZERO
     };
     for (term, part) in region.terms.iter_mut().zip(place[10..].chunks_exact(8)) {

@@ -4,8 +4,8 @@
 //! it to both sides and compares every number and every byte lent. An input that differs is
 //! shrunk and shown in hexadecimal with both answers, the seed and the input's number.
 //!
-//! `random` has the generators, `asked`, `coverage`, `fitness`, `outcomes`, `previewed`, `saved`
-//! and `seen` name and count what was reached, `image` has values in the library's form, and
+//! `random` has the generators, `asked`, `coverage`, `fitness`, `outcomes`, `previewed`, `rested`,
+//! `saved` and `seen` name and count what was reached, `image` has values in the library's form, and
 //! `testing` calls what takes them. `fast` is a judge in Rust that the benchmark runs beside the
 //! proved one; the reference is its test too.
 #![deny(unsafe_code)]
@@ -25,6 +25,7 @@ pub mod outcomes;
 pub mod plot;
 pub mod previewed;
 pub mod random;
+pub mod rested;
 pub mod saved;
 pub mod seen;
 pub mod testing;

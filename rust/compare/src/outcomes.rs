@@ -39,7 +39,7 @@ use Outcome::*;
 use Times::*;
 
 /// What logs must come to in judging and in printing. A difference of 5 is a gap of 2^32 + 5 too.
-pub const OUTCOMES: [Outcome; 24] = [
+pub const OUTCOMES: [Outcome; 26] = [
     Refused(Plain, 22),
     Refused(Plain, 30),
     Refused(Plain, 31),
@@ -53,10 +53,12 @@ pub const OUTCOMES: [Outcome; 24] = [
     Standing(Plain, 1),
     Standing(Plain, 2),
     Standing(Plain, 3),
+    Standing(Plain, 4),
     Standing(Raw, 0),
     Standing(Raw, 1),
     Standing(Raw, 2),
     Standing(Raw, 3),
+    Standing(Raw, 4),
     Gap(5),
     Gap((1 << 31) - 1),
     Gap(1 << 31),

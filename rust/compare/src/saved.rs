@@ -27,7 +27,7 @@ pub enum Saved {
 use Saved::*;
 
 /// What saving must come to, by bytes and by image.
-pub const SAVED: [Saved; 36] = [
+pub const SAVED: [Saved; 40] = [
     Is("refusal 12, no byte"),
     Is("refusal 12, a byte too few"),
     Is("refusal 12, several bytes too few"),
@@ -36,7 +36,7 @@ pub const SAVED: [Saved; 36] = [
     Is("an empty prechart"),
     Is("one region"),
     Is("32 regions"),
-    Is("1,285 bytes"),
+    Is("1,317 bytes"),
     Is("a message in the prechart"),
     Is("a message in the main chart"),
     Is("a plain region in the prechart"),
@@ -48,6 +48,10 @@ pub const SAVED: [Saved; 36] = [
     Is("a term, not hot, resets"),
     Is("resets, no term"),
     Is("all eight clocks reset"),
+    Is("cold to rest on, nothing else"),
+    Is("cold to rest on, after a term"),
+    Is("cold to rest on, after hot"),
+    Is("cold to rest on, after resets"),
     Is("a term on a clock"),
     Is("a term on a difference"),
     Is("a clock's term before a difference's"),
@@ -67,7 +71,7 @@ pub const SAVED: [Saved; 36] = [
 ];
 
 /// And by bytes alone.
-pub const SAVED_BYTES: [Saved; 27] = [
+pub const SAVED_BYTES: [Saved; 32] = [
     Chart(1),
     Chart(2),
     Chart(3),
@@ -79,10 +83,14 @@ pub const SAVED_BYTES: [Saved; 27] = [
     Chart(9),
     Chart(10),
     Chart(11),
+    Chart(13),
     Is("the bytes that were read"),
     Is("resets read before a term"),
     Is("resets read before hot"),
     Is("hot read before a term"),
+    Is("the mark read before a term"),
+    Is("the mark read before hot"),
+    Is("the mark read before resets"),
     Is("the same bytes twice"),
     Is("other bytes of one chart"),
     Differ("lines"),
@@ -95,16 +103,18 @@ pub const SAVED_BYTES: [Saved; 27] = [
     Differ("the order of terms"),
     Differ("hot"),
     Differ("resets"),
+    Differ("rest"),
 ];
 
 /// And by image alone. The reader's other refusals cannot be: a value has each command in place.
-pub const SAVED_VALUES: [Saved; 10] = [
+pub const SAVED_VALUES: [Saved; 11] = [
     NoChart(4),
     NoChart(6),
     NoChart(7),
     NoChart(8),
     NoChart(9),
     NoChart(10),
+    NoChart(13),
     Is("refusal 20, no image"),
     Is("refusal 20, a count too large"),
     Is("refusal 20, another chart's commands"),
@@ -149,7 +159,7 @@ pub fn shape_names(chart: &ChartValue, length: usize) -> Vec<Saved> {
     is(chart.prechart == 0, "an empty prechart");
     is(chart.count == 1, "one region");
     is(regions.len() == MAX_REGIONS, "32 regions");
-    is(length == MAX_BYTES, "1,285 bytes");
+    is(length == MAX_BYTES, "1,317 bytes");
     for (place, region) in regions.iter().enumerate() {
         found.push(event_name(region, place >= usize::from(chart.prechart)));
         found.extend(region_names(region));
@@ -180,7 +190,18 @@ fn region_names(region: &RegionValue) -> Vec<Saved> {
     is(term && !region.hot && resets, "a term, not hot, resets");
     is(!term && resets, "resets, no term");
     is(region.resets == 0xFF, "all eight clocks reset");
+    found.extend(region.rest.then(|| rest_name(region)));
     found
+}
+
+/// What comes just before a region's mark to rest on.
+fn rest_name(region: &RegionValue) -> Saved {
+    Is(match (region.resets, region.hot, region.term_count) {
+        (1.., ..) => "cold to rest on, after resets",
+        (0, true, _) => "cold to rest on, after hot",
+        (0, false, 1..) => "cold to rest on, after a term",
+        (0, false, 0) => "cold to rest on, nothing else",
+    })
 }
 
 fn term_names(terms: &[TermValue]) -> Vec<Saved> {
@@ -219,6 +240,9 @@ pub fn order_names(read: &[u8], saved: &[u8]) -> Vec<Saved> {
         (0x40, 0x30 | 0x31) => Some(Is("resets read before a term")),
         (0x40, 0x32) => Some(Is("resets read before hot")),
         (0x32, 0x30 | 0x31) => Some(Is("hot read before a term")),
+        (0x33, 0x30 | 0x31) => Some(Is("the mark read before a term")),
+        (0x33, 0x32) => Some(Is("the mark read before hot")),
+        (0x33, 0x40) => Some(Is("the mark read before resets")),
         _ => None,
     });
     names.collect()
@@ -228,7 +252,7 @@ pub fn order_names(read: &[u8], saved: &[u8]) -> Vec<Saved> {
 type Part = (&'static str, fn(&mut ChartValue));
 
 /// The parts in which alone charts must differ.
-const PARTS: [Part; 10] = [
+const PARTS: [Part; 11] = [
     ("lines", |chart| chart.lines = 0),
     ("clocks", |chart| chart.clocks = 0),
     ("the main chart's start", |chart| chart.prechart = 0),
@@ -250,6 +274,9 @@ const PARTS: [Part; 10] = [
     }),
     ("resets", |chart| {
         each_region(chart, |region| region.resets = 0);
+    }),
+    ("rest", |chart| {
+        each_region(chart, |region| region.rest = false);
     }),
 ];
 
@@ -327,10 +354,11 @@ mod tests {
         ];
         assert_eq!(found[..8], expected);
         let chart = read_chart(&longest()).unwrap();
-        let found = shape_names(&chart, 1_285);
-        let expected = ["an empty prechart", "32 regions", "1,285 bytes"].map(Is);
+        let found = shape_names(&chart, 1_317);
+        let expected = ["an empty prechart", "32 regions", "1,317 bytes"].map(Is);
         assert_eq!(found[..3], expected);
         assert!(found.contains(&Is("hot, resets")) && found.contains(&Terms(4)));
+        assert!(found.contains(&Is("cold to rest on, after resets")));
     }
 
     #[test]
@@ -383,5 +411,10 @@ mod tests {
         let plain = bytes([&term, &[], &[]]);
         assert_eq!(pair(&cold, &plain), Some(Differ("resets")));
         assert_eq!(pair(&saved, &plain), None);
+        let rests = bytes([&term, &[], &[0x33]]);
+        assert_eq!(pair(&rests, &plain), Some(Differ("rest")));
+        let early = bytes([&[0x33], &term, &[]]);
+        let mark_first = [Is("the mark read before a term")];
+        assert_eq!(order_names(&early, &rests), mark_first);
     }
 }

@@ -1,18 +1,29 @@
 //! What a run has reached: refusals, answers, standings and terms that the library gave, second
 //! offers in each kind of comparison, monitors at the limits of M10, what plain and raw logs came
-//! to, single records, whether logs break their charts, what previews came to, and saved charts.
+//! to, single records, whether logs break their charts, what previews came to, saved charts, and
+//! marks to rest on.
 
 use crate::asked::{ASKED, ASKED_BYTES, ASKED_VALUES};
-use crate::coverage::{Counts, Coverage, ANSWERS, DECIDED_TERMS, OFFERS, REFUSALS};
+use crate::coverage::{Counts, Coverage, ANSWERS, DECIDED_TERMS, OFFERS, REFUSALS, STANDINGS};
 use crate::fitness::{FIT, UNFIT};
-use crate::kinds::{taking, BREAKS, BREAKS_IMAGE, JUDGE, PREVIEW, PRINT, READS, SAVE, SAVE_IMAGE};
+use crate::kinds::{taking, LIVE, LIVE_BYTES, MARKS, READS, ROWS, VALUES};
+use crate::kinds::{BREAKS, BREAKS_IMAGE, JUDGE, PREVIEW, PRINT, SAVE, SAVE_IMAGE};
 use crate::outcomes::{FULL_OUTCOMES, OUTCOMES};
 use crate::previewed::{shorts, PREVIEWED};
+use crate::rested::{MARKED_IMAGES, MISPLACED, STANDS, WITHOUT};
 use crate::saved::{SAVED, SAVED_BYTES, SAVED_VALUES};
 use std::fmt;
 
 /// A buffer too short (N9); `REFUSALS` has all the others.
 pub const SHORT: u8 = 12;
+
+/// What marks to rest on must come to, in these kinds of comparison.
+const MARKED: [(&[&str], &[&str]); 4] = [
+    (&[JUDGE, PRINT, LIVE, LIVE_BYTES, ROWS], &STANDS),
+    (&[JUDGE, PRINT, LIVE, BREAKS, SAVE], &MISPLACED),
+    (&[VALUES, BREAKS_IMAGE, SAVE_IMAGE], &MARKED_IMAGES),
+    (&[MARKS], &WITHOUT),
+];
 
 /// Counts of what the library answered.
 #[derive(Clone, Debug, Default)]
@@ -56,6 +67,11 @@ impl Seen {
         }
         missing.extend(self.coverage.missing_saved(SAVE, &SAVED_BYTES));
         missing.extend(self.coverage.missing_saved(SAVE_IMAGE, &SAVED_VALUES));
+        for (kinds, names) in MARKED {
+            for kind in kinds {
+                missing.extend(self.coverage.missing_marks(kind, names));
+            }
+        }
         missing
     }
 
@@ -64,7 +80,7 @@ impl Seen {
         let all = REFUSALS.len()
             + 1
             + ANSWERS.len()
-            + 4
+            + STANDINGS.len()
             + DECIDED_TERMS
             + taking().len() * OFFERS.len()
             + FIT.len()
@@ -79,7 +95,11 @@ impl Seen {
             + shorts().len()
             + 2 * SAVED.len()
             + SAVED_BYTES.len()
-            + SAVED_VALUES.len();
+            + SAVED_VALUES.len()
+            + MARKED
+                .map(|(kinds, names)| kinds.len() * names.len())
+                .iter()
+                .sum::<usize>();
         (all - self.missing().len(), all)
     }
 }
@@ -125,6 +145,9 @@ impl fmt::Display for Seen {
             writeln!(f, "| {name}: {kind} | {times} |")?;
         }
         for ((kind, name), times) in &self.coverage.saved {
+            writeln!(f, "| {name}: {kind} | {times} |")?;
+        }
+        for ((kind, name), times) in &self.coverage.marks {
             writeln!(f, "| {name}: {kind} | {times} |")?;
         }
         Ok(())

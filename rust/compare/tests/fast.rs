@@ -8,7 +8,7 @@ use lsc_compare::fast;
 use lsc_compare::outcomes::OUTCOMES;
 use lsc_compare::previewed::{self, PREVIEWED};
 use lsc_compare::random::{self, Rng, Size};
-use lsc_reference::examples::{message, undo, CHART_U, OVER_CHART_U, WIDEST};
+use lsc_reference::examples::{message, undo, CHART_U, OVER_CHART_U, OVER_PAUSED, PAUSED, WIDEST};
 use lsc_reference::log::{breaks, judge, write_log};
 use lsc_reference::monitor;
 use lsc_reference::preview::preview;
@@ -24,6 +24,16 @@ fn chart_u() {
         assert_eq!(verdict, judge(&chart, &log), "{expected}");
         let answer = fast::breaks(&chart, &log);
         assert_eq!(answer, breaks(&chart, &log), "{expected}");
+    }
+}
+
+#[test]
+fn a_chart_that_may_rest() {
+    let chart = read_chart(&PAUSED).unwrap();
+    for (records, expected) in OVER_PAUSED {
+        let verdict = fast::judge(&chart, &write_log(records)).unwrap();
+        let words = verdict.numbers().map(|number| number.to_string());
+        assert_eq!(words.join(" "), expected);
     }
 }
 

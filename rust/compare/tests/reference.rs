@@ -7,6 +7,7 @@ use lsc_compare::fast;
 use lsc_compare::image::Image;
 use lsc_compare::outcomes::OUTCOMES;
 use lsc_compare::random::{self, Rng, Size};
+use lsc_compare::rested::{MARKED_IMAGES, MISPLACED, STANDS};
 use lsc_reference::command::Command;
 use lsc_reference::declarative::Rows;
 use lsc_reference::log::{judge, read_log, read_record, verdict, write_log, Next};
@@ -46,6 +47,8 @@ fn steps_against_rows(rng: &mut Rng, seen: &mut Coverage) {
         }
         assert_eq!(meaning.answers.len(), feeds.len());
         assert_eq!(monitor, meaning.monitor(), "{bytes:02X?} {feeds:?}");
+        assert_eq!(verdict(&chart, &monitor), meaning.verdict(), "{bytes:02X?}");
+        seen.stood("rows", &chart, &monitor);
         assert!(monitor::is_fit(&chart, &monitor));
     }
 }
@@ -70,7 +73,8 @@ fn judges(rng: &mut Rng, seen: &mut Coverage) {
         match verdict {
             Ok(verdict) => {
                 seen.standing(verdict.standing);
-                seen.taken("judge", &chart, &read_log(&log).unwrap());
+                let after = seen.taken("judge", &chart, &read_log(&log).unwrap());
+                seen.stood("judge", &chart, &after);
             }
             Err((code, _)) => seen.refusal(code),
         }
@@ -103,6 +107,7 @@ fn feeds_of_values(rng: &mut Rng, seen: &mut Coverage) {
     let given = well_formed::is_given(&chart);
     assert_eq!(given, fast::is_given(&chart), "{chart:?}");
     assert_eq!(ChartValue::from_image(&chart.to_image()), Some(chart));
+    seen.marked_image("values", &chart.to_image());
     if monitor::new(&chart).is_err() {
         assert!(!given);
         seen.refusal(20);
@@ -141,6 +146,7 @@ fn hostile_charts(rng: &mut Rng, seen: &mut Coverage) {
         }
         Err((code, offset)) => {
             seen.refusal(code);
+            seen.refused_chart("hostile", &bytes, (code, offset));
             assert!(offset <= bytes.len());
             // No fault depends on what stands after its command, 6 and 7 aside.
             if !matches!(code, 1 | 6 | 7 | 11) {
@@ -195,6 +201,7 @@ fn steps_and_rows_agree() {
     assert!(ANSWERS.iter().all(|name| seen.answers.contains_key(name)));
     assert_eq!(seen.missing_terms(), Vec::<String>::new());
     assert_eq!(seen.missing_offers(&["rows"]), Vec::<String>::new());
+    assert_eq!(seen.missing_marks("rows", &STANDS), Vec::<String>::new());
 }
 
 #[test]
@@ -214,6 +221,12 @@ fn everything_is_reached() {
     let kinds = ["judge", "values"];
     assert_eq!(seen.missing_offers(&kinds), Vec::<String>::new());
     assert_eq!(seen.missing_logs("judge", &OUTCOMES), Vec::<String>::new());
+    let none = Vec::<String>::new();
+    assert_eq!(seen.missing_marks("judge", &STANDS), none);
+    assert_eq!(seen.missing_marks("hostile", &MISPLACED), none);
+    // A value has no bytes that are no image.
+    let [early, spare, .., chart] = MARKED_IMAGES;
+    assert_eq!(seen.missing_marks("values", &[early, spare, chart]), none);
 }
 
 #[test]
@@ -248,8 +261,7 @@ fn judging_a_log_is_what_the_rows_of_its_records_give() {
         let Ok(records) = read_log(&log) else {
             continue;
         };
-        let monitor = Rows::of(&chart).meaning(&records).monitor();
-        let expected = Ok(verdict(&chart, &monitor));
+        let expected = Ok(Rows::of(&chart).meaning(&records).verdict());
         assert_eq!(judge(&chart, &log), expected, "{bytes:02X?} {log:02X?}");
         judged += usize::from(matches!(log.first(), Some(3 | 4)));
     }

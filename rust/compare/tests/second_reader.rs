@@ -22,6 +22,7 @@ fn length_of(byte: u8) -> Option<usize> {
         (0x30, 6),
         (0x31, 7),
         (0x32, 0),
+        (0x33, 0),
         (0x40, 1),
         (0x50, 0),
         (0x7F, 0),
@@ -85,7 +86,7 @@ fn out_of_place(earlier: &[Command], byte: u8) -> bool {
         _ if earlier.is_empty() => true,
         0x50 => has(earlier, 0x50),
         0x30 | 0x31 => open.is_none(),
-        0x32 | 0x40 => open.is_none_or(|open| has(open, byte)),
+        0x32 | 0x33 | 0x40 => open.is_none_or(|open| has(open, byte)),
         _ => false,
     }
 }
@@ -134,6 +135,9 @@ fn fault(earlier: &[Command], command: &Command) -> Option<u8> {
     }
     if command.byte == 0x32 && !main {
         return Some(8);
+    }
+    if command.byte == 0x33 && !main {
+        return Some(13);
     }
     if command.byte == 0x21 && opening {
         let shared = half
@@ -224,6 +228,7 @@ fn region_value(parts: &[Command]) -> RegionValue {
         EventValue::Plain(u16::from(o[0]) * 256 + u16::from(o[1]))
     };
     region.hot = has(parts, 0x32);
+    region.rest = has(parts, 0x33);
     for part in parts.iter().filter(|part| part.byte == 0x40) {
         region.resets = part.operands[0];
     }
@@ -270,13 +275,18 @@ fn both_readers_agree() {
     }
     println!("accepted {accepted}, refused {:?}", seen.refusals);
     assert!(accepted > 1_000);
-    assert!((1..=11).all(|code| seen.refusals.contains_key(&code)));
+    let charts = (1..=11).chain([13]);
+    assert!(charts
+        .into_iter()
+        .all(|code| seen.refusals.contains_key(&code)));
 }
 
 #[test]
 fn every_short_string_of_telling_bytes() {
     // After a heading, all strings of up to five bytes made of a few that matter.
-    let telling = [0x00, 0x01, 0x02, 0x10, 0x20, 0x21, 0x32, 0x40, 0x50, 0x7F];
+    let telling = [
+        0x00, 0x01, 0x02, 0x10, 0x20, 0x21, 0x32, 0x33, 0x40, 0x50, 0x7F,
+    ];
     for prefix in [
         &[][..],
         &[0x10, 2, 1],
@@ -285,12 +295,12 @@ fn every_short_string_of_telling_bytes() {
         &[0x10, 2, 1, 0x50, 0x20, 0, 1, 0, 1],
         &[0x10, 2, 1, 0x50, 0x20, 0, 1, 0, 1, 0x21, 0, 1],
     ] {
-        for number in 0..100_000usize {
+        for number in 0..telling.len().pow(5) {
             let mut bytes = prefix.to_vec();
             let mut left = number;
             for _ in 0..5 {
-                bytes.push(telling[left % 10]);
-                left /= 10;
+                bytes.push(telling[left % telling.len()]);
+                left /= telling.len();
             }
             for length in [bytes.len(), bytes.len() - 1 - number % 4] {
                 let cut = &bytes[..length];

@@ -2,7 +2,7 @@
 
 use lsc_reference::value::*;
 
-/// The masks that decide readiness. Bit i is region i + 1.
+/// The masks that decide readiness and rest. Bit i is region i + 1.
 #[derive(Clone, Copy, Debug)]
 pub struct Masks {
     pub all: u32,
@@ -12,6 +12,8 @@ pub struct Masks {
     /// Regions that share a line with this one, earlier in its half, and the prechart for a
     /// main region. A set closed under this relation is closed under "above" too.
     pub above: [u32; MAX_REGIONS],
+    /// The main regions that touch each line.
+    pub on_line: OnLine,
 }
 
 /// The first `count` bits.
@@ -44,6 +46,9 @@ fn region_is_sound(chart: &ChartValue, region: &RegionValue, main: bool) -> bool
     if region.resets & !clock_set != 0 || (region.hot && (terms == 0 || !main)) {
         return false;
     }
+    if region.rest && !main {
+        return false;
+    }
     for (place, term) in region.terms.iter().enumerate() {
         if place >= terms {
             if *term != TermValue::ZERO {
@@ -59,7 +64,7 @@ fn region_is_sound(chart: &ChartValue, region: &RegionValue, main: bool) -> bool
 }
 
 /// The regions on each line, so far in this half.
-type OnLine = [u32; 16];
+pub type OnLine = [u32; MAX_LINES as usize];
 
 /// Puts a region on its lines: those that stood there before; none if no reader writes such
 /// an event.
@@ -122,8 +127,9 @@ impl Masks {
             plain: 0,
             clocks: chart.clocks,
             above: [0; MAX_REGIONS],
+            on_line: [0; MAX_LINES as usize],
         };
-        let mut on_line: OnLine = [0; 16];
+        let mut on_line: OnLine = [0; MAX_LINES as usize];
         let mut base = 0;
         for (place, region) in chart.regions.iter().enumerate() {
             if place >= usize::from(chart.count) {
@@ -133,7 +139,7 @@ impl Masks {
                 continue;
             }
             if place == usize::from(chart.prechart) {
-                on_line = [0; 16];
+                on_line = [0; MAX_LINES as usize];
                 base = masks.prechart;
             }
             if !region_is_sound(chart, region, place >= usize::from(chart.prechart)) {
@@ -149,6 +155,8 @@ impl Masks {
             }
             masks.above[place] = above;
         }
+        // The main chart is the half read last.
+        masks.on_line = on_line;
         Some(masks)
     }
 

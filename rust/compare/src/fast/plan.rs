@@ -14,6 +14,7 @@ use lsc_reference::value::*;
 pub struct Plan {
     pub(super) masks: Masks,
     hot: u32,
+    rest: u32,
     resets: [u8; MAX_REGIONS],
     woken: [u32; MAX_REGIONS],
     first_term: [u8; MAX_REGIONS + 1],
@@ -63,6 +64,14 @@ fn keys_of(regions: &[RegionValue]) -> Vec<(u32, u32)> {
     keys
 }
 
+/// The highest member of a set alone; none of none.
+fn highest(set: u32) -> u32 {
+    match set {
+        0 => 0,
+        _ => 1 << (31 - set.leading_zeros()),
+    }
+}
+
 /// The plain regions that have the region at `place` above them.
 fn woken_by(masks: &Masks, place: usize) -> u32 {
     let below = masks.above.iter().enumerate();
@@ -78,6 +87,7 @@ impl Plan {
         let mut plan = Plan {
             masks,
             hot: 0,
+            rest: 0,
             resets: [0; MAX_REGIONS],
             woken: [0; MAX_REGIONS],
             first_term: [0; MAX_REGIONS + 1],
@@ -87,6 +97,7 @@ impl Plan {
         let mut terms = 0;
         for (place, region) in regions.iter().enumerate() {
             plan.hot |= u32::from(region.hot) << place;
+            plan.rest |= u32::from(region.rest) << place;
             plan.resets[place] = region.resets;
             plan.woken[place] = woken_by(&masks, place);
             for term in region.condition() {
@@ -188,8 +199,18 @@ impl Plan {
             0
         } else if self.masks.prechart & !state.fired != 0 {
             1
+        } else if self.rests(state.fired) {
+            4
         } else {
             2
         }
+    }
+
+    /// Whether each line with an unfired main region has a fired one, the last of them marked.
+    fn rests(&self, fired: u32) -> bool {
+        self.masks.on_line.iter().all(|&regions| {
+            let fired = regions & fired;
+            fired == regions || self.rest & highest(fired) != 0
+        })
     }
 }

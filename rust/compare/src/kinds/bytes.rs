@@ -70,6 +70,9 @@ pub fn compare(before: &[u8], record: &[u8], seen: &mut Seen) -> Result<(), Both
         Some(_) => Err(21),
     };
     check_standing(before, standing, seen)?;
+    if let (Some((_, chart, monitor)), Ok(_)) = (&held, standing) {
+        seen.coverage.stood(NAME, chart, monitor);
+    }
     let taken = LiveMonitor::from_bytes(before.to_vec());
     let refused = taken.err().map(|refusal| refusal.number());
     same("taking up bytes", refused, standing.err())?;

@@ -198,6 +198,9 @@ pub fn compare(chart: &[u8], log: &[u8], seen: &mut Seen) -> Result<(), Both> {
     let safe = LiveMonitor::open(chart);
     let fault = safe.as_ref().err().map(|r| (r.number, r.offset));
     same("the safe open", fault, read.err())?;
+    if let Err(fault) = read {
+        seen.coverage.refused_chart(NAME, chart, fault);
+    }
     let (Ok(value), Ok(mut safe)) = (read, safe) else {
         return Ok(());
     };
@@ -216,6 +219,7 @@ pub fn compare(chart: &[u8], log: &[u8], seen: &mut Seen) -> Result<(), Both> {
         seen.coverage.fed(NAME, &value, &monitor, &answer, &after);
         let numbers = standing_numbers(&value, &after);
         check_standing(&live, Ok(numbers), seen)?;
+        seen.coverage.stood(NAME, &value, &after);
 
         let twin = safe.clone();
         let told = feed_safe(&mut safe, &record);

@@ -2,6 +2,7 @@
 
 mod bytes;
 mod live;
+mod marks;
 mod preview;
 mod printing;
 mod reading;
@@ -15,14 +16,16 @@ use crate::difference::{Both, Difference};
 use crate::random::{shrink, Rng};
 use crate::seen::Seen;
 
-pub use bytes::compare as compare_bytes;
-pub use live::feed_live;
+pub use bytes::{compare as compare_bytes, NAME as LIVE_BYTES};
+pub use live::{feed_live, NAME as LIVE};
+pub use marks::NAME as MARKS;
 pub use preview::{compare as compare_preview, NAME as PREVIEW};
 pub use printing::{compare as compare_print, NAME as PRINT};
 pub use reading::{NAME as READ, READS};
+pub use rows::NAME as ROWS;
 pub use save::{compare as compare_save, compare_image as compare_save_image};
 pub use save::{IMAGE_NAME as SAVE_IMAGE, NAME as SAVE};
-pub use values::{compare as compare_values, feed_images};
+pub use values::{compare as compare_values, feed_images, NAME as VALUES};
 pub use whole::{compare as compare_judge, NAME as JUDGE};
 pub use yes_no::{compare as compare_breaks, IMAGE_NAME as BREAKS_IMAGE, NAME as BREAKS};
 
@@ -45,7 +48,7 @@ pub struct Kind {
 
 /// All kinds.
 #[rustfmt::skip]
-pub static KINDS: [Kind; 12] = [
+pub static KINDS: [Kind; 13] = [
     kind(whole::NAME, 34, ["chart", "log"], whole::make, whole::compare),
     kind(printing::NAME, 14, ["nothing", "input"], printing::make, printing::compare),
     kind(values::NAME, 30, ["chart image", "monitor and record"], values::make, values::compare),
@@ -58,13 +61,14 @@ pub static KINDS: [Kind; 12] = [
     kind(preview::NAME, 5, ["live bytes", "moment"], preview::make, preview::compare),
     kind(save::NAME, 4, ["chart", "another chart"], save::make, save::compare),
     kind(save::IMAGE_NAME, 3, ["chart image", "buffer"], save::make_image, save::compare_image),
+    kind(marks::NAME, 3, ["chart", "log"], marks::make, marks::compare),
 ];
 
-/// The names of those in which a monitor takes records.
+/// The names of those in which a monitor takes records that are counted.
 pub fn taking() -> Vec<&'static str> {
     let names = KINDS.iter().map(|kind| kind.name);
     names
-        .filter(|name| ![READ, SAVE, SAVE_IMAGE].contains(name))
+        .filter(|name| ![READ, SAVE, SAVE_IMAGE, MARKS].contains(name))
         .collect()
 }
 

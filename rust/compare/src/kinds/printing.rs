@@ -34,11 +34,15 @@ pub fn compare(_: &[u8], input: &[u8], seen: &mut Seen) -> Result<(), Both> {
     }
     seen.coverage.printed(&text);
     if let Ok((chart, log)) = parts(input) {
-        if let Ok(chart) = read_chart(chart) {
-            seen.coverage.judged(NAME, log, &judge(&chart, log));
-            if let Ok(records) = read_log(log) {
-                seen.coverage.taken(NAME, &chart, &records);
+        match read_chart(chart) {
+            Ok(chart) => {
+                seen.coverage.judged(NAME, log, &judge(&chart, log));
+                if let Ok(records) = read_log(log) {
+                    let after = seen.coverage.taken(NAME, &chart, &records);
+                    seen.coverage.stood(NAME, &chart, &after);
+                }
             }
+            Err(fault) => seen.coverage.refused_chart(NAME, chart, fault),
         }
     }
     for room in [0, 55, ROOM - 1] {

@@ -1,7 +1,7 @@
 //! Small charts against the declared meaning: every row of regions is tried, no step of the
 //! monitor is used.
 
-use super::live::{feed_why, records, why};
+use super::live::{check_standing, feed_why, records, why};
 use crate::charts;
 use crate::difference::{same, Both, Hex};
 use crate::image::{live_bytes, Image, LIVE_HEAD, MONITOR_IMAGE};
@@ -50,7 +50,10 @@ pub fn compare(chart: &[u8], log: &[u8], seen: &mut Seen) -> Result<(), Both> {
         seen.coverage.told(again, answer);
         again |= matches!(answer, Answer::Broken(_));
     }
-    seen.coverage.taken(NAME, &value, &feeds);
+    let after = seen.coverage.taken(NAME, &value, &feeds);
+    seen.coverage.stood(NAME, &value, &after);
+    let numbers = meaning.verdict().numbers().map(u64::from);
+    check_standing(&live, Ok(numbers), seen)?;
     let monitor = MonitorValue::from_image(&live[..MONITOR_IMAGE]);
     same("the monitor after", monitor, Some(meaning.monitor()))?;
     let wanted = live_bytes(chart, &meaning.monitor());

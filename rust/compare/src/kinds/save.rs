@@ -158,8 +158,9 @@ fn check_chart(chart: &[u8], seen: &mut Seen) -> Result<Option<Written>, Both> {
             }
             Ok(Some((value, bytes)))
         }
-        Err((number, _)) => {
+        Err((number, offset)) => {
             seen.coverage.refusal(number);
+            seen.coverage.refused_chart(NAME, chart, (number, offset));
             seen.coverage.saved(NAME, Saved::Chart(number));
             Ok(None)
         }
@@ -216,6 +217,7 @@ pub fn compare_image(image: &[u8], contents: &[u8], seen: &mut Seen) -> Result<(
     let mut rooms = check_rooms(&said, &wanted, needed)?;
     rooms.push(contents.len());
     same("the image", Hex(black_box(&lent)), Hex(image))?;
+    seen.coverage.marked_image(IMAGE_NAME, image);
     match (chart, wanted(&mut [0; CHART_ROOM])) {
         (Some(chart), Ok(length)) => count_written(IMAGE_NAME, &chart, length, &rooms, seen),
         _ => {

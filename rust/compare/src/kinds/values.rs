@@ -3,7 +3,7 @@
 
 use super::{filled, BEYOND};
 use crate::difference::{same, Both, Hex};
-use crate::image::{Image, MONITOR_IMAGE};
+use crate::image::{mark_place, Image, MONITOR_IMAGE};
 use crate::random::{self, Rng};
 use crate::seen::Seen;
 use crate::testing;
@@ -41,9 +41,16 @@ pub fn some_image(rng: &mut Rng) -> (ChartValue, Vec<u8>) {
         }
         4 => image.push(0),
         5 => image.truncate(rng.below(image.len())),
+        6 | 7 => damage_mark(rng, &mut image),
         _ => {}
     }
     (chart, image)
+}
+
+/// Changes the byte that is a region's mark to rest on, or the one after it.
+fn damage_mark(rng: &mut Rng, image: &mut [u8]) {
+    let mark = mark_place(rng.below(MAX_REGIONS));
+    image[mark + rng.below(2)] = rng.pick(&[1, 1, 2, 3, 255]);
 }
 
 /// Feeds a record to the images, whichever of the two it is.
@@ -61,6 +68,7 @@ pub fn compare(image: &[u8], second: &[u8], seen: &mut Seen) -> Result<(), Both>
     let record = RecordValue::from_bytes(record).unwrap_or(RecordValue::Time(0));
     check_new(image, seen)?;
     check_feed(image, before, record, seen)?;
+    seen.coverage.marked_image(NAME, image);
     for length in [0, MONITOR_IMAGE - 1] {
         let mut short = filled(length);
         let said = testing::new(image, &mut short);

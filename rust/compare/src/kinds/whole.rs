@@ -62,14 +62,16 @@ pub fn compare(chart: &[u8], log: &[u8], seen: &mut Seen) -> Result<(), Both> {
         .as_ref()
         .map_or(MAX_RECORDS + 1, |records| records.len() as u32);
     same("records checked", testing::check(log), checked)?;
-    if let Ok(judged) = judged {
-        seen.coverage.judged(NAME, log, &judged);
+    match judged {
+        Ok(judged) => seen.coverage.judged(NAME, log, &judged),
+        Err(fault) => seen.coverage.refused_chart(NAME, chart, fault),
     }
     if number != 0 {
         seen.coverage.refusal(number);
     } else if let (Ok(value), Ok(records)) = (value, records) {
         seen.coverage.standing(numbers[0] as u8);
-        seen.coverage.taken(NAME, &value, &records);
+        let after = seen.coverage.taken(NAME, &value, &records);
+        seen.coverage.stood(NAME, &value, &after);
     }
     for places in [0, 6, PLACES - 1] {
         let mut out = filled_places(places);

@@ -100,15 +100,18 @@ pub fn compare(chart: &[u8], log: &[u8], seen: &mut Seen) -> Result<(), Both> {
     same("the safe yes or no", told, safe_expected(&asked))?;
     match value {
         Ok(value) => check_image(NAME, &value.to_image(), log, seen),
-        Err((number, _)) => {
+        Err((number, offset)) => {
             seen.coverage.asked(NAME, Asked::Chart(number));
+            seen.coverage.refused_chart(NAME, chart, (number, offset));
             Ok(())
         }
     }
 }
 
 pub fn compare_image(image: &[u8], log: &[u8], seen: &mut Seen) -> Result<(), Both> {
-    check_image(IMAGE_NAME, image, log, seen)
+    check_image(IMAGE_NAME, image, log, seen)?;
+    seen.coverage.marked_image(IMAGE_NAME, image);
+    Ok(())
 }
 
 /// The answer by a chart's image, in a comparison of this kind.

@@ -174,7 +174,7 @@ fn waiting_command(rng: &mut Rng, clocks: u8) -> Vec<u8> {
     vec![0x30, clock, relation, 0, 0, 0, n]
 }
 
-/// What a region's terms, heat and resets depend on.
+/// What a region's terms, heat, resets and mark depend on.
 struct Setting {
     clocks: u8,
     main: bool,
@@ -183,9 +183,11 @@ struct Setting {
     early: bool,
     /// So many of a hundred terms are easy.
     easy: usize,
+    /// So many of a hundred such regions are marked as cold to rest on.
+    rest: usize,
 }
 
-/// A region's terms, heat and resets, in any order.
+/// A region's terms, heat, resets and mark, in any order.
 fn attributes(rng: &mut Rng, setting: &Setting) -> Vec<u8> {
     let clocks = setting.clocks;
     let mut commands: Vec<Vec<u8>> = Vec::new();
@@ -212,6 +214,9 @@ fn attributes(rng: &mut Rng, setting: &Setting) -> Vec<u8> {
             commands.push(vec![0x40, some_set(rng, clocks) as u8]);
         }
     }
+    if setting.main && rng.chance(setting.rest) {
+        commands.push(vec![0x33]);
+    }
     rng.shuffle(&mut commands);
     commands.concat()
 }
@@ -228,10 +233,12 @@ fn touched(event: &[u8]) -> u16 {
 /// A chart in the making.
 struct Maker {
     frame: Frame,
-    /// So many of a hundred regions are plain, messages sent again, terms easy.
+    /// So many of a hundred regions are plain, messages sent again, terms easy, main regions
+    /// marked.
     plain_share: usize,
     repeat_share: usize,
     easy_share: usize,
+    rest_share: usize,
     /// The commands of the message regions so far.
     pool: Vec<Vec<u8>>,
     bytes: Vec<u8>,
@@ -249,6 +256,7 @@ impl Maker {
                 Size::Large => rng.pick(&[50, 90, 97, 100]),
                 _ => rng.pick(&[0, 20, 50, 90]),
             },
+            rest_share: rng.pick(&[0, 30, 70, 100]),
             pool: Vec::new(),
         }
     }
@@ -270,6 +278,7 @@ impl Maker {
                 plain,
                 early: !main && (plain || touched(&event) & lines_so_far == 0),
                 easy: self.easy_share,
+                rest: self.rest_share,
             };
             lines_so_far |= touched(&event);
             self.bytes.extend(event);

@@ -16,14 +16,15 @@ use lsc_reference::value::*;
 fn any_command(rng: &mut Rng, lines: u8, clocks: u8) -> Vec<u8> {
     let in_lines = lines.clamp(2, 16);
     let in_clocks = clocks.clamp(1, 8);
-    let mut command = match rng.below(20) {
+    let mut command = match rng.below(21) {
         0 => vec![0x10, lines, clocks],
         1..=5 => message_command(rng, in_lines, 3),
         6..=8 => plain_command(some_set(rng, in_lines)),
         9..=12 => term_command(rng, in_clocks, false),
-        13..=14 => vec![0x32],
-        15..=17 => vec![0x40, some_set(rng, in_clocks) as u8],
-        18 => vec![0x50],
+        13 => vec![0x32],
+        14..=15 => vec![0x33],
+        16..=18 => vec![0x40, some_set(rng, in_clocks) as u8],
+        19 => vec![0x50],
         _ => vec![0x7F],
     };
     if rng.chance(8) && command.len() > 1 {
@@ -97,8 +98,8 @@ pub fn damage(rng: &mut Rng, bytes: &mut Vec<u8>) {
         2 if length > 0 => {
             let place = rng.below(length);
             bytes[place] = rng.pick(&[
-                0, 1, 2, 3, 4, 5, 8, 9, 16, 17, 0x10, 0x20, 0x21, 0x30, 0x31, 0x32, 0x40, 0x50,
-                0x7F, 0xFF,
+                0, 1, 2, 3, 4, 5, 8, 9, 16, 17, 0x10, 0x20, 0x21, 0x30, 0x31, 0x32, 0x33, 0x40,
+                0x50, 0x7F, 0xFF,
             ]);
         }
         3 => bytes.truncate(from),
@@ -114,7 +115,7 @@ pub fn damage(rng: &mut Rng, bytes: &mut Vec<u8>) {
             let (a, b) = (rng.below(length), rng.below(length));
             bytes.swap(a, b);
         }
-        _ => bytes.push(rng.pick(&[0, 1, 2, 3, 4, 0x32, 0x50, 0x7F, 0xFF])),
+        _ => bytes.push(rng.pick(&[0, 1, 2, 3, 4, 0x32, 0x33, 0x50, 0x7F, 0xFF])),
     }
 }
 

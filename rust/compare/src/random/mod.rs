@@ -16,7 +16,7 @@ pub use faults::faulty_log_bytes;
 pub use hostile::{damage, hostile_chart_bytes, hostile_input, hostile_log_bytes};
 pub use logs::{feeds, records};
 pub use pieces::{commands, log_pieces};
-pub use rewrites::{altered, reordered};
+pub use rewrites::{altered, reordered, unmarked};
 pub use rng::Rng;
 pub use shrink::shrink;
 pub use stamps::log_bytes;

@@ -9,11 +9,11 @@ fn is_term(command: &[u8]) -> bool {
 
 /// Whether the command belongs to a region that was started before.
 fn is_attribute(command: &[u8]) -> bool {
-    is_term(command) || matches!(command[0], 0x32 | 0x40)
+    is_term(command) || matches!(command[0], 0x32 | 0x33 | 0x40)
 }
 
-/// The same chart's bytes, mostly others: in each region hot and resets stand anywhere, the terms
-/// in their order (B5, B7).
+/// The same chart's bytes, mostly others: in each region hot, resets and the mark to rest on stand
+/// anywhere, the terms in their order (B5, B7).
 pub fn reordered(rng: &mut Rng, bytes: &[u8]) -> Vec<u8> {
     let mut parts = commands(bytes);
     for _ in 0..2 * parts.len() {
@@ -25,6 +25,13 @@ pub fn reordered(rng: &mut Rng, bytes: &[u8]) -> Vec<u8> {
             }
         }
     }
+    parts.concat()
+}
+
+/// The chart's bytes without its marks to rest on.
+pub fn unmarked(bytes: &[u8]) -> Vec<u8> {
+    let mut parts = commands(bytes);
+    parts.retain(|part| part[0] != 0x33);
     parts.concat()
 }
 

@@ -49,7 +49,7 @@ fn wild_region(rng: &mut Rng) -> RegionValue {
 /// Changes one field of a region.
 fn change_region(rng: &mut Rng, region: &mut RegionValue) {
     let used = usize::from(region.term_count).clamp(1, MAX_TERMS);
-    match rng.below(10) {
+    match rng.below(11) {
         0 | 1 => region.event = wild_event(rng),
         2 => region.hot = !region.hot,
         3 => region.resets = rng.pick(&[0, 1, 2, 3, 0x40, 0x80, 0xFF]),
@@ -58,6 +58,7 @@ fn change_region(rng: &mut Rng, region: &mut RegionValue) {
         6 => region.terms[rng.below(MAX_TERMS)] = wild_term(rng),
         7 => region.terms[rng.below(used)] = wild_term(rng),
         8 => region.terms[rng.below(MAX_TERMS)].n ^= 1 << rng.below(32),
+        9 => region.rest = !region.rest,
         _ => {
             let term = &mut region.terms[rng.below(used)];
             match rng.below(3) {
@@ -78,7 +79,7 @@ fn change_region(rng: &mut Rng, region: &mut RegionValue) {
 fn change_chart(rng: &mut Rng, chart: &mut ChartValue) {
     let used = usize::from(chart.count).clamp(1, MAX_REGIONS);
     let near = rng.pick(&[0, 1, 2, 8, 9, 15, 16, 17, 31, 32, 33, 255]);
-    match rng.below(12) {
+    match rng.below(13) {
         0 => chart.lines = near,
         1 => chart.clocks = near,
         2 => chart.prechart = near,
@@ -92,6 +93,10 @@ fn change_chart(rng: &mut Rng, chart: &mut ChartValue) {
         7 => {
             let (a, b) = (rng.below(used), rng.below(used));
             chart.regions.swap(a, b);
+        }
+        8 => {
+            let region = &mut chart.regions[rng.below(MAX_REGIONS)];
+            region.rest = !region.rest;
         }
         _ => {
             let place = rng.below(used);
