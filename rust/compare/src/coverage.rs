@@ -309,8 +309,8 @@ impl Coverage {
         add(&mut self.marks, &other.marks);
     }
 
-    /// What was never reached; second offers, logs, single records, yes or no, previews, saved charts
-    /// and marks aside.
+    /// What was never reached; second offers, logs, single records, yes or no, previews, saved
+    /// charts and marks aside.
     pub fn missing(&self) -> Vec<String> {
         let mut missing = Vec::new();
         for code in REFUSALS {

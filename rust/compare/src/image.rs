@@ -8,7 +8,7 @@ use lsc_reference::value::*;
 
 /// Bytes of a region's image.
 const REGION_IMAGE: usize = 42;
-/// Where a region's image has the mark to rest on; the byte after it is 0.
+/// Where a region's image has the mark to rest on; the byte after it is 0 (V15).
 const MARK: usize = 8;
 /// Bytes of a chart's image.
 pub const CHART_IMAGE: usize = 4 + MAX_REGIONS * REGION_IMAGE;

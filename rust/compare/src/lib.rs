@@ -5,9 +5,9 @@
 //! shrunk and shown in hexadecimal with both answers, the seed and the input's number.
 //!
 //! `random` has the generators, `asked`, `coverage`, `fitness`, `outcomes`, `previewed`, `rested`,
-//! `saved` and `seen` name and count what was reached, `image` has values in the library's form, and
-//! `testing` calls what takes them. `fast` is a judge in Rust that the benchmark runs beside the
-//! proved one; the reference is its test too.
+//! `saved` and `seen` name and count what was reached, `image` has values in the library's form,
+//! and `testing` calls what takes them. `fast` is a judge in Rust that the benchmark runs beside
+//! the proved one; the reference is its test too.
 #![deny(unsafe_code)]
 
 pub mod asked;

@@ -1,12 +1,13 @@
 //! Fixed inputs at the limits: 1,000,000 records, plain and raw, that break or not, previews after
-//! them, twice as many rounds, the longest input, the longest chart, sizes that overflow.
+//! them, twice as many rounds, the longest input, the longest chart, the last regions and lines
+//! that may be rested on, sizes that overflow.
 
 use crate::charts;
 use crate::difference::{same, Both, Difference};
 use crate::image::{live_bytes, Image, LIVE_HEAD};
 use crate::kinds::{
-    compare_breaks, compare_bytes, compare_judge, compare_preview, compare_print, compare_save,
-    compare_save_image, compare_values, Compare,
+    compare_breaks, compare_bytes, compare_judge, compare_live, compare_preview, compare_print,
+    compare_save, compare_save_image, compare_values, Compare,
 };
 use crate::random::{self, Rng};
 use crate::seen::Seen;
@@ -30,6 +31,7 @@ pub fn run(seen: &mut Seen) -> Result<(), Box<Difference>> {
     cases.extend(fed_twice());
     cases.extend(previewed());
     cases.extend(saved());
+    cases.extend(rested());
     cases.push(("live sizes", live_sizes, Vec::new(), Vec::new()));
     for (name, compare, first, second) in cases {
         compare(&first, &second, seen).map_err(|both| {
@@ -268,6 +270,42 @@ fn saved() -> Vec<Case> {
         ("it cut, and with more", compare_save, cut, more),
         ("a wide one", compare_save, WIDEST.to_vec(), charts::large()),
     ]
+}
+
+/// A chart of so many lines with these main regions, each with its mark; its messages are labelled
+/// by their places.
+fn resting_chart(lines: u8, regions: &[([u8; 2], bool)]) -> Vec<u8> {
+    let mut bytes = vec![0x10, lines, 0, 0x50];
+    for (label, ([source, destination], mark)) in (1..).zip(regions) {
+        bytes.extend([0x20, *source, *destination, 0, label]);
+        bytes.extend(mark.then_some(0x33));
+    }
+    bytes.push(0x7F);
+    bytes
+}
+
+/// All 32 regions on two lines, of which region 31 alone is marked, or all others. Sixteen lines,
+/// two messages on each pair of them, of which the first ones are marked, or all but the last.
+fn rested() -> Vec<Case> {
+    let mut cases: Vec<Case> = Vec::new();
+    for flag in [false, true] {
+        let regions: Vec<_> = (1..=32).map(|n| ([0, 1], (n == 31) == flag)).collect();
+        let pairs = (0..16).map(|n| [2 * (n % 8), 2 * (n % 8) + 1]);
+        let marks = (0..16).map(|n| n < 7 || (n == 7 && flag));
+        let wide: Vec<_> = pairs.zip(marks).collect();
+        for (lines, regions) in [(2, regions), (16, wide)] {
+            let sent = (1..).zip(&regions);
+            let log =
+                sent.flat_map(|(label, ([from, to], _))| message(*from, *to, label, 7).to_bytes());
+            let (chart, log) = (resting_chart(lines, &regions), log.collect::<Vec<u8>>());
+            for records in 0..=regions.len() {
+                let log = log[..9 * records].to_vec();
+                cases.push(("resting at a limit", compare_judge, chart.clone(), log));
+            }
+            cases.push(("resting at a limit, live", compare_live, chart, log));
+        }
+    }
+    cases
 }
 
 /// V9, for lengths at both ends.

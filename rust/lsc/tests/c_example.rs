@@ -1,5 +1,9 @@
 //! The C examples and the header: compiled without a warning, linked, run, compared.
 
+use lsc::call::{
+    BREAKS_PLACES, CHART_ROOM, PREVIEW_ROOM, RECORD_PLACES, TEXT_ROOM, VERDICT_PLACES,
+};
+use lsc::Standing;
 use std::path::{Path, PathBuf};
 use std::process::Command;
 
@@ -43,6 +47,36 @@ fn the_c_examples_say_what_is_expected() {
     assert_eq!(said_by("watch"), expected);
     let expected = include_str!("../examples/save.expected");
     assert_eq!(said_by("save"), expected);
+}
+
+#[test]
+fn the_header_s_numbers_are_the_crate_s() {
+    let header = include_str!("../../include/lsc.h");
+    let number = |name: &str| -> usize {
+        let line = header.lines().find_map(|line| {
+            let words = line.strip_prefix("#define ")?.strip_prefix(name)?;
+            words.strip_prefix(' ')
+        });
+        let word = line.and_then(|line| line.split_whitespace().next());
+        let word = word.unwrap_or_else(|| panic!("no {name}"));
+        word.parse().expect("a number")
+    };
+    for (name, standing) in [
+        ("OPEN", Standing::Open),
+        ("PRECHART", Standing::Prechart),
+        ("OWED", Standing::Owed),
+        ("BROKEN", Standing::Broken),
+        ("RESTING", Standing::Resting),
+    ] {
+        let said = number(&format!("LSC_STANDS_{name}"));
+        assert_eq!(said, usize::from(standing.number()), "{name}");
+    }
+    assert_eq!(number("LSC_VERDICT_PLACES"), VERDICT_PLACES);
+    assert_eq!(number("LSC_RECORD_PLACES"), RECORD_PLACES);
+    assert_eq!(number("LSC_BREAKS_PLACES"), BREAKS_PLACES);
+    assert_eq!(number("LSC_TEXT_ROOM"), TEXT_ROOM);
+    assert_eq!(number("LSC_PREVIEW_ROOM"), PREVIEW_ROOM);
+    assert_eq!(number("LSC_CHART_ROOM"), CHART_ROOM);
 }
 
 #[test]

@@ -17,7 +17,7 @@ use crate::random::{shrink, Rng};
 use crate::seen::Seen;
 
 pub use bytes::{compare as compare_bytes, NAME as LIVE_BYTES};
-pub use live::{feed_live, NAME as LIVE};
+pub use live::{compare as compare_live, feed_live, NAME as LIVE};
 pub use marks::NAME as MARKS;
 pub use preview::{compare as compare_preview, NAME as PREVIEW};
 pub use printing::{compare as compare_print, NAME as PRINT};

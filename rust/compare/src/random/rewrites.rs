@@ -64,7 +64,25 @@ pub fn altered(rng: &mut Rng, bytes: &[u8]) -> Vec<u8> {
 mod tests {
     use super::*;
     use crate::random::{chart, some_size};
+    use crate::rested::without_marks;
     use lsc_reference::reader::read_chart;
+
+    #[test]
+    fn unmarked_bytes_are_the_chart_without_marks() {
+        let mut rng = Rng::new(15);
+        let mut marked = 0;
+        for _ in 0..500 {
+            let size = some_size(&mut rng);
+            let (bytes, value) = chart(&mut rng, size);
+            let bare = read_chart(&unmarked(&bytes));
+            assert_eq!(bare, Ok(without_marks(&value)), "{bytes:02X?}");
+            marked += usize::from(bare != Ok(value));
+        }
+        assert!(marked > 200, "{marked}");
+        // A label and a set that have the mark's byte.
+        let bytes = [0x10, 6, 0, 0x50, 0x20, 0, 1, 0x33, 0x33, 0x33, 0x7F];
+        assert_eq!(unmarked(&bytes), [&bytes[..9], &[0x7F]].concat());
+    }
 
     #[test]
     fn reordered_bytes_are_the_same_chart() {
