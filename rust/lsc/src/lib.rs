@@ -67,8 +67,8 @@
 //! // Saved, this chart has the bytes that it has already.
 //! assert_eq!(lsc::saved(&chart)?, chart);
 //!
-//! // Each of the two marked as cold to rest on, by 33: once both have come it would be kept, so
-//! // that it never rests. With a last word of the library (label 4, 3 to 2) it may wait for that.
+//! // Command 33 marks headings and references as cold to rest on: once both have come, the chart
+//! // may wait for the library's word (label 4, 3 to 2) as long as it likes.
 //! let chart = [
 //!     0x10, 4, 0, 0x20, 0, 1, 0, 1, 0x50, // undo
 //!     0x20, 1, 0, 0, 2, 0x33, 0x20, 2, 3, 0, 3, 0x33, // headings, references
