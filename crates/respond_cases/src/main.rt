@@ -148,5 +148,6 @@ fn main() {
     run_file(b"relations");
     run_file(b"second_offers");
     run_file(b"raw_logs");
+    run_file(b"rests");
     run_long();
 }
