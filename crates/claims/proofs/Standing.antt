@@ -48,7 +48,7 @@ module _ (c : Chart) where
     none-there : r ≡ ε → allBelow (c .count) (λ i. not (stands r i)) ≡ true
     none-there e = all-of (c .count) _ (λ i h. ap (λ (x : Row). not (stands x i)) e)
 
-    row-cases : (r ≢ ε → allBelow (c .count) (λ i. not (stands r i)) ≡ false) → StandsAs c r (byFired (stands r))
+    pub row-cases : (r ≢ ε → allBelow (c .count) (λ i. not (stands r i)) ≡ false) → StandsAs c r (byFired (stands r))
     row-cases some = by r refl some
       where
         done : r ≢ ε → allBelow (c .count) (λ i. not (stands r i)) ≡ false → StandsAs c r (byFired (stands r))

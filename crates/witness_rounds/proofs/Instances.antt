@@ -39,12 +39,13 @@ use Rattle.claims.specs.Demand1 as cases
 use Rattle.log_clock.specs.TrueTimes as times
 use Rattle.claims.specs.Demand1.{FeedsAs, FindsAs, ComesAs, Walk, refusedLog, JudgesAs}
 use Rattle.claims.proofs.Demand1.{reads-just}
+use Rattle.claims.proofs.Standing.{row-cases}
 use Rattle.witnesses.specs.Feeds.{passes as passed, undo, headings, references, stored}
 use Rattle.witnesses.specs.Raw.{rawTime}
 use Rattle.witness_rounds.specs.Charts.{written}
 use Rattle.model.specs.Answers.{verdictFrom}
 use Rattle.witness_rounds.specs.Rounds.{U}
-use Rattle.witness_rounds.specs.Cases.{valueU, ticks, shown, stamp, Cases}
+use Rattle.witness_rounds.specs.Cases.{valueU, valueRest, ticks, shown, stamp, Cases}
 use Rattle.witness_rounds.proofs.Computing.{computing}
 use Rattle.witness_rounds.proofs.Logs.{read-u, accepted-u}
 
@@ -307,4 +308,8 @@ each-case = record {
       (omega arith) (omega arith));
   overflows = overflow 1000000 refl;
   judges = judges;
+  opens = row-cases valueRest ε (λ n. absurd (n refl));
+  in-prechart = row-cases valueRest (ε ▸ 0) (λ n. refl);
+  owes = row-cases valueRest (ε ▸ 0 ▸ 1) (λ n. refl);
+  rests = row-cases valueRest (ε ▸ 0 ▸ 1 ▸ 2) (λ n. refl);
 }

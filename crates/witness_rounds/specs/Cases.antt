@@ -1,4 +1,4 @@
--- An instance of every case of the first demand's claims: of charts, monitors, records and logs.
+-- An instance of every case of the first demand's claims, of charts, monitors, records and logs, and of the standing.
 use mathlib.Core.List.{List, [], _∷_}
 use Prim.Native.Nat.{ℕ, zero, suc}
 use Rattle.model.specs.declared.Chart.{Chart}
@@ -14,7 +14,9 @@ use Rattle.log_clock.specs.declared.Kind.the-variants.{Unset, Plain, Raw}
 use Rattle.log_clock.specs.TrueTimes.{Passing}
 use Rattle.monitor.specs.declared.MadeAnswer.the-variants.{Fresh, NoChart}
 use Rattle.claims.specs.Examples.{chartU}
+use Rattle.claims.specs.Standing.{StandsAs}
 use Rattle.claims.specs.Demand1.{ReadsAs, MakesAs, FeedsAs, FindsAs, ComesAs, Walk, Stamped, refusedLog, JudgesAs}
+use Rattle.witnesses.specs.Hex.{hex}
 use Rattle.witnesses.specs.Feeds.{passes as passed, undo, headings, references, stored}
 use Rattle.witnesses.specs.Raw.{rawMessage, rawTime}
 use Rattle.witness_rounds.specs.Charts.{written}
@@ -24,6 +26,10 @@ use Rattle.witness_rounds.specs.Rounds.{valueOf}
 -- chart U as a value
 abbrev pub valueU : Chart
 valueU = valueOf chartU
+
+-- a chart with a place to rest: prechart a, b; main chart c, marked, and d; each from 0 to 1
+abbrev pub valueRest : Chart
+valueRest = valueOf (hex "10 02 00 20 00 01 00 01 20 00 01 00 02 50 20 00 01 00 03 33 20 00 01 00 04 7F")
 
 -- a log of n records of time 0
 unfoldable pub ticks : ℕ → List ℕ
@@ -92,3 +98,8 @@ pub record Cases : Type 0 where
   pub overflows : JudgesAs valueU (ticks 1000001) (refusedLog 23 5000000)
   pub judges : JudgesAs valueU (written (ε ▸ undo 100 ▸ references 120 ▸ headings 140) [])
       (record { number = 0; offset = 0; verdict = verdictFrom 0 1 0 3 0 0 0 0 })
+  -- the standing by the row: empty, a, a b, a b c
+  pub opens : StandsAs valueRest ε 0
+  pub in-prechart : StandsAs valueRest (ε ▸ 0) 1
+  pub owes : StandsAs valueRest (ε ▸ 0 ▸ 1) 2
+  pub rests : StandsAs valueRest (ε ▸ 0 ▸ 1 ▸ 2) 4
