@@ -54,8 +54,8 @@ extern "C" {
 
 /*
  * It may rest where every line that counts is cold. A line counts if it still has an unfired region
- * of the main chart. It is as hot as the last fired region of the main chart that touches it: cold
- * if that one is marked with 33. A line on which none is fired is hot.
+ * of the main chart. The last fired one that touches it gives its temperature: cold if that region
+ * is marked with 33, else hot. A line on which none of them is fired is hot.
  */
 
 /* Places of a verdict, of a record and of lsc_breaks, and the room that lsc_print wants. */

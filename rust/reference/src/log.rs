@@ -175,8 +175,8 @@ fn standing(chart: &ChartValue, monitor: &MonitorValue) -> u8 {
 }
 
 /// Whether every line that counts is cold (J13), with these regions fired. A line counts if some
-/// main region that touches it is not fired. It is as hot as its last fired main region, the one
-/// with the highest number, which is cold if it is marked (C20); without one it is hot.
+/// main region that touches it is not fired. Of those that are fired on it the one with the highest
+/// number gives its temperature: cold if it is marked (C20). Without one the line is hot.
 fn rests(chart: &ChartValue, fired: u32) -> bool {
     let main = usize::from(chart.prechart)..usize::from(chart.count);
     (0..chart.lines).all(|line| {

@@ -420,7 +420,7 @@ fn every_line_that_counts_is_asked() {
             (&[U, A, E, B, F], 0),
         ],
     );
-    // E is not marked: one pair of lines is cold, the other hot. Hot overrides cold.
+    // E is not marked: one pair of lines is cold, the other hot, which is enough for 2.
     stands(
         &with(&[]),
         &[
