@@ -257,11 +257,11 @@ fn begun(r: Reading, at: usize, e: Event) -> Reading
     let zero = model::zero_term();
     let region = Region {
         event: e,
+        rest: false,
         terms: [zero; MOST_TERMS],
         count: 0,
         hot: false,
         resets: 0,
-        rest: false,
     };
     Reading {
         headed: r.headed,

@@ -37,7 +37,7 @@ owned-event (Plain l) vs p = p .1 .1 .1 .1 .0 .1
 
 pub owned-region : (g : Region) (vs : List Val) → Is (row region.the-type) g vs → Ranges g
 owned-region g vs p =
-    let ts = p .1 .1 .1 .0 in
+    let ts = p .1 .1 .1 .1 .0 in
     let size : length (g .terms) ≡ 4 = sym (length-map (g .terms) _) ∙ ts .1 .0 .1 in
     record {
       size = size;

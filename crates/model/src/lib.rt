@@ -78,14 +78,14 @@ pub struct Term {
     pub n: u32,
 }
 
-// A region; `hot` is its condition's temperature, `resets` a set of clocks, `rest` the mark of a place to rest (C20).
+// A region; `rest` is the mark of a place to rest (C20), `hot` its condition's temperature, `resets` a set of clocks.
 pub struct Region {
     pub event: Event,
+    pub rest: bool,
     pub terms: [Term; MOST_TERMS],
     pub count: u8,
     pub hot: bool,
     pub resets: u8,
-    pub rest: bool,
 }
 
 // A chart: its regions in file order, of which the first `prechart` are the prechart's.
@@ -113,11 +113,11 @@ pub fn zero_region() -> Region
     let t = zero_term();
     Region {
         event: Event::Plain(0),
+        rest: false,
         terms: [t; MOST_TERMS],
         count: 0,
         hot: false,
         resets: 0,
-        rest: false,
     }
 }
 
