@@ -1,14 +1,13 @@
 -- The abstract chart does not show the marks, and a chart without them is still a chart. Assumes nothing.
 use mathlib.Core.Path.{_≡_, refl, sym, ap, fun-ext, _∙_}
 use mathlib.Core.Bool.{Bool, true, false, cond, not, _&&_, _||_}
-use mathlib.Core.List.{List, map}
+use mathlib.Core.List.{List}
 use Prim.Native.Nat.{ℕ, zero, suc, _<_, min}
 use lib.Dec.{eqb, leb, ltb}
 use lib.ListN.{length, getD, length-map, List·getD-map}
 use Rattle.bitset.specs.Set.{contains, union}
 use Rattle.model.specs.declared.Chart.{Chart}
 use Rattle.model.specs.declared.Region.{Region}
-use Rattle.model.specs.declared.Term.{Term}
 use Rattle.model.specs.Chart.{zeroTerm, zeroRegion, absentRegion, mostRegions, regionAt, touched, touchedAt}
 use Rattle.base.specs.Lists.{failsAt}
 use Rattle.order.specs.Order.{aboveOf, aboveSets}
@@ -16,10 +15,10 @@ use Rattle.condition.specs.Condition.{termHolds}
 use Rattle.chart_reader.specs.Read.{readChart}
 use Rattle.chart_reader.specs.Said.{acceptedAs}
 use Rattle.chart_value.specs.Given.{Given}
-use Rattle.chart_value.specs.WellFormed.{wellFormed, regionFits, usedRegionFits, touchedBefore, isZeroRegion}
+use Rattle.chart_value.specs.WellFormed.{regionFits, usedRegionFits, touchedBefore, isZeroRegion}
 use Rattle.chart_value.specs.Writer.{chartBytes}
 use Rattle.chart_value.specs.View.{keyOf, regionOf, chartOf}
-use Rattle.chart_value.specs.Marks.{AlikeRegion, Alike, unmarkedRegion, unmarked, MarksApart}
+use Rattle.chart_value.specs.Marks.{Alike, unmarkedRegion, unmarked, MarksApart}
 use Rattle.chart_value.proofs.Facts.{Shape, Fits, WellFormed, wf-of, of-wf, fits-of, of-fits, zero-region}
 use Rattle.chart_value.proofs.Facts.{zero-is-zero}
 use Rattle.chart_value.proofs.RoundTrip.{round-trip}

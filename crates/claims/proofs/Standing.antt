@@ -1,19 +1,18 @@
 -- The standing by the last stretch, and the verdict. Assumes nothing.
 use mathlib.Core.Path.{_≡_, refl, sym, ap, subst, _∙_}
 use mathlib.Core.Logic.{_≢_, _↔_, inl, inr}
-use mathlib.Core.Bool.{Bool, true, false, cond, not, So}
+use mathlib.Core.Bool.{Bool, true, false, cond, not}
 use Prim.Native.Nat.{ℕ, _<_}
 use borrow.Author.Tests.{eq-eqb, ne-eqb, not-true}
-use lib.Dec.{eqb}
 use Rattle.base.specs.Lists.{Snoc, ε, _▸_, allBelow}
 use Rattle.base.proofs.Bools.{split, clash, or-left}
 use Rattle.base.proofs.Facts.{all-of, all-at, empty-snoc}
 use Rattle.model.specs.declared.Chart.{Chart}
 use Rattle.model.specs.declared.Cause.{Cause}
-use Rattle.resting.specs.Rest.{Rests, rests as restsTest}
+use Rattle.resting.specs.Rest.{rests as restsTest}
 use Rattle.resting.proofs.Exact.{exact}
 use Rattle.rounds.specs.Chart.{Chart as Abstract, Accepted}
-use Rattle.rounds.specs.Rows.{LogRecord, Row, stands, Lawful, LawfulBy, PrechartDone}
+use Rattle.rounds.specs.Rows.{LogRecord, Row, stands, Lawful, LawfulBy}
 use Rattle.rounds.specs.Tally.{Tally}
 use Rattle.rounds.specs.Feeds.{Last, unended, afterBreak}
 use Rattle.rounds.specs.Machine.{Monitor as AbstractMonitor, after, prechartDone}

@@ -1,9 +1,9 @@
 -- The test passes exactly if every line that counts is cold. Assumes nothing.
-use mathlib.Core.Path.{_≡_, refl, sym, ap, _∙_}
+use mathlib.Core.Path.{_≡_, sym, ap, _∙_}
 use mathlib.Core.Logic.{inl, inr}
-use mathlib.Core.Bool.{Bool, true, false, So, not, _&&_, _||_, false≢true}
+use mathlib.Core.Bool.{Bool, true, false, not, _&&_, false≢true}
 use mathlib.Core.Option.{Option}
-use Prim.Native.Nat.{ℕ, _≤_, _<_}
+use Prim.Native.Nat.{ℕ, _<_}
 use borrow.Author.Tests.{leb-true, le-leb, not-true}
 use lib.Dec.{leb}
 use Rattle.base.specs.Lists.{last, onFound}
@@ -12,7 +12,7 @@ use Rattle.base.proofs.Facts.{found, all-of, all-at, Highest, last-some, last-i
 use Rattle.base.proofs.Loops.{one-passes, some-at}
 use Rattle.model.specs.declared.Chart.{Chart}
 use Rattle.model.specs.Chart.{regionAt, touches}
-use Rattle.resting.specs.Rest.{OnLine, Counts, Cold, Rests, onLine, counts, isCold, rests, RestsExactly}
+use Rattle.resting.specs.Rest.{OnLine, Counts, Cold, onLine, counts, isCold, rests, RestsExactly}
 
 module _ (c : Chart) (k : ℕ) where
   test-on : (i : ℕ) → OnLine c k i → onLine c k i ≡ true

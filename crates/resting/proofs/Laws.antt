@@ -7,7 +7,6 @@ use native.Mathlib.Numerals.{add-one}
 use native.Mathlib.Omega.{arith}
 use borrow.Author.Tests.{lt-leb, le-leb}
 use lib.Bits.{bitAnd}
-use lib.Dec.{leb}
 use Rattle.bitset.specs.Set.{contains, union}
 use Rattle.bitset.proofs.Laws.{contains-empty, contains-union, contains-and}
 use Rattle.base.specs.Lists.{someBelow, last, onFound}
