@@ -1,4 +1,6 @@
 // Sets of numbers below 32, as the bits of a u32.
+#![tactic(auto)]
+
 ghost use Rattle.std.specs.Prelude.{◌≡◌, false, not, ℕ, ◌<◌, ◌≤◌};
 ghost use Rattle.std.proofs.Math.Bool.{So};
 ghost use Rattle.bitset.specs.Set.{contains, inserted, is_subset, union, within};

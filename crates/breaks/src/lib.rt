@@ -5,7 +5,7 @@ ghost use Rattle.breaks.specs.Breaks.{breaks_of};
 use log_check::{Checked, LogRefusal};
 use model::Chart;
 
-#[derive(Drop)]
+#[derive(Clone, Copy)]
 pub enum BreakAnswer {
     Yes,
     No,

@@ -2,7 +2,7 @@
 ghost use Rattle.std.specs.Prelude.{◌≡◌, ◌<◌, length, get_or};
 ghost use Rattle.chart_command.specs.Command.{operands, decode_byte, decode_at};
 
-#[derive(Drop)]
+#[derive(Clone, Copy)]
 pub enum Command {
     // lines, clocks
     Heading(u8, u8),
@@ -23,7 +23,7 @@ pub enum Command {
 }
 
 // What stands at an offset: a command with the offset just after it, or why there is no command.
-#[derive(Drop)]
+#[derive(Clone, Copy)]
 pub enum Decoded {
     CutShort,
     Unknown,

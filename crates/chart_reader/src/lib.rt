@@ -10,14 +10,14 @@ use chart_command::Decoded;
 use chart_step::{Effect, Refusal, State, Taken};
 use model::{Chart, Event, MOST_REGIONS, Region, Term};
 
-#[derive(Drop)]
+#[derive(Clone, Copy)]
 pub enum ChartAnswer {
     Accepted,
     Refused(Refusal, usize),
 }
 
 // A chart, or why the bytes are refused, with a chart of zeros.
-#[derive(Drop)]
+#[derive(Clone, Copy)]
 pub struct ChartRead {
     pub answer: ChartAnswer,
     pub chart: Chart,

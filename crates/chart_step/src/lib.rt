@@ -19,7 +19,7 @@ const RELATIONS: u8 = 5;
 // is out of place; an operand is out of its range; there is a region or a term too many; a plain region lacks both term
 // and reset; a hot region has no term; a region of the prechart is hot; one of the prechart is marked as a place to
 // rest; no region is above a plain one of the opening half; the main chart has no region; bytes follow the end.
-#[derive(Drop)]
+#[derive(Clone, Copy)]
 pub enum Refusal {
     CutShort,
     Unknown,
@@ -40,7 +40,7 @@ pub enum Refusal {
 // which offset, the lines that the regions started so far touch; of the region last started its event, its marks, its
 // resets and the number of its terms; of the chart its numbers, `count` that of the closed regions. Of the orders of
 // these fields that were timed, the compiler makes the fastest reader of this one.
-#[derive(Drop)]
+#[derive(Clone, Copy)]
 pub struct State {
     pub start: usize,
     pub hot: bool,
@@ -58,7 +58,7 @@ pub struct State {
     pub started: bool,
 }
 
-#[derive(Drop)]
+#[derive(Clone, Copy)]
 pub enum Fault {
     Nothing,
     Found(Refusal, usize),
@@ -66,7 +66,7 @@ pub enum Fault {
 
 // What a command does to the terms that the reader keeps: nothing, or one is added, or there are none again, since a
 // region starts. Or the chart ends, or the command is refused.
-#[derive(Drop)]
+#[derive(Clone, Copy)]
 pub enum Effect {
     Kept,
     Added(Term),
@@ -77,7 +77,7 @@ pub enum Effect {
 
 // What a command comes to: its effect, whether it puts the region last started among the closed ones, the offset just
 // after it, and the state.
-#[derive(Drop)]
+#[derive(Clone, Copy)]
 pub struct Taken {
     pub effect: Effect,
     pub puts: bool,

@@ -15,7 +15,7 @@ use model::{Chart, NOT_A_CHART, TOO_SHORT};
 pub const MOST_BYTES: usize = 1_317;
 
 // How many bytes were written, or why none were: no chart, or a buffer with fewer bytes than the number needed.
-#[derive(Drop)]
+#[derive(Clone, Copy)]
 pub enum ChartWritten {
     Written(usize),
     NotAChart,

@@ -33,7 +33,7 @@ pub fn judge_log(chart: Chart, log: &[u8]) -> Judgement
 }
 
 // What reading the chart said, and the monitor after the log's records.
-#[derive(Drop)]
+#[derive(Clone, Copy)]
 pub struct Watched {
     pub answer: ChartAnswer,
     pub monitor: Monitor,

@@ -6,7 +6,7 @@ ghost use Rattle.condition.specs.Rows.{bit, row_bits, row_says, biased, compared
 use model::{Length, Relation};
 
 // The sign of a difference: it is below zero, zero, or above zero.
-#[derive(Drop)]
+#[derive(Clone, Copy)]
 pub enum Sign {
     Below,
     Same,

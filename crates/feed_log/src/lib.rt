@@ -22,7 +22,7 @@ const BROKEN: u8 = 1;
 
 // V22: why the call stopped, the log's kind after it and the offset just after the records taken; how many were taken,
 // the number of the last answer, and how many answers there were of each number.
-#[derive(Drop)]
+#[derive(Clone, Copy)]
 pub struct LogFed {
     pub number: u8,
     pub kind: Kind,
@@ -33,7 +33,7 @@ pub struct LogFed {
 }
 
 // The records taken so far: the monitor after them, the offset and the log's kind.
-#[derive(Drop)]
+#[derive(Clone, Copy)]
 pub struct Run {
     pub monitor: Monitor,
     pub at: usize,

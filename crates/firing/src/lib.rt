@@ -17,7 +17,7 @@ use layout::{CLOCK_CODES, Head, SECOND_PLACE, TERM_PLACES};
 use model::{CLOCK_PLACES, Length, MOST_REGIONS, MOST_TERMS, Moment, Place};
 
 // What a search for a region finds.
-#[derive(Drop)]
+#[derive(Clone, Copy)]
 pub enum Found {
     At(usize),
     Nothing,
@@ -41,7 +41,7 @@ pub fn ready_plain(plain: u32, above: &[u32; MOST_REGIONS], fired: u32) -> Found
 }
 
 // Which regions have a message: a ready one; only some that are not ready; or none.
-#[derive(Drop)]
+#[derive(Clone, Copy)]
 pub enum Sought {
     Ready(usize),
     Unready,
@@ -188,14 +188,14 @@ fn fire(resets: &[u32; MOST_REGIONS], p: Place, i: usize, t: Moment) -> Place
 }
 
 // How steps 3 and 4 end: nothing more is ready, or a region's condition fails, with its first failing term.
-#[derive(Drop)]
+#[derive(Clone, Copy)]
 pub enum Rest {
     Rests,
     Fails(usize, u8),
 }
 
 // How they end, and the place then; if a region fails, the place before it.
-#[derive(Drop)]
+#[derive(Clone, Copy)]
 pub struct Settled {
     pub rest: Rest,
     pub place: Place,

@@ -7,14 +7,14 @@ ghost use Rattle.judge.specs.Judge.{judge_of};
 use log_check::{Checked, LogRefusal};
 use model::{Chart, Verdict};
 
-#[derive(Drop)]
+#[derive(Clone, Copy)]
 pub enum JudgeAnswer {
     Judged,
     NoChart,
     Refused(LogRefusal, usize),
 }
 
-#[derive(Drop)]
+#[derive(Clone, Copy)]
 pub struct Judgement {
     pub answer: JudgeAnswer,
     pub verdict: Verdict,

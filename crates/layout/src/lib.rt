@@ -17,7 +17,7 @@ pub const NUMBER_PLACE: u64 = 0x1000;
 pub const CLOCK_CODES: u64 = 16;
 
 // A compiled chart's numbers; `plain` and `hot` are sets of regions.
-#[derive(Drop)]
+#[derive(Clone, Copy)]
 pub struct Head {
     pub count: usize,
     pub prechart: usize,

@@ -7,7 +7,7 @@ ghost use Rattle.listing.specs.Parts.{field_text, four_fields, part_text};
 use model::Verdict;
 
 // The part of the input that a refusal speaks of.
-#[derive(Drop)]
+#[derive(Clone, Copy)]
 pub enum Part {
     Input,
     Chart,
@@ -15,7 +15,7 @@ pub enum Part {
 }
 
 // A verdict, or a refusal: its part, its number and its offset within that part.
-#[derive(Drop)]
+#[derive(Clone, Copy)]
 pub enum Report {
     Judged(Verdict),
     Refused(Part, u8, usize),

@@ -23,14 +23,14 @@ const HEAD_SIZE: usize = 67;
 const LARGEST: usize = 0xffff_ffff_ffff_ffff;
 
 // V10: the number that opening returns, and the offset of the chart's fault or the size of the live monitor.
-#[derive(Drop)]
+#[derive(Clone, Copy)]
 pub struct Opened {
     pub number: u8,
     pub at: u64,
 }
 
 // 0 and the verdict, or a refusal with zeros.
-#[derive(Drop)]
+#[derive(Clone, Copy)]
 pub struct LiveVerdict {
     pub number: u8,
     pub verdict: Verdict,

@@ -13,7 +13,7 @@ use log_reader::{MESSAGE_SIZE, MESSAGE_TAG, Next, RAW_MESSAGE_TAG, RecordRefusal
 use model::{MOST_RECORDS, Moment, Stamp, TOO_MANY_RECORDS};
 
 // Why a log is refused.
-#[derive(Drop)]
+#[derive(Clone, Copy)]
 pub enum LogRefusal {
     NoRecord(RecordRefusal),
     NoMoment(MomentRefusal),
@@ -31,7 +31,7 @@ pub fn refusal_number(k: LogRefusal) -> u8
 }
 
 // The number of records, or a refusal with the offset of its record.
-#[derive(Drop)]
+#[derive(Clone, Copy)]
 pub enum Checked {
     Fine(u32),
     Refused(LogRefusal, usize),
@@ -39,7 +39,7 @@ pub enum Checked {
 
 // One record checked: the check is over, or it goes on at an offset, with the log's kind, the record's moment and the
 // count so far.
-#[derive(Drop)]
+#[derive(Clone, Copy)]
 pub enum CheckStep {
     Over(Checked),
     Going(usize, Kind, Moment, u32),
@@ -90,7 +90,7 @@ pub fn ended_at(log: &[u8], at: usize, kind: Kind, last: Moment, records: u32) -
 
 // What all records of a log have in common: the byte of its messages, which for its times is one more, the time or
 // stamp at which it counts moment 0, and the most ticks from a record to the next.
-#[derive(Drop)]
+#[derive(Clone, Copy)]
 pub struct Pace {
     pub message: u8,
     pub origin: u32,
@@ -155,7 +155,7 @@ fn moment_of(word: u32, origin: u32) -> Moment
 }
 
 // A record met at an offset: its message's code, its moment and the offset just after it; or anything else.
-#[derive(Drop)]
+#[derive(Clone, Copy)]
 pub enum Met {
     Other,
     Sound(u64, Moment, usize),

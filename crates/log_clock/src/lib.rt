@@ -9,7 +9,7 @@ use log_reader::{Next, RecordRefusal};
 use model::{Length, Moment, RawRecord, Record, Stamp, TIME_FALLS};
 
 // Which kind of records a log has so far; for raw ones with the stamp of the last.
-#[derive(Drop)]
+#[derive(Clone, Copy)]
 pub enum Kind {
     Unset,
     Plain,
@@ -17,7 +17,7 @@ pub enum Kind {
 }
 
 // Why a record has no moment.
-#[derive(Drop)]
+#[derive(Clone, Copy)]
 pub enum MomentRefusal {
     Mixed,
     Falls,
@@ -25,7 +25,7 @@ pub enum MomentRefusal {
 }
 
 // The moment of a record, or why it has none.
-#[derive(Drop)]
+#[derive(Clone, Copy)]
 pub enum Timed {
     At(Moment),
     Refused(MomentRefusal),
@@ -33,7 +33,7 @@ pub enum Timed {
 
 // What stands at an offset: the end, no record, a record without a moment; or a record at its moment, the log's kind
 // with it, and the offset just after it.
-#[derive(Drop)]
+#[derive(Clone, Copy)]
 pub enum Dated {
     End,
     NoRecord(RecordRefusal),

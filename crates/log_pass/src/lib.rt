@@ -13,7 +13,7 @@ use log_check::Met;
 use model::{Chart, Monitor};
 
 // The monitor after the records that were taken, and the offset just after them.
-#[derive(Drop)]
+#[derive(Clone, Copy)]
 pub struct Passed {
     pub monitor: Monitor,
     pub at: usize,

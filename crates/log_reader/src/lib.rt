@@ -7,14 +7,14 @@ ghost use Rattle.log_reader.specs.Reader.{HandsOut, offset_or};
 use model::{Message, Moment, RawRecord, Record, Stamp};
 
 // Why no record is handed out.
-#[derive(Drop)]
+#[derive(Clone, Copy)]
 pub enum RecordRefusal {
     CutShort,
     UnknownByte,
 }
 
 // What reading at an offset finds: the end, a refusal, or a record or raw record and the offset just after it.
-#[derive(Drop)]
+#[derive(Clone, Copy)]
 pub enum Next {
     End,
     Refused(RecordRefusal),

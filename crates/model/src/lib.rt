@@ -1,4 +1,6 @@
 // The vocabulary: times, messages, terms, regions, charts, records, monitors, answers and verdicts, as values.
+#![tactic(auto)]
+
 ghost use Rattle.std.specs.Prelude.{◌≡◌, [], ◌∷◌, ℕ, ◌-◌, ◌<◌, ◌≤◌, length};
 ghost use Rattle.bitset.specs.Set.{contains};
 ghost use Rattle.wire.specs.Writing.{starting_with};
@@ -24,15 +26,15 @@ pub const MOST_RECORDS: u32 = 1_000_000;
 pub const CLOCK_PLACES: usize = MOST_CLOCKS as usize;
 
 // A moment (C15): the ticks since the log began.
-#[derive(Drop)]
+#[derive(Clone, Copy)]
 pub struct Moment(pub u32);
 
 // A length (C15): the ticks between two moments.
-#[derive(Drop)]
+#[derive(Clone, Copy)]
 pub struct Length(pub u32);
 
 // A raw stamp (L8): what a counter of 32 bits showed, which begins again at 0. It is neither a moment nor a length.
-#[derive(Drop)]
+#[derive(Clone, Copy)]
 pub struct Stamp(pub u32);
 
 impl Moment {
@@ -45,7 +47,7 @@ impl Moment {
     }
 }
 
-#[derive(Drop)]
+#[derive(Clone, Copy)]
 pub struct Message {
     pub source: u8,
     pub destination: u8,
@@ -53,13 +55,13 @@ pub struct Message {
 }
 
 // What a region waits for: a message, or, for a plain region, nothing; a plain region names its lines as a set.
-#[derive(Drop)]
+#[derive(Clone, Copy)]
 pub enum Event {
     Message(Message),
     Plain(u16),
 }
 
-#[derive(Drop)]
+#[derive(Clone, Copy)]
 pub enum Relation {
     Less,
     AtMost,
@@ -69,14 +71,14 @@ pub enum Relation {
 }
 
 // The left side of a term: a clock, or the first clock minus the second.
-#[derive(Drop)]
+#[derive(Clone, Copy)]
 pub enum Left {
     Clock(u8),
     Difference(u8, u8),
 }
 
 // A term `left relation n`; n is the 32 bits of a signed number.
-#[derive(Drop)]
+#[derive(Clone, Copy)]
 pub struct Term {
     pub left: Left,
     pub relation: Relation,
@@ -84,7 +86,7 @@ pub struct Term {
 }
 
 // A region; `rest` is the mark of a place to rest (C20), `hot` its condition's temperature, `resets` a set of clocks.
-#[derive(Drop)]
+#[derive(Clone, Copy)]
 pub struct Region {
     pub event: Event,
     pub rest: bool,
@@ -95,7 +97,7 @@ pub struct Region {
 }
 
 // A chart: its regions in file order, of which the first `prechart` are the prechart's.
-#[derive(Drop)]
+#[derive(Clone, Copy)]
 pub struct Chart {
     pub lines: u8,
     pub clocks: u8,
@@ -178,7 +180,7 @@ pub fn touched(e: Event) -> u16
 }
 
 // A record of the log: a message, or time alone.
-#[derive(Drop)]
+#[derive(Clone, Copy)]
 pub enum Record {
     Message(Message, Moment),
     Time(Moment),
@@ -194,7 +196,7 @@ pub fn time_of(e: Record) -> Moment
 }
 
 // A record of a log with raw stamps (L7), which has no moment of its own.
-#[derive(Drop)]
+#[derive(Clone, Copy)]
 pub enum RawRecord {
     Message(Message, Stamp),
     Time(Stamp),
@@ -220,14 +222,14 @@ pub fn at_moment(e: RawRecord, t: Moment) -> Record
 }
 
 // Where a round stands: the fired regions as a set, and each clock's reset moment.
-#[derive(Drop)]
+#[derive(Clone, Copy)]
 pub struct Place {
     pub fired: u32,
     pub resets: [Moment; CLOCK_PLACES],
 }
 
 // Which condition decided: its region and the first of its terms that fails, both counted from 1; zeros where none did.
-#[derive(Drop)]
+#[derive(Clone, Copy)]
 pub struct Cause {
     pub region: u8,
     pub term: u8,
@@ -253,7 +255,7 @@ pub fn cause_of(i: usize, term: u8) -> Cause
 
 // Where and why a log is broken: the record's number, the reason and, for a condition, the cause; all zero if there is
 // no break.
-#[derive(Drop)]
+#[derive(Clone, Copy)]
 pub struct Break {
     pub at: u32,
     pub reason: u8,
@@ -272,7 +274,7 @@ pub fn no_break() -> Break
 }
 
 // Now, which is the time of the last record; how many records, kept and dropped rounds there were; the break.
-#[derive(Drop)]
+#[derive(Clone, Copy)]
 pub struct Tally {
     pub now: Moment,
     pub records: u32,
@@ -282,7 +284,7 @@ pub struct Tally {
 }
 
 // What a monitor holds.
-#[derive(Drop)]
+#[derive(Clone, Copy)]
 pub struct Monitor {
     pub place: Place,
     pub tally: Tally,
@@ -318,7 +320,7 @@ pub const TIME_FALLS: u8 = 22;
 pub const TOO_MANY_RECORDS: u8 = 23;
 
 // Why a record is refused.
-#[derive(Drop)]
+#[derive(Clone, Copy)]
 pub enum FeedRefusal {
     NotAChart,
     Unfit,
@@ -327,7 +329,7 @@ pub enum FeedRefusal {
 }
 
 // The answer to a record (T27); a break with its record and reason; a break and a drop with their cause.
-#[derive(Drop)]
+#[derive(Clone, Copy)]
 pub enum Answer {
     Refused(FeedRefusal),
     Broken(u32, u8, Cause),
@@ -379,7 +381,7 @@ pub fn answer_cause(a: Answer) -> Cause
 }
 
 // What judging a log finds (J6).
-#[derive(Drop)]
+#[derive(Clone, Copy)]
 pub struct Verdict {
     pub standing: u8,
     pub kept: u32,

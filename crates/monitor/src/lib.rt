@@ -22,13 +22,13 @@ use model::{
 };
 use stepping::{CONDITION_FAILS, NO_READY_REGION, Step};
 
-#[derive(Drop)]
+#[derive(Clone, Copy)]
 pub enum MadeAnswer {
     Fresh,
     NoChart,
 }
 
-#[derive(Drop)]
+#[derive(Clone, Copy)]
 pub struct Made {
     pub answer: MadeAnswer,
     pub monitor: Monitor,

@@ -32,7 +32,7 @@ const LOW_WORD: u64 = 0x1_0000_0000;
 const HIGHEST_BYTE: u64 = 0x100_0000;
 
 // A compiled chart: each region's key, the regions above it, the clocks that it resets, and four words of terms.
-#[derive(Drop)]
+#[derive(Clone, Copy)]
 pub struct Plan {
     pub head: Head,
     pub keys: [u64; MOST_REGIONS],

@@ -11,7 +11,7 @@ ghost use Rattle.preview.specs.Parts.{shown_by};
 use layout::{Head, TERM_PLACES};
 use model::{Chart, FeedRefusal, MOST_RECORDS, MOST_REGIONS, Moment, Monitor, TOO_SHORT, Tally};
 
-#[derive(Drop)]
+#[derive(Clone, Copy)]
 pub enum PreviewAnswer {
     Shown,
     TooShort,

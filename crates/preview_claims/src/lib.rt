@@ -13,7 +13,7 @@ pub fn preview_regions(chart: Chart, m: Monitor, t: Moment, out: &mut [u8]) -> P
 }
 
 // What showing answers, and what feeding then gives.
-#[derive(Drop)]
+#[derive(Clone, Copy)]
 pub struct Pressed {
     pub shown: PreviewAnswer,
     pub fed: Step,

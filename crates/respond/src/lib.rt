@@ -22,7 +22,7 @@ const NO_FRAME: u8 = 41;
 pub const ROOM: usize = 223;
 
 // How many bytes were written, or that the buffer may be too short.
-#[derive(Drop)]
+#[derive(Clone, Copy)]
 pub enum Response {
     Written(usize),
     TooShort,

@@ -8,7 +8,7 @@ ghost use Rattle.resting.specs.Lines.{LinesBelow, OneMore};
 use model::Chart;
 
 // The lines that count, and the cold ones, as sets.
-#[derive(Drop)]
+#[derive(Clone, Copy)]
 pub struct Lines {
     pub counting: u32,
     pub cold: u32,

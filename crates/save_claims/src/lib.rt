@@ -18,7 +18,7 @@ pub fn save_chart(chart: Chart, out: &mut [u8]) -> ChartWritten
 }
 
 // What saving answers, and what is then read from the bytes that were written.
-#[derive(Drop)]
+#[derive(Clone, Copy)]
 pub struct Resaved {
     pub saved: ChartWritten,
     pub read: ChartRead,

@@ -31,7 +31,7 @@ pub const NO_READY_REGION: u8 = 1;
 pub const CONDITION_FAILS: u8 = 2;
 
 // What a feed gives.
-#[derive(Drop)]
+#[derive(Clone, Copy)]
 pub struct Step {
     pub answer: Answer,
     pub next: Monitor,
@@ -222,7 +222,7 @@ fn reopened(clocks: usize, m: Monitor, t: Moment) -> Monitor
 }
 
 // An offer of a record: which regions have its message, and the monitor to which it is offered.
-#[derive(Drop)]
+#[derive(Clone, Copy)]
 pub struct Offer {
     pub sought: Sought,
     pub monitor: Monitor,

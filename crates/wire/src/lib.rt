@@ -1,5 +1,7 @@
 // Bytes and numbers read from a slice and put into a buffer that the caller lends. Numbers have the most significant
 // byte first (N3). A byte past the end reads as 0.
+#![tactic(auto)]
+
 ghost use Rattle.std.specs.Prelude.{◌≡◌, ◌∷◌, [], ◌<◌, ◌≤◌, ◌+◌, ◌%◌, leb, length, get_or};
 ghost use Rattle.wire.specs.Bytes.{word16, word32, word64};
 ghost use Rattle.wire.specs.Writing.{Wrote, writer_buffer, half_bytes, word_bytes, long_bytes};
