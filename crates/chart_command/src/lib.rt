@@ -1,4 +1,6 @@
 // One command of a chart: its byte picks how many operand bytes follow and what they mean.
+#![tactic(auto)]
+
 ghost use Rattle.std.specs.Prelude.{◌≡◌, ◌<◌, length, get_or};
 ghost use Rattle.chart_command.specs.Command.{operands, decode_byte, decode_at};
 

@@ -1,4 +1,6 @@
 // Conditions: terms are decided by one table, of five relations by three signs of a difference.
+#![tactic(auto)]
+
 ghost use Rattle.std.specs.Prelude.{◌≡◌, ◌<◌, pos, ◌-ℤ◌};
 ghost use Rattle.condition.specs.Table.{row_of, column_of, sign_of, table_says, TableRule};
 ghost use Rattle.condition.specs.Rows.{bit, row_bits, row_says, biased, compared, TestsExactly};

@@ -1,4 +1,6 @@
 // One record of a log's bytes, read at an offset.
+#![tactic(auto)]
+
 ghost use Rattle.std.specs.Prelude.{◌≡◌, ◌<◌, length};
 ghost use Rattle.log_reader.specs.Record.{record_refusal_number, parts_at};
 ghost use Rattle.log_reader.specs.Next.{message_next, time_next, next_at};

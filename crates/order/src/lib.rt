@@ -1,4 +1,6 @@
 // Which regions are above each region, as sets of region numbers counted from 0.
+#![tactic(auto)]
+
 ghost use Rattle.std.specs.Prelude.{◌≡◌, ℕ, min, ◌<◌, ◌≤◌, get_or};
 ghost use Rattle.model.specs.Chart.{most_regions, touched_at};
 ghost use Rattle.order.specs.Order.{is_over, with_over, gathered, above_sets, above_of, Decides};

@@ -147,7 +147,7 @@ module _ (C : Chart) where
       done S i h = elim (split (z.cut i)) [
         | inl q ↦ q
         | inr q ↦
-            let m : C.prechart < C.regions = A.Has-main in
+            let m : C.prechart < C.regions = A.has_main in
             let a : C.prechart + left z.cut ≤ C.regions = lacks_few C.prechart (omega arith) P S in
             let b : C.regions < C.prechart + left z.cut
             = counted_from C.regions C.prechart (λ j. not (z.cut j)) (omega arith)

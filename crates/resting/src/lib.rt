@@ -1,4 +1,6 @@
 // J13: whether the main chart may rest where it stands, by the marks of its regions.
+#![tactic(auto)]
+
 ghost use Rattle.std.specs.Prelude.{◌≡◌, true, ◌↔◌, ◌≤◌};
 ghost use Rattle.bitset.specs.Set.{contains};
 ghost use Rattle.model.specs.Chart.{most_lines, most_regions};

@@ -105,7 +105,7 @@ module _ (C : Chart) (A : Accepted C) where
         | inl d ↦ absurd (P.in_prechart_case d)
         | inr (i, L) ↦
             let R : Ready C m.place.fired i = record {
-              region = omega (arith, L.below, A.Has-main);
+              region = omega (arith, L.below, A.has_main);
               unfired = L.fails;
               under = λ a b. L.before a (A.downward a i b);
             } in
@@ -131,7 +131,7 @@ module _ (C : Chart) (A : Accepted C) where
     lacks_some : (r : Row) → Lawful C e.time (ε ▸ e) r → ¬ Full C (stands r)
     unfolding LawfulBy Full
     lacks_some r L D = lacks (holds C e.time (chart_messages C (ε ▸ e))) r L
-        (D K.region (omega (arith, K.in_prechart_case, A.Has-main)))
+        (D K.region (omega (arith, K.in_prechart_case, A.has_main)))
 
     no_main : (r : Row) (i : ℕ) → LawfulButLast C e.time ε e r → So (stands r i) → i < C.prechart
     unfolding LawfulButLastBy

@@ -1,4 +1,6 @@
 // Numbers in decimal, put into a buffer that the caller lends.
+#![tactic(auto)]
+
 ghost use Rattle.std.specs.Prelude.{◌≡◌, List, ℕ, ◌+◌, ◌<◌, ◌≤◌, length};
 ghost use Rattle.wire.specs.Writing.{Wrote};
 ghost use Rattle.text.specs.Text.{Spells, digits_of, decimal_of};

@@ -1,0 +1,23 @@
+use borrow.Author.Tests.{eq-eqb, ne_eqb, lt-ltb, le-ltb}
+use Rattle.log_reader.proofs.message_next.Goals as goal
+
+pub returns-then-bytes-past : goal.returns-then-bytes-past
+returns-then-bytes-past c = rw (lt-ltb _ _ c.if-bytes-past.true)
+
+pub returns-then-tag-eq-MESSAGE_TAG : goal.returns-then-tag-eq-MESSAGE_TAG
+returns-then-tag-eq-MESSAGE_TAG c =
+    rw (
+      le-ltb _ _ c.if-bytes-past.false,
+      eq-eqb _ _ c.if-tag-eq-MESSAGE_TAG.true,
+      c.word32_at-word.ensures.value,
+      c.parts_at-message.ensures,
+    )
+
+pub returns : goal.returns
+returns c =
+    rw (
+      le-ltb _ _ c.if-bytes-past.false,
+      ne_eqb _ _ c.if-tag-eq-MESSAGE_TAG.false,
+      c.word32_at-word.ensures.value,
+      c.parts_at-message.ensures,
+    )

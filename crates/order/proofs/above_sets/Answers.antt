@@ -1,0 +1,22 @@
+-- `order::above_sets` meets its contract: the lines that it gathered are those of the chart's regions. Assumes nothing.
+use Prim.Native.Nat.{ℕ, min}
+use mathlib.Core.Path.{◌∙◌, ap}
+use lib.ListN.{get_or}
+use native.Mathlib.Omega.{arith}
+use Rattle.model.specs.Chart.{most_regions, touched_at}
+use Rattle.order.specs.Order.{above_sets}
+use Rattle.order.proofs.Laws.{sets_decide, same_sets}
+use Rattle.order.proofs.above_sets.Goals as goal
+
+pub returns : goal.returns
+returns c =
+    let chart = c.args.c in let r = sets_decide chart c.sets_of.result
+    (c.sets_of.ensures
+    ∙ ap (λ (n : ℕ). above_sets (λ i. get_or c.lines_of-lines.result i 0) chart.prechart n)
+    c.used.ensures
+    ∙ same_sets (λ i. get_or c.lines_of-lines.result i 0) (touched_at chart)
+    chart.prechart most_regions
+    c.lines_of-lines.ensures (min chart.count most_regions) (omega arith)) in record {
+      sets = r.0;
+      order = r.1;
+    }
