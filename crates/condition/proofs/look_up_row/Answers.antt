@@ -4,7 +4,7 @@ use Rattle.condition.proofs.look_up_row.Goals as goal
 
 pub returns : goal.returns
 returns c = record {
-      value = rw (
+  value = rw (
     c.bit-3.ensures.value,
     c.says-3.ensures.entry,
     c.bit-2.ensures.value,
@@ -12,5 +12,5 @@ returns c = record {
     c.bit.ensures.value,
     c.says.ensures.entry,
   );
-      bound = omega arith;
-    }
+  bound = omega arith;
+}

@@ -1,6 +1,5 @@
 -- `resting::lines_of` meets its contract: before i the sets are those of the regions below i. Assumes nothing.
 use mathlib.Core.Path.{◌≡◌}
-use Prim.Native.Nat.{◌-◌}
 use native.Mathlib.Omega.{arith}
 use Rattle.resting.proofs.Laws.{before_main, next_lines, all_regions}
 use Rattle.resting.proofs.lines_of.Goals as goal
@@ -32,5 +31,5 @@ loop-i-preserved c =
 pub returns : goal.returns
 returns c =
     let l = c.loop-i in
-    let e : l.i ≡ c.args.t1.count = omega (arith, l.invariant.1) in
+    let e : l.i ≡ c.args.c.count = omega (arith, l.invariant.1) in
     all_regions l.invariant.2 e

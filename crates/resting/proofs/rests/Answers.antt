@@ -1,7 +1,6 @@
 -- `resting::rests` meets its contract: each line is asked once. Assumes nothing.
 use mathlib.Core.Path.{◌≡◌}
 use mathlib.Core.Bool.{not, ◌||◌}
-use Prim.Native.Nat.{◌-◌}
 use native.Mathlib.Omega.{arith}
 use Rattle.base.proofs.Loops.{all_start, all_next}
 use Rattle.resting.proofs.Laws.{lines_asked}
