@@ -1,4 +1,6 @@
 // The layout of a compiled chart: its numbers, in a head and in arrays beside it, and the word of a term with its test.
+#![tactic(auto)]
+
 ghost use Rattle.std.specs.Prelude.{◌≡◌};
 ghost use Rattle.layout.specs.View.{tested};
 
