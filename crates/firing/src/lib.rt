@@ -1,4 +1,6 @@
 // The regions of a compiled chart are sought, tested and fired, until no plain region is ready.
+#![tactic(auto)]
+
 ghost use Rattle.std.specs.Prelude.{◌≡◌, ◌&&◌, cond, ℕ, ◌<◌, ◌≤◌, ◌-◌, ◌^◌, eqb, ltb, get_or};
 ghost use Rattle.std.proofs.Math.Bool.{So};
 ghost use Rattle.bitset.specs.Set.{contains};
