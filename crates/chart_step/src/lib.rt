@@ -1,4 +1,6 @@
 // Reading a chart: the state between two commands, and what one command does to it.
+#![tactic(auto)]
+
 ghost use Rattle.std.specs.Prelude.{◌≡◌, false, not, List, ℕ, leb};
 ghost use Rattle.model.specs.Chart.{most_regions, most_terms};
 ghost use Rattle.chart_step.specs.Refusal.{refusal_number};
