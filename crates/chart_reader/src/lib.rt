@@ -1,4 +1,6 @@
 // Reading a whole chart: command after command, at most one for each byte.
+#![tactic(auto)]
+
 ghost use Rattle.std.specs.Prelude.{◌≡◌, List, ℕ, ◌<◌, length, replicate};
 ghost use Rattle.model.specs.Chart.{most_regions, most_terms, zero_term, zero_region};
 ghost use Rattle.chart_step.specs.State.{reading_of, Does};
