@@ -1,4 +1,6 @@
 // The moments of a log's records: a plain record has its own, a raw one gets it from the stamps (L11).
+#![tactic(auto)]
+
 ghost use Rattle.std.specs.Prelude.{◌≡◌, ℕ, ◌-◌, ◌%◌, ◌<◌, ◌≤◌};
 ghost use Rattle.log_clock.specs.Clock.{range, half_range, moment_refusal_number, gap_of};
 ghost use Rattle.log_clock.specs.Clock.{plain_moment, later_moment, raw_moment};
@@ -123,6 +125,7 @@ fn raw_by(e: RawRecord, past: usize, timed: Timed) -> Dated
 }
 
 // The record at an offset with its moment, after records of this kind, the last of them at the moment `last`.
+#[tactic(auto, unfolding(crate::specs::Dated::dated_at))]
 pub fn record_at(log: &[u8], at: usize, kind: Kind, last: Moment) -> Dated
     ensures { result ≡ dated_at log.now at kind last }
 {
