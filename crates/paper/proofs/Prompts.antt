@@ -141,7 +141,7 @@ module _ (C : Chart) where
   chain_rests A opens = A
   chain_rests A (next K M) = M.rests
 
-  chain_word : {x z : Config} {o : ℕ} {l : Snoc LogRecord} → Chain C x o l z → (w : Snoc Letter)
+  chain_word : {x : Config} {o : ℕ} {z : Config} {l : Snoc LogRecord} → Chain C x o l z → (w : Snoc Letter)
       × (strip w ≡ spelled o l) × Prompt C x w z
   chain_word opens = (ε, refl, begins)
   chain_word {o} (next {l} {y} {e} K M) =

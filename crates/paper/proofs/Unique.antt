@@ -35,7 +35,7 @@ module _ (C : Chart) where
   same_tail {w} {v} {z} {y} q =
       subst (λ (k : Snoc Letter). Tail w z k y) q.0 (subst (λ (k : Config). Tail w z w k) q.1 same)
 
-  tail_rests : {w v : Snoc Letter} {z y : Config} → AtRest C z.cut → Tail w z v y → Equal w z v y
+  tail_rests : {w : Snoc Letter} {z : Config} {v : Snoc Letter} {y : Config} → AtRest C z.cut → Tail w z v y → Equal w z v y
   unfolding AtRest
   tail_rests r same = (refl, refl)
   tail_rests r (more {v} {y} T s N) =
@@ -43,7 +43,7 @@ module _ (C : Chart) where
       absurd (r s N.is_plain (subst (λ (k : Config). Ready C k.cut s) (sym q.1) N.follows))
 
   -- the first of the silent steps is that of the next region
-  tail_first : {w v : Snoc Letter} {z y : Config} (s : ℕ) → Next C z.cut s → Tail w z v y
+  tail_first : {w : Snoc Letter} {z : Config} {v : Snoc Letter} {y : Config} (s : ℕ) → Next C z.cut s → Tail w z v y
       → Equal w z v y ⊎ Tail (w ▸ silent) (successor C z s) v y
   tail_first s N same = inl (refl, refl)
   tail_first {w} {z} s N (more {v} {y} T t M) = elim (tail_first s N T) [
@@ -56,7 +56,7 @@ module _ (C : Chart) where
     | inr T' ↦ inr (more T' t M)
   ]
 
-  tail_through : {w v v' : Snoc Letter} {z y y' : Config} → Tail w z v y → Tail w z v' y' → AtRest C y'.cut
+  tail_through : {w v' : Snoc Letter} {z y' : Config} {v : Snoc Letter} {y : Config} → Tail w z v y → Tail w z v' y' → AtRest C y'.cut
       → Tail v y v' y'
   unfolding AtRest
   tail_through same T' r = T'
@@ -65,7 +65,7 @@ module _ (C : Chart) where
     | inr U ↦ U
   ]
 
-  tail_grows : {w v : Snoc Letter} {z y : Config} (i : ℕ) → Tail w z v y → So (z.cut i) → So (y.cut i)
+  tail_grows : {w : Snoc Letter} {z : Config} {v : Snoc Letter} {y : Config} (i : ℕ) → Tail w z v y → So (z.cut i) → So (y.cut i)
   unfolding add
   tail_grows i same h = h
   tail_grows i (more T s N) h = or_right (eqb i s) (tail_grows i T h)

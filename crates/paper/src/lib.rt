@@ -1,4 +1,6 @@
 // The second demand, over an abstract chart. Its one function carries the theorem in its contract.
+#![tactic(auto)]
+
 ghost use Rattle.rounds.specs.Chart.{Chart, Accepted};
 ghost use Rattle.paper.specs.Demand2.{Demand2};
 
