@@ -1,4 +1,6 @@
 // What the printing program prints: the verdict's two lines, or a refusal's one.
+#![tactic(auto)]
+
 ghost use Rattle.std.specs.Prelude.{◌≡◌, ◌+◌, ◌≤◌, length};
 ghost use Rattle.wire.specs.Writing.{Wrote, starting_with};
 ghost use Rattle.listing.specs.Listing.{listing_of, room, verdict_lines, refusal_line};
