@@ -1,4 +1,6 @@
 // One record taken by a fit monitor. The chart is compiled: its head, and four arrays that are lent beside it.
+#![tactic(auto)]
+
 ghost use Rattle.std.specs.Prelude.{◌≡◌, ◌≢◌, ◌&&◌, not, cond, List, ℕ, ◌<◌, ◌≤◌, ◌+◌, ◌*◌};
 ghost use Rattle.std.proofs.Math.Bool.{So};
 ghost use Rattle.std.proofs.Math.Option.{none};
