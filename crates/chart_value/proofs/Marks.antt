@@ -1,7 +1,6 @@
 -- The abstract chart does not show the marks, and a chart without them is still a chart. Assumes nothing.
 use mathlib.Core.Path.{◌≡◌, refl, sym, ap, fun_ext, ◌∙◌}
 use mathlib.Core.Bool.{Bool, true, false, cond, not, ◌&&◌, ◌||◌}
-use mathlib.Core.List.{List}
 use Prim.Native.Nat.{ℕ, zero, suc, ◌<◌, min}
 use lib.Dec.{eqb, leb, ltb}
 use lib.ListN.{length, get_or, length-map, get_or-map}

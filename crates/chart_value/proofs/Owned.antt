@@ -1,9 +1,9 @@
 -- What owning a chart says: the lengths of its arrays. Assumes nothing.
-use mathlib.Core.Path.{◌≡◌, sym, ◌∙◌}
+use mathlib.Core.Path.{◌≡◌}
 use mathlib.Core.List.{List, [], ◌∷◌}
 use Prim.Native.Nat.{ℕ, ◌<◌}
 use native.Mathlib.Omega.{arith}
-use lib.ListN.{length, length-map}
+use lib.ListN.{length}
 use mir.Val.{Val}
 use denote.Laws.{Is}
 use denote.Struct.Declared.{row}
@@ -38,23 +38,23 @@ owned_event (Plain l) vs p = p.1.1.1.1.0.1
 pub owned_region : (g : Region) (vs : List Val) → Is (row region.the_type) g vs → Ranges g
 owned_region g vs p =
     let ts = p.1.1.1.1.0 in
-    let size : length g.terms ≡ 4 = sym (length-map g.terms _) ∙ ts.1.0.1 in
+    let size : length g.terms ≡ 4 = ts.1.0.1 in
     record {
       size = size;
       label = owned_event g.event p.0.0 p.1.1.0;
       numbers =
-          λ j h. (each_at _ Term (term.the_type).to _ g.terms ts.0 j zero_term ts.1.1
+          λ j h. (each_at Term (term.the_row).own_val g.terms ts.0 j zero_term ts.1.1
           (omega arith)).1.1.1.1.1.0.1;
     }
 
 pub owned_size : (c : Chart) (vs : List Val) → Is (row chart.the_type) c vs → length c.regions ≡ 32
-owned_size c vs p = sym (length-map c.regions _) ∙ p.1.1.1.1.1.1.0.1.0.1
+owned_size c vs p = p.1.1.1.1.1.1.0.1.0.1
 
 pub owned_at : (c : Chart) (vs : List Val) → Is (row chart.the_type) c vs → (i : ℕ) → i < 32 → Ranges (region_at c i)
 owned_at c vs p i h =
     let q = p.1.1.1.1.1.1.0 in
     let size = owned_size c vs p in
-    let e = each_at _ Region (region.the_type).to _ c.regions q.0 i absent_region q.1.1
+    let e = each_at Region (region.the_row).own_val c.regions q.0 i absent_region q.1.1
     (omega (arith, size)) in
     owned_region (region_at c i) (e.0 ∷ []) e.1
 

@@ -25,7 +25,6 @@ use Rattle.model.specs.declared.Relation.{Relation}
 use Rattle.model.specs.declared.Relation.TheVariants.{Less, AtMost, Equal, AtLeast, More}
 use Rattle.model.specs.Chart.{zero_term, zero_region, absent_region, region_at, term_at, touched}
 use Rattle.chart_command.specs.Bytes.{hot_byte, rest_byte, resets_byte, main_byte, end_byte}
-use Rattle.chart_command.specs.declared.Command.TheVariants.{Message, Plain}
 use Rattle.chart_step.specs.declared.Fault.TheVariants.{Nothing}
 use Rattle.chart_step.specs.declared.Refusal.TheVariants.{Bare, HotAlone}
 use Rattle.chart_step.specs.Reading.{Reading}

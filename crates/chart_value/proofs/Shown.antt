@@ -15,7 +15,6 @@ use Rattle.bitset.proofs.Laws.{member_lt, contains_empty}
 use Rattle.model.specs.declared.Chart.{Chart}
 use Rattle.model.specs.declared.Region.{Region}
 use Rattle.model.specs.declared.Event.{Event}
-use Rattle.model.specs.declared.Message.{Message}
 use Rattle.model.specs.declared.Event.TheVariants as event
 use Rattle.model.specs.Chart.{zero_region, region_at, term_at, touched_at}
 use Rattle.order.specs.Above.{AboveIn, halves, first}

@@ -1,4 +1,6 @@
 // M4: whether a chart value is what some accepted bytes are read as, or is refused with 20.
+#![tactic(auto)]
+
 ghost use Rattle.std.specs.Prelude.{◌≡◌, true, ◌↔◌};
 ghost use Rattle.base.specs.Lists.{all_below};
 ghost use Rattle.model.specs.Chart.{most_terms, term_at};

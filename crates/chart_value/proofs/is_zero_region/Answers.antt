@@ -3,14 +3,12 @@ use mathlib.Core.Path.{◌≡◌, refl, ap}
 use mathlib.Core.Bool.{Bool, true, false, not, ◌&&◌}
 use Prim.Native.Nat.{ℕ}
 use lib.Dec.{eqb}
-use borrow.Author.Rules.{rules}
 use borrow.Author.Tests.{eqb-true}
 use Rattle.base.specs.Lists.{all_below}
 use Rattle.model.specs.declared.Region.{Region}
 use Rattle.model.specs.Chart.{most_terms, term_at}
 use Rattle.chart_value.specs.WellFormed.{is_zero_term, term_placed, terms_fit, is_zero_region}
-use Rattle.chart_value.proofs.is_zero_region.Statement.{statement}
-use Rattle.chart_value.proofs.is_zero_region.Tie as tie
+use Rattle.chart_value.proofs.is_zero_region.Goals as goal
 
 -- where no term is used, the terms fit exactly if all are zeros
 none_used : (g : Region) → g.count ≡ 0 → all_below most_terms (λ j. is_zero_term (term_at g j)) ≡ terms_fit 0 g
@@ -26,21 +24,12 @@ where_zero n p q r x y f = by (eqb n 0) refl
     by true e = ap (λ (z : Bool). p && (q && (r && z))) (f (eqb-true n 0 e))
     by false e = refl
 
-is-zero-event-requires : tie.Need-is-zero-event-requires
-is-zero-event-requires c κs = search rules
-
-terms-zero-requires : tie.Need-terms-zero-requires
-terms-zero-requires c κs = search rules
-
-returns : tie.Need-returns
+pub returns : goal.returns
 unfolding is_zero_region
 returns c =
-    let g = c.before.before.before.before.before.before.args.g in
+    let g = c.args.g in
     rw (
-      c.before.before.before.before.before.is-zero-event.ensures,
-      c.before.before.before.before.terms-zero.ensures,
+      c.is_zero_event-event.ensures,
+      c.terms_zero-terms.ensures,
       where_zero g.count (not g.hot) (eqb g.resets 0) (not g.rest) _ _ (none_used g),
     )
-
-pub is-zero-region-spec : {M : Type 1} → statement M
-is-zero-region-spec = tie.close (tie.spec is-zero-event-requires terms-zero-requires returns)
