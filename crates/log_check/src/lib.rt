@@ -1,5 +1,7 @@
 // J2, J3: the check of a log. A record that has no fault is met from its bytes; at anything else the check ends, and
 // looks there once more for the fault.
+#![tactic(auto)]
+
 ghost use Rattle.std.specs.Prelude.{◌≡◌, ◌+◌, ◌%◌, ◌<◌, length};
 ghost use Rattle.log_reader.specs.Next.{next_at};
 ghost use Rattle.log_clock.specs.Clock.{range};
@@ -78,6 +80,7 @@ fn step_by(at: usize, last: Moment, records: u32, d: Dated) -> CheckStep
 }
 
 // Where the check ends: with the log, or with the fault of the record there.
+#[tactic(auto, unfolding(crate::specs::Check::step_at))]
 pub fn ended_at(log: &[u8], at: usize, kind: Kind, last: Moment, records: u32) -> Checked
     ensures { result ≡ ended_by records (step_at log.now at kind last records) }
 {
