@@ -125,7 +125,7 @@ fn offset_after(offset: usize, next: Next) -> usize
 }
 
 // A log's bytes where they lie, and an offset in them.
-#[derive(Drop)]
+#[derive(Clone, Copy)]
 pub struct LogReader<'a> {
     pub log: &'a [u8],
     pub offset: usize,
