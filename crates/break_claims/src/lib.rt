@@ -9,7 +9,7 @@ use model::Chart;
 // Only yes or no: every chart value and byte string.
 pub fn breaks_log(chart: Chart, log: &[u8]) -> BreakAnswer
     ensures demand { Just (BreaksAs chart log.now) result }
-    ensures unchanged { log.now ≡ log.now }
+    ensures unchanged { log.exit.now ≡ log.entry.now }
 {
     breaks::breaks(chart, log)
 }

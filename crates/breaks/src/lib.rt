@@ -17,7 +17,7 @@ pub enum BreakAnswer {
 // fault, or the log is over.
 pub fn breaks(chart: Chart, log: &[u8]) -> BreakAnswer
     ensures answer { result ≡ breaks_of chart log.now }
-    ensures unchanged { log.now ≡ log.now }
+    ensures unchanged { log.exit.now ≡ log.entry.now }
 {
     if !chart_value::well_formed(chart) {
         return BreakAnswer::NoChart;

@@ -98,7 +98,7 @@ fn decode_byte(s: &[u8], at: usize) -> Decoded
 // The command at an offset.
 pub fn decode(s: &[u8], at: usize) -> Decoded
     ensures command { result ≡ decode_at s.now at }
-    ensures unchanged { s.now ≡ s.now }
+    ensures unchanged { s.exit.now ≡ s.entry.now }
 {
     if s.len() <= at {
         return Decoded::CutShort;

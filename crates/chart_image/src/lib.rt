@@ -151,7 +151,7 @@ fn regions_at(s: &[u8]) -> [Region; MOST_REGIONS]
 // The chart value in an image; zeros where the bytes are no image.
 pub fn chart_at(s: &[u8]) -> Chart
     ensures value { result ≡ chart_value_of s.now }
-    ensures unchanged { s.now ≡ s.now }
+    ensures unchanged { s.exit.now ≡ s.entry.now }
 {
     if !is_image(s) {
         return model::zero_chart();

@@ -99,7 +99,7 @@ pub fn read(bytes: &[u8]) -> ChartRead
     ensures answer { said result ≡ read_chart bytes.now }
     ensures count { (n : ℕ) → length bytes.now < n
         → said result ≡ read_from n bytes.now 0 start_reading }
-    ensures unchanged { bytes.now ≡ bytes.now }
+    ensures unchanged { bytes.exit.now ≡ bytes.entry.now }
 {
     let zero = model::zero_region();
     let mut terms = zero.terms;

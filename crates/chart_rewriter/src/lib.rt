@@ -13,7 +13,7 @@ pub fn rewrite(chart: &[u8], out: &mut [u8], at: &mut u64) -> u8
     ensures at { at.new ≡ write_at (read_chart chart.now) out.old }
     ensures bytes { out.new ≡ write_out (read_chart chart.now) out.old }
     ensures again { ReadsAgain chart.now result at.new out.new }
-    ensures unchanged { chart.now ≡ chart.now }
+    ensures unchanged { chart.exit.now ≡ chart.entry.now }
 {
     let read = chart_reader::read(chart);
     let answer = read.answer;

@@ -19,7 +19,7 @@ use model::{Chart, Moment, Monitor};
 // Reading a chart: every byte string.
 pub fn read_chart(bytes: &[u8]) -> ChartRead
     ensures demand { Just (ReadsAs bytes.now) (readSaid result) }
-    ensures unchanged { bytes.now ≡ bytes.now }
+    ensures unchanged { bytes.exit.now ≡ bytes.entry.now }
 {
     chart_reader::read(bytes)
 }
@@ -27,7 +27,7 @@ pub fn read_chart(bytes: &[u8]) -> ChartRead
 // Judging a whole log: every chart value and byte string.
 pub fn judge_log(chart: Chart, log: &[u8]) -> Judgement
     ensures demand { Just (JudgesAs chart log.now) (judgeSaid result) }
-    ensures unchanged { log.now ≡ log.now }
+    ensures unchanged { log.exit.now ≡ log.entry.now }
 {
     judge::judge(chart, log)
 }
@@ -77,7 +77,7 @@ fn feed_all(chart: Chart, log: &[u8], fresh: Monitor) -> Monitor
 // Reads a chart, makes its monitor and feeds it the records of a log.
 pub fn watch(chart: &[u8], log: &[u8]) -> Watched
     ensures watches { Watches chart.now log.now result }
-    ensures unchanged { (chart.now ≡ chart.now) × (log.now ≡ log.now) }
+    ensures unchanged { (chart.exit.now ≡ chart.entry.now) × (log.exit.now ≡ log.entry.now) }
 {
     let read = chart_reader::read(chart);
     let c = read.chart;

@@ -184,7 +184,7 @@ fn stopped(number: u8, kind: Kind) -> LogFed
 pub fn feed_log(live: &mut [u8], kind: Kind, log: &[u8]) -> LogFed
     ensures fed { FedLog live.old kind log.now result live.new }
     ensures only { FeedsTell }
-    ensures unchanged { log.now ≡ log.now }
+    ensures unchanged { log.exit.now ≡ log.entry.now }
 {
     let chart = live::chart_in(live);
     if chart.count == 0 {

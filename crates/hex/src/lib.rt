@@ -32,7 +32,7 @@ pub fn find(text: &[u8], from: usize, to: usize, byte: u8) -> usize
     requires { (from ≤ to) × (to ≤ length text.now) }
     ensures offset { result ≡ first_of text.now from to byte }
     ensures between { (from ≤ result) × (result ≤ to) }
-    ensures unchanged { text.now ≡ text.now }
+    ensures unchanged { text.exit.now ≡ text.entry.now }
 {
     let mut i = from;
     while i < to {
@@ -74,7 +74,7 @@ pub fn put_bytes(digits: &[u8], out: &mut [u8]) -> usize
     ensures bytes { out.new ≡ (filled_by (filled_with out.old 0) digits.now).bytes }
     ensures count { result ≡ (filled_by (filled_with out.old 0) digits.now).digits / 2 }
     ensures within { IsPrefixLen result out.new }
-    ensures unchanged { digits.now ≡ digits.now }
+    ensures unchanged { digits.exit.now ≡ digits.entry.now }
 {
     let mut n: usize = 0;
     let mut i: usize = 0;

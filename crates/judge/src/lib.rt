@@ -31,7 +31,7 @@ fn refused(answer: JudgeAnswer) -> Judgement
 // log is still checked.
 pub fn judge(chart: Chart, log: &[u8]) -> Judgement
     ensures verdict { said result ≡ judge_of chart log.now }
-    ensures unchanged { log.now ≡ log.now }
+    ensures unchanged { log.exit.now ≡ log.entry.now }
 {
     if !chart_value::well_formed(chart) {
         return refused(JudgeAnswer::NoChart);

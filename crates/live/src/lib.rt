@@ -62,7 +62,7 @@ pub fn open(chart: &[u8], live: &mut [u8]) -> Opened
     ensures bytes { live.new ≡ bytes_opened chart.now live.old }
     ensures holds { result.number ≡ 0 → Holds chart.now live.new }
     ensures history { result.number ≡ 0 → LiveHistory chart.now ε ε live.new }
-    ensures unchanged { chart.now ≡ chart.now }
+    ensures unchanged { chart.exit.now ≡ chart.entry.now }
 {
     let read = chart_reader::read(chart);
     let answer = read.answer;
@@ -182,7 +182,7 @@ fn standing_of(chart: Chart, m: Monitor) -> LiveVerdict
 // The standing of the monitor in the bytes.
 pub fn standing(live: &[u8]) -> LiveVerdict
     ensures value { result ≡ standing_in live.now }
-    ensures unchanged { live.now ≡ live.now }
+    ensures unchanged { live.exit.now ≡ live.entry.now }
 {
     let chart = chart_in(live);
     if chart.count == 0 {

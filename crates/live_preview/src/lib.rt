@@ -29,7 +29,7 @@ pub fn preview(live: &[u8], time: u32, out: &mut [u8], regions: &mut u64) -> u8
         ≡ regions_told (chart_in live.now).count
         (preview_in live.now time (length out.old)) }
     ensures fed { Foretells live.now time result out.new }
-    ensures unchanged { live.now ≡ live.now }
+    ensures unchanged { live.exit.now ≡ live.entry.now }
 {
     let chart = live::chart_in(live);
     let m = monitor_image::monitor_at(live);

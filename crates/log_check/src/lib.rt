@@ -250,7 +250,7 @@ fn check_from(log: &[u8], pace: Pace, from: usize, time: Moment, count: u32) -> 
 pub fn check_rest(log: &[u8], at: usize, last: Moment, records: u32) -> Checked
     ensures rest { result ≡ check_from (length log.now + 1) log.now at
         (kind_in (pace_of (next_at log.now 0)) last) last records }
-    ensures unchanged { log.now ≡ log.now }
+    ensures unchanged { log.exit.now ≡ log.entry.now }
 {
     check_from(
         log,
@@ -264,7 +264,7 @@ pub fn check_rest(log: &[u8], at: usize, last: Moment, records: u32) -> Checked
 // J2: the check of the whole log.
 pub fn check_log(log: &[u8]) -> Checked
     ensures check { result ≡ check_log log.now }
-    ensures unchanged { log.now ≡ log.now }
+    ensures unchanged { log.exit.now ≡ log.entry.now }
 {
     check_rest(log, 0, Moment(0), 0)
 }

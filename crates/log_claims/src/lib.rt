@@ -10,7 +10,7 @@ use log_reader::Next;
 // Reading one record: every byte string and offset.
 pub fn read_record(log: &[u8], offset: usize) -> Next
     ensures demand { Just (FindsAs log.now offset) (recordSaid offset result) }
-    ensures unchanged { log.now ≡ log.now }
+    ensures unchanged { log.exit.now ≡ log.entry.now }
 {
     log_reader::read_record(log, offset)
 }

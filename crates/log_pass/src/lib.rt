@@ -26,7 +26,7 @@ pub fn pass(c: Chart, log: &[u8]) -> Passed
     requires { well_formed c ≡ true }
     ensures end { monitor_at result.monitor ≡ after (chart_of c) (logged (sound_records log.now)) }
     ensures rest { rest_of log.now result ≡ check_log log.now }
-    ensures unchanged { log.now ≡ log.now }
+    ensures unchanged { log.exit.now ≡ log.entry.now }
 {
     let p = plan::compile(c);
     let h = p.head;

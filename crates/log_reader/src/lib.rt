@@ -97,7 +97,7 @@ fn time_next(bytes: &[u8], offset: usize, tag: u8) -> Next
 
 // E2 to E4: the record at an offset; the bytes stay as they are.
 pub fn read_record(bytes: &[u8], offset: usize) -> Next
-    ensures { (result ≡ next_at bytes.now offset) × (bytes.now ≡ bytes.now) }
+    ensures { (result ≡ next_at bytes.now offset) × (bytes.exit.now ≡ bytes.entry.now) }
 {
     if bytes.len() <= offset {
         return Next::End;

@@ -57,7 +57,7 @@ pub extern "C" fn lsc_judge(chart: &[u8], log: &[u8], out: &mut [u64]) -> u8
     ensures listed { is_judged_number result ≡ true }
     ensures numbers { out.new ≡ judged_out (parts_report chart.now log.now)
         out.old }
-    ensures unchanged { (chart.now ≡ chart.now) × (log.now ≡ log.now) }
+    ensures unchanged { (chart.exit.now ≡ chart.entry.now) × (log.exit.now ≡ log.entry.now) }
 {
     if out.len() < PLACES {
         return TOO_SHORT;
@@ -72,7 +72,7 @@ pub extern "C" fn lsc_print(input: &[u8], out: &mut [u8], written: &mut u64) -> 
     ensures count { written.new
         ≡ count_of (response_of (length out.old) (text_of input.now)) }
     ensures buffer { out.new ≡ buffer_after out.old (text_of input.now) }
-    ensures unchanged { input.now ≡ input.now }
+    ensures unchanged { input.exit.now ≡ input.entry.now }
 {
     let response = respond::respond(input, out);
     match response {

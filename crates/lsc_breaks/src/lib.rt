@@ -65,7 +65,7 @@ fn put_answer(out: &mut [u64], answer: BreakAnswer) -> u8
 pub extern "C" fn lsc_breaks(chart: &[u8], log: &[u8], out: &mut [u64]) -> u8
     ensures number { result ≡ breaks_number chart.now log.now out.old }
     ensures numbers { out.new ≡ breaks_out chart.now log.now out.old }
-    ensures unchanged { (chart.now ≡ chart.now) × (log.now ≡ log.now) }
+    ensures unchanged { (chart.exit.now ≡ chart.entry.now) × (log.exit.now ≡ log.entry.now) }
 {
     if out.len() < BREAKS_PLACES {
         return TOO_SHORT;

@@ -22,7 +22,7 @@ pub extern "C" fn lsc_open(chart: &[u8], live: &mut [u8], at: &mut u64) -> u8
     ensures at { at.new ≡ (opened_of chart.now (length live.old)).at }
     ensures bytes { live.new ≡ bytes_opened chart.now live.old }
     ensures holds { result ≡ 0 → Holds chart.now live.new }
-    ensures unchanged { chart.now ≡ chart.now }
+    ensures unchanged { chart.exit.now ≡ chart.entry.now }
 {
     let opened = live::open(chart, live);
     *at = opened.at;
@@ -95,7 +95,7 @@ pub extern "C" fn lsc_feed_time(live: &mut [u8], time: u32) -> u8
 pub extern "C" fn lsc_standing(live: &[u8], out: &mut [u64]) -> u8
     ensures number { result ≡ standing_number (standing_in live.now) out.old }
     ensures numbers { out.new ≡ standing_out (standing_in live.now) out.old }
-    ensures unchanged { live.now ≡ live.now }
+    ensures unchanged { live.exit.now ≡ live.entry.now }
 {
     let standing = live::standing(live);
     let number = standing.number;

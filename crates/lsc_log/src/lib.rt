@@ -140,7 +140,7 @@ pub extern "C" fn lsc_feed_log(live: &mut [u8], kind: &mut [u8], log: &[u8], out
     ensures fed { CallsLog live.old kind.old log.now out.old result
         live.new kind.new out.new }
     ensures only { CallsTell }
-    ensures unchanged { log.now ≡ log.now }
+    ensures unchanged { log.exit.now ≡ log.entry.now }
 {
     if (kind.len() < KIND_SIZE) | (out.len() < LOG_PLACES) {
         return TOO_SHORT;

@@ -16,7 +16,7 @@ ghost use Rattle.chart_rewriter.specs.Write.{write_number, write_at, write_out, 
 pub extern "C" fn lsc_read_record(log: &[u8], place: usize, out: &mut [u64]) -> u8
     ensures number { result ≡ read_number (next_at log.now place) out.old }
     ensures numbers { out.new ≡ read_out place (next_at log.now place) out.old }
-    ensures unchanged { log.now ≡ log.now }
+    ensures unchanged { log.exit.now ≡ log.entry.now }
 {
     record_numbers::read(log, place, out)
 }
@@ -32,7 +32,7 @@ pub extern "C" fn lsc_preview(live: &[u8], time: u32, out: &mut [u8], regions: &
         ≡ regions_told (chart_in live.now).count
         (preview_in live.now time (length out.old)) }
     ensures fed { Foretells live.now time result out.new }
-    ensures unchanged { live.now ≡ live.now }
+    ensures unchanged { live.exit.now ≡ live.entry.now }
 {
     live_preview::preview(live, time, out, regions)
 }
@@ -45,7 +45,7 @@ pub extern "C" fn lsc_write(chart: &[u8], out: &mut [u8], at: &mut u64) -> u8
     ensures at { at.new ≡ write_at (read_chart chart.now) out.old }
     ensures bytes { out.new ≡ write_out (read_chart chart.now) out.old }
     ensures again { ReadsAgain chart.now result at.new out.new }
-    ensures unchanged { chart.now ≡ chart.now }
+    ensures unchanged { chart.exit.now ≡ chart.entry.now }
 {
     chart_rewriter::rewrite(chart, out, at)
 }

@@ -43,7 +43,7 @@ fn asked_code(a: BreakAnswer) -> u8
 // One record fed to a monitor by its image, for the chart value in a chart's image.
 fn feed_image(chart: &[u8], bytes: &mut [u8], e: Record) -> u8
     ensures fed { FedImage chart.now bytes.old e result bytes.new }
-    ensures unchanged { chart.now ≡ chart.now }
+    ensures unchanged { chart.exit.now ≡ chart.entry.now }
 {
     if bytes.len() < monitor_image::MONITOR_SIZE {
         return TOO_SHORT;
@@ -56,7 +56,7 @@ fn feed_image(chart: &[u8], bytes: &mut [u8], e: Record) -> u8
 pub extern "C" fn lsc_test_new(chart: &[u8], monitor: &mut [u8]) -> u8
     ensures number { result ≡ new_number chart.now monitor.old }
     ensures bytes { monitor.new ≡ new_bytes monitor.old }
-    ensures unchanged { chart.now ≡ chart.now }
+    ensures unchanged { chart.exit.now ≡ chart.entry.now }
 {
     if monitor.len() < monitor_image::MONITOR_SIZE {
         return TOO_SHORT;
@@ -81,7 +81,7 @@ pub extern "C" fn lsc_test_feed_message(
     ensures fed { FedImage chart.now monitor.old
         (MessageAt (record { source = source; destination = destination; label = label }) (record { 0 = time }))
         result monitor.new }
-    ensures unchanged { chart.now ≡ chart.now }
+    ensures unchanged { chart.exit.now ≡ chart.entry.now }
 {
     let message = Message {
         source,
@@ -96,7 +96,7 @@ pub extern "C" fn lsc_test_feed_message(
 pub extern "C" fn lsc_test_feed_time(chart: &[u8], monitor: &mut [u8], time: u32) -> u8
     ensures fed { FedImage chart.now monitor.old (TimeAt (record { 0 = time }))
         result monitor.new }
-    ensures unchanged { chart.now ≡ chart.now }
+    ensures unchanged { chart.exit.now ≡ chart.entry.now }
 {
     feed_image(chart, monitor, Record::Time(Moment(time)))
 }
@@ -105,7 +105,7 @@ pub extern "C" fn lsc_test_feed_time(chart: &[u8], monitor: &mut [u8], time: u32
 #[unsafe(no_mangle)]
 pub extern "C" fn lsc_test_check(log: &[u8]) -> u32
     ensures count { result ≡ checked_count (check_log log.now) }
-    ensures unchanged { log.now ≡ log.now }
+    ensures unchanged { log.exit.now ≡ log.entry.now }
 {
     let checked = log_check::check_log(log);
     match checked {
@@ -118,7 +118,7 @@ pub extern "C" fn lsc_test_check(log: &[u8]) -> u32
 #[unsafe(no_mangle)]
 pub extern "C" fn lsc_test_breaks(chart: &[u8], log: &[u8]) -> u8
     ensures number { result ≡ asked_code (breaks_of (chart_value_of chart.now) log.now) }
-    ensures unchanged { (chart.now ≡ chart.now) × (log.now ≡ log.now) }
+    ensures unchanged { (chart.exit.now ≡ chart.entry.now) × (log.exit.now ≡ log.entry.now) }
 {
     asked_code(breaks::breaks(chart_image::chart_at(chart), log))
 }
@@ -130,7 +130,7 @@ pub extern "C" fn lsc_test_write(image: &[u8], out: &mut [u8], at: &mut u64) -> 
     ensures at { at.new
         ≡ saved_size (saved_answer (chart_value_of image.now) out.old) }
     ensures bytes { out.new ≡ saved_buffer (chart_value_of image.now) out.old }
-    ensures unchanged { image.now ≡ image.now }
+    ensures unchanged { image.exit.now ≡ image.entry.now }
 {
     let saved = chart_writer::write(chart_image::chart_at(image), out);
     *at = chart_writer::size(saved) as u64;

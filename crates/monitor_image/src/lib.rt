@@ -115,7 +115,7 @@ fn tally_at(bytes: &[u8]) -> Tally
 // The monitor whose image starts the bytes; a byte past the end reads as 0.
 pub fn monitor_at(bytes: &[u8]) -> Monitor
     ensures value { result ≡ monitor_in bytes.now }
-    ensures unchanged { bytes.now ≡ bytes.now }
+    ensures unchanged { bytes.exit.now ≡ bytes.entry.now }
 {
     let resets = moments_at(bytes);
     let place = Place {

@@ -1,4 +1,6 @@
 // A chart compiled into numbers for stepping: it shows the same abstract chart as the chart's value.
+#![tactic(auto)]
+
 ghost use Rattle.std.specs.Prelude.{◌≡◌, true, cond, ◌<◌, ◌≤◌};
 ghost use Rattle.bitset.specs.Set.{inserted};
 ghost use Rattle.model.specs.Chart.{most_regions, most_terms};

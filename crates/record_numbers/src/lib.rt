@@ -108,7 +108,7 @@ fn put_next(out: &mut [u64], place: usize, next: Next) -> u8
 pub fn read(log: &[u8], place: usize, out: &mut [u64]) -> u8
     ensures number { result ≡ read_number (next_at log.now place) out.old }
     ensures numbers { out.new ≡ read_out place (next_at log.now place) out.old }
-    ensures unchanged { log.now ≡ log.now }
+    ensures unchanged { log.exit.now ≡ log.entry.now }
 {
     if out.len() < RECORD_PLACES {
         return TOO_SHORT;

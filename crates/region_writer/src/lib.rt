@@ -1,4 +1,6 @@
 // One region of a chart put in bytes (D3).
+#![tactic(auto)]
+
 ghost use Rattle.std.specs.Prelude.{◌≡◌, [], ◌+◌, ◌≤◌, length};
 ghost use Rattle.wire.specs.Writing.{Wrote};
 ghost use Rattle.model.specs.declared.Event.TheVariants.{Message as MessageEvent, Plain as PlainEvent};

@@ -87,7 +87,7 @@ pub fn respond(input: &[u8], out: &mut [u8]) -> Response
     ensures answer { result ≡ response_of (length out.old) (text_of input.now) }
     ensures buffer { out.new ≡ buffer_after out.old (text_of input.now) }
     ensures within { count_of result ≤ length out.new }
-    ensures unchanged { input.now ≡ input.now }
+    ensures unchanged { input.exit.now ≡ input.entry.now }
 {
     if out.len() < ROOM {
         return Response::TooShort;

@@ -1,4 +1,6 @@
 // The standing and the verdict of a monitor for a chart.
+#![tactic(auto)]
+
 ghost use Rattle.std.specs.Prelude.{◌≡◌, true};
 ghost use Rattle.chart_value.specs.WellFormed.{well_formed};
 ghost use Rattle.verdict.specs.Parts.{standing_by, verdict_by};

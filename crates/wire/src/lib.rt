@@ -11,7 +11,7 @@ const LONG_HALF: u64 = 0x1_0000_0000;
 
 pub fn byte_at(s: &[u8], i: usize) -> u8
     ensures value { result ≡ get_or s.now i 0 }
-    ensures unchanged { s.now ≡ s.now }
+    ensures unchanged { s.exit.now ≡ s.entry.now }
 {
     if i < s.len() { s[i] } else { 0 }
 }
@@ -38,7 +38,7 @@ pub fn wide64(x: u32) -> u64
 // Two bytes from i on.
 pub fn word16_at(s: &[u8], i: usize) -> u16
     ensures value { result ≡ word16 s.now i }
-    ensures unchanged { s.now ≡ s.now }
+    ensures unchanged { s.exit.now ≡ s.entry.now }
 {
     if i < s.len() {
         let high = wide16(byte_at(s, i));
@@ -51,7 +51,7 @@ pub fn word16_at(s: &[u8], i: usize) -> u16
 // Four bytes from i on.
 pub fn word32_at(s: &[u8], i: usize) -> u32
     ensures value { result ≡ word32 s.now i }
-    ensures unchanged { s.now ≡ s.now }
+    ensures unchanged { s.exit.now ≡ s.entry.now }
     ensures low { result % 65536 ≡ word16 s.now (i + 2) }
 {
     if i < s.len() {
@@ -85,7 +85,7 @@ pub fn word32_in(s: &[u8], i: usize) -> u32
 // Eight bytes from i on.
 pub fn word64_at(s: &[u8], i: usize) -> u64
     ensures value { result ≡ word64 s.now i }
-    ensures unchanged { s.now ≡ s.now }
+    ensures unchanged { s.exit.now ≡ s.entry.now }
 {
     if i < s.len() {
         let high = wide64(word32_at(s, i));
@@ -120,7 +120,7 @@ pub fn put_bytes(out: &mut [u8], at: usize, text: &[u8]) -> usize
 pub fn put_whole(out: &mut [u8], text: &[u8]) -> bool
     ensures room { result ≡ leb (length text.now) (length out.old) }
     ensures buffer { out.new ≡ writer_buffer text.now out.old }
-    ensures unchanged { text.now ≡ text.now }
+    ensures unchanged { text.exit.now ≡ text.entry.now }
 {
     if out.len() < text.len() {
         return false;
