@@ -1,5 +1,4 @@
 -- The parts are filled region by region; that the chart is accepted, by its well-formedness. Assumes nothing.
-use Prim.Native.Nat.{◌-◌}
 use mathlib.Core.Path.{◌≡◌, refl, sym}
 use mathlib.Core.Bool.{true}
 use lib.ListN.{length-set}
@@ -16,8 +15,7 @@ loop-i-init c = ((wf_of c.args.c c.requires).room, omega arith, search rules, se
 
 pub loop-i-preserved : goal.loop-i-preserved
 loop-i-preserved c =
-    let I = c.loop-i.invariant in
-    (
+    let I = c.loop-i.invariant in (
       I.0,
       omega arith,
       simp length-set I.2,
@@ -40,6 +38,6 @@ returns c =
     let l = c.loop-i in
     let e : l.i ≡ c.args.c.count = omega arith in
     compiles c.args.c _ (wf_of c.args.c c.requires)
-    (shown c.args.c ((exact_test c.args.c _ s.well-formed.0 true (sym c.requires)).1.0 refl)).accepted
+    (shown c.args.c ((exact_test c.args.c _ c.well_formed.0 true (sym c.requires)).1.0 refl)).accepted
     (refl, refl, refl) c.above_sets.ensures.sets
     (rw e at l.invariant.5)

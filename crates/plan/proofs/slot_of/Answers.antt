@@ -7,6 +7,6 @@ use Rattle.plan.proofs.slot_of.Goals as goal
 pub returns : goal.returns
 unfolding slot_of
 returns c = record {
-      value = refl;
-      bound = omega arith;
-    }
+  value = refl;
+  bound = omega arith;
+}

@@ -1,5 +1,4 @@
 -- The loop's invariant: the slots have the regions so far. Assumes nothing.
-use Prim.Native.Nat.{◌-◌}
 use mathlib.Core.Path.{◌≡◌}
 use lib.ListN.{length-set}
 use native.Mathlib.Omega.{arith}
@@ -19,7 +18,7 @@ loop-i-preserved c =
       omega arith,
       I.1,
       simp length-set I.2,
-      slotted_next I.3 k.result (omega arith) k.ensures.0 c.insert.result c.insert.ensures,
+      slotted_next I.3 k.result (omega arith) k.ensures.value c.insert.result c.insert.ensures,
     )
 
 pub returns : goal.returns

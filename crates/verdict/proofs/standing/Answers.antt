@@ -1,5 +1,5 @@
 -- `verdict::standing` meets its contract: the tests in their order. Assumes nothing.
-use borrow.Author.Tests.{eq-eqb, ne_eqb, not-true, not-false}
+use borrow.Author.Tests.{eq-eqb, ne_eqb}
 use Rattle.verdict.specs.Parts.{standing_by}
 use Rattle.verdict.proofs.Stands.{limits}
 use Rattle.verdict.proofs.standing.Goals as goal
@@ -22,7 +22,7 @@ returns-then-not-all_fired c =
       eq-eqb _ _ c.if-m-ne0.false,
       ne_eqb _ _ c.if-place-eq0.false,
       ← c.all_fired.ensures,
-      not-true c.all_fired.result c.if-not-all_fired.true,
+      c.if-not-all_fired.true,
     )
 
 pub rests-requires : goal.rests-requires
@@ -35,7 +35,7 @@ returns-then-rests c =
       eq-eqb _ _ c.if-m-ne0.false,
       ne_eqb _ _ c.if-place-eq0.false,
       ← c.all_fired.ensures,
-      not-false c.all_fired.result c.if-not-all_fired.false,
+      c.if-not-all_fired.false,
       ← c.rests.ensures.test,
       c.if-rests.true,
     )
@@ -47,7 +47,7 @@ returns c =
       eq-eqb _ _ c.if-m-ne0.false,
       ne_eqb _ _ c.if-place-eq0.false,
       ← c.all_fired.ensures,
-      not-false c.all_fired.result c.if-not-all_fired.false,
+      c.if-not-all_fired.false,
       ← c.rests.ensures.test,
       c.if-rests.false,
     )
