@@ -16,13 +16,7 @@ put_byte-requires c =
     )
 
 pub returns : goal.returns
-returns c = let a = c.put_decimal-next.ensures.text in
-    let b = c.put_byte.ensures in record {
-      text = then a b;
-      short = omega (
-        arith,
-        digits_length 20 c.args.n,
-        a.next,
-        b.next,
-      );
-    }
+returns c =
+    let a = c.put_decimal-next.ensures.text in
+    let b = c.put_byte.ensures in
+    record { text = then a b; short = omega (arith, digits_length 20 c.args.n, a.next, b.next) }

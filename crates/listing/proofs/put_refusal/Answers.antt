@@ -10,7 +10,8 @@ returns c =
     let p = c.put_part-first.ensures in
     let n = c.put_field-second.ensures in
     let a = c.put_bytes-third.ensures in
-    let o = c.put_field.ensures in record {
+    let o = c.put_field.ensures in
+    record {
       text = spelled (refusal_joined _ _ _) (then (then (then p.text n.text) a) o.text);
       short = omega (arith, p.short, n.short, a.next, o.short);
     }

@@ -14,16 +14,20 @@ stands : {l t m : List ℕ} {j : ℕ} → Wrote l 0 t m j → j ≤ room → roo
 stands {l} {t} {m} {j} w h k = (counted w, (at_start w (omega (arith, w.next)), h))
 
 pub returns-in-Judged : goal.returns-in-Judged
-returns-in-Judged c = let w = c.put_verdict.ensures in let r = stands (spelled (sym (ap listing_of c.in-Judged.is)) w.text) w.short
-    c.requires in record {
+returns-in-Judged c =
+    let w = c.put_verdict.ensures in
+    let r = stands (spelled (sym (ap listing_of c.in-Judged.is)) w.text) w.short c.requires in
+    record {
       length = r.0;
       buffer = r.1.0;
       short = r.1.1;
     }
 
 pub returns-in-Refused : goal.returns-in-Refused
-returns-in-Refused c = let w = c.put_refusal.ensures in let r = stands (spelled (sym (ap listing_of c.in-Refused.is)) w.text) w.short
-    c.requires in record {
+returns-in-Refused c =
+    let w = c.put_refusal.ensures in
+    let r = stands (spelled (sym (ap listing_of c.in-Refused.is)) w.text) w.short c.requires in
+    record {
       length = r.0;
       buffer = r.1.0;
       short = r.1.1;

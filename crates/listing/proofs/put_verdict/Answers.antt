@@ -26,7 +26,8 @@ unfolding bytes_of
 returns c =
     let h = c.put_bytes-first.ensures in
     let x = c.put_four-second.ensures in
-    let y = c.put_four.ensures in record {
+    let y = c.put_four.ensures in
+    record {
       text = spelled (verdict_joined _) (then (then h x.text) y.text);
       short = omega (arith, h.next);
     }
