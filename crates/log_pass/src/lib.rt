@@ -1,4 +1,6 @@
 // One pass over a log: each record is checked, then taken.
+#![tactic(auto)]
+
 ghost use Rattle.std.specs.Prelude.{◌≡◌, true};
 ghost use Rattle.rounds.specs.Machine.{after};
 ghost use Rattle.chart_value.specs.WellFormed.{well_formed};

@@ -1,4 +1,6 @@
 // Making a monitor and feeding it records.
+#![tactic(auto)]
+
 ghost use Rattle.std.specs.Prelude.{◌≡◌, true, not, ◌||◌, ◌↔◌, List, ℕ, ◌≤◌, length, get_or};
 ghost use Rattle.bitset.specs.Set.{contains, is_subset};
 ghost use Rattle.model.specs.Chart.{most_regions, most_clocks};
