@@ -1,7 +1,5 @@
 -- What owning a monitor gives: 32 bits for the fired regions, eight places for the reset moments. Assumes nothing.
-use mathlib.Core.Path.{sym, ◌∙◌}
 use mathlib.Core.List.{List}
-use lib.ListN.{length-map}
 use mir.Val.{Val}
 use denote.Laws.{Is}
 use denote.Struct.Declared.{row}
@@ -14,7 +12,7 @@ use Rattle.monitor.specs.Stored.{Stored}
 pub owned_monitor : (m : Monitor) (vs : List Val) → Is (row monitor.the_type) m vs → Stored m
 owned_monitor m vs p =
     let place = p.1.1.0 in
-    record { bits = place.1.1.0.1; places = sym (length-map m.place.resets _) ∙ place.1.1.1.0.1.0.1 }
+    record { bits = place.1.1.0.1; places = place.1.1.1.0.1.0.1 }
 
 -- and a step, with its monitor
 pub owned_step : (r : Step) (vs : List Val) → Is (row step.the_type) r vs → Stored r.next

@@ -1,7 +1,6 @@
 -- `log_pass::pass` meets its contract: the records before the offset were taken, and the rest is as it was. Assumes
 -- nothing.
 use mathlib.Core.Path.{refl, sym, ap, subst, ◌∙◌}
-use Prim.Native.Nat.{◌-◌}
 use native.Mathlib.Omega.{arith}
 use Rattle.log_check.specs.Met.{Paced, pace_of}
 use Rattle.log_check.proofs.Meets.{goes, paced}
@@ -14,7 +13,7 @@ pub compile-p-requires : goal.compile-p-requires
 compile-p-requires c = c.requires
 
 pub slots_of-slots-requires : goal.slots_of-slots-requires
-slots_of-slots-requires c = c.before.before.before.compile.ensures.compiled.regions
+slots_of-slots-requires c = c.compile-p.ensures.compiled.regions
 
 pub loop-at-init : goal.loop-at-init
 loop-at-init c =
@@ -42,33 +41,31 @@ returns-in-Other c =
 
 pub accept-s-requires : goal.accept-s-requires
 accept-s-requires c =
-    let a = c.before.before.before.before.before.before.before.before.before.before.before.before.before.before.before.before.before.before.before.before.before in
-    let x = c.before.before.before.before.before.before.before.before.before.met_at in
+    let x = c.met_at-met in
     let l = c.loop-at in
-    let K = c.before.before.before.before.before.before.before.before.before.before.before.before.before.before.before.before.before.before.before.compile.ensures in
+    let K = c.compile-p.ensures in
     let q = c.pace_of-pace.ensures ∙ ap pace_of c.read_record.ensures.0 in
-    let M = goes a.args.log.now l.at c.pace_of-pace.result l.m.tally.now l.m.tally.records
-    x.ensures.1 _ _ _ (sym c.before.before.before.before.before.before.before.met.given.1 ∙ x.ensures.0) in
+    let M = goes c.args.log.now l.at c.pace_of-pace.result l.m.tally.now l.m.tally.records
+    x.ensures.steady _ _ _ (sym c.in-Sound.is ∙ x.ensures.met) in
     let t = c.loop-at-test.true in
     let F = fit_here l.invariant K.compiled.accepted in record {
       compiled = K.compiled;
       offerable = record {
-          moments = λ i. omega (arith, F.moments i, met_later l.invariant t _ _ _ M);
-          few = met_few l.invariant t _ _ _ M;
-          counts = F.counts;
-        };
+        moments = λ i. omega (arith, F.moments i, met_later l.invariant t _ _ _ M);
+        few = met_few l.invariant t _ _ _ M;
+        counts = F.counts;
+      };
       covers = rw c.slot_of.ensures.value (slot_covers c.slots_of-slots.ensures K.compiled.regions _);
     }
 
 pub returns-then-m-ne0 : goal.returns-then-m-ne0
 returns-then-m-ne0 c =
-    let a = c.before.before.before.before.before.before.before.before.before.before.before.before.before.before.before.before.before.before.before.before.before.before.before.before.before in
-    let x = c.before.before.before.before.before.before.before.before.before.before.before.before.before.met_at in
+    let x = c.met_at-met in
     let l = c.loop-at in
-    let K = c.before.before.before.before.before.before.before.before.before.before.before.before.before.before.before.before.before.before.before.before.before.before.before.compile.ensures in
+    let K = c.compile-p.ensures in
     let q = c.pace_of-pace.ensures ∙ ap pace_of c.read_record.ensures.0 in
-    let M = goes a.args.log.now l.at c.pace_of-pace.result l.m.tally.now l.m.tally.records
-    x.ensures.1 _ _ _ (sym c.before.before.before.before.before.before.before.before.before.before.before.met.given.1 ∙ x.ensures.0) in
+    let M = goes c.args.log.now l.at c.pace_of-pace.result l.m.tally.now l.m.tally.records
+    x.ensures.steady _ _ _ (sym c.in-Sound.is ∙ x.ensures.met) in
     let r = c.accept-s in
     let E = ended_as (going_broken l.invariant c.loop-at-test.true _ _ _ M r.result r.ensures c.if-m-ne0.true) _ K.shows q in record {
       end = E.0;
@@ -78,31 +75,29 @@ returns-then-m-ne0 c =
 
 pub loop-at-smaller : goal.loop-at-smaller
 loop-at-smaller c =
-    let a = c.before.before.before.before.before.before.before.before.before.before.before.before.before.before.before.before.before.before.before.before.before.before.before.before.before in
-    let x = c.before.before.before.before.before.before.before.before.before.before.before.before.before.met_at in
+    let x = c.met_at-met in
     let l = c.loop-at in
-    let K = c.before.before.before.before.before.before.before.before.before.before.before.before.before.before.before.before.before.before.before.before.before.before.before.compile.ensures in
+    let K = c.compile-p.ensures in
     let q = c.pace_of-pace.ensures ∙ ap pace_of c.read_record.ensures.0 in
-    let M = goes a.args.log.now l.at c.pace_of-pace.result l.m.tally.now l.m.tally.records
-    x.ensures.1 _ _ _ (sym c.before.before.before.before.before.before.before.before.before.before.before.met.given.1 ∙ x.ensures.0) in
+    let M = goes c.args.log.now l.at c.pace_of-pace.result l.m.tally.now l.m.tally.records
+    x.ensures.steady _ _ _ (sym c.in-Sound.is ∙ x.ensures.met) in
     let t = c.loop-at-test.true in
     omega (arith, t, met_past l.invariant t _ _ _ M)
 
 pub loop-at-preserved : goal.loop-at-preserved
 loop-at-preserved c =
-    let a = c.before.before.before.before.before.before.before.before.before.before.before.before.before.before.before.before.before.before.before.before.before.before.before.before.before in
-    let x = c.before.before.before.before.before.before.before.before.before.before.before.before.before.met_at in
+    let x = c.met_at-met in
     let l = c.loop-at in
-    let K = c.before.before.before.before.before.before.before.before.before.before.before.before.before.before.before.before.before.before.before.before.before.before.before.compile.ensures in
+    let K = c.compile-p.ensures in
     let q = c.pace_of-pace.ensures ∙ ap pace_of c.read_record.ensures.0 in
-    let M = goes a.args.log.now l.at c.pace_of-pace.result l.m.tally.now l.m.tally.records
-    x.ensures.1 _ _ _ (sym c.before.before.before.before.before.before.before.before.before.before.before.met.given.1 ∙ x.ensures.0) in
+    let M = goes c.args.log.now l.at c.pace_of-pace.result l.m.tally.now l.m.tally.records
+    x.ensures.steady _ _ _ (sym c.in-Sound.is ∙ x.ensures.met) in
     let r = c.accept-s in
     going_on l.invariant c.loop-at-test.true _ _ _ M r.result r.ensures c.if-m-ne0.false
 
 pub returns : goal.returns
 returns c =
-    let K = c.before.before.before.before.before.before.before.before.before.compile.ensures in
+    let K = c.compile-p.ensures in
     let q = c.pace_of-pace.ensures ∙ ap pace_of c.read_record.ensures.0 in
     let E = ended_as (going_end c.loop-at.invariant c.loop-at-test.false) _ K.shows q in record {
       end = E.0;

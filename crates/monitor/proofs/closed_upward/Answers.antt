@@ -1,5 +1,4 @@
 use mathlib.Core.Bool.{not, ◌||◌}
-use Prim.Native.Nat.{◌-◌}
 use native.Mathlib.Omega.{arith}
 use Rattle.base.proofs.Loops.{all_start, all_next, all_below_lem}
 use Rattle.monitor.proofs.closed_upward.Goals as goal

@@ -6,14 +6,14 @@ use Rattle.monitor.proofs.feed.Goals as goal
 
 pub returns-then-not-well_formed : goal.returns-then-not-well_formed
 returns-then-not-well_formed c = (
-  fed_no_chart _ _ _ _ (sym c.before.before.well-formed-2.ensures.0 ∙ c.if-not-well_formed.true)
+  fed_no_chart _ _ _ _ (sym c.well_formed-2.ensures.0 ∙ c.if-not-well_formed.true)
       c.refused.ensures.step,
   c.refused.ensures.back,
-  owned_step c.refused.result _ c.refused.type-inv,
+  owned_step c.refused.result _ c.refused.type_inv,
 )
 
 pub feed_accepted-requires : goal.feed_accepted-requires
-feed_accepted-requires c = sym c.before.well-formed-2.ensures.0 ∙ c.if-not-well_formed.false
+feed_accepted-requires c = sym c.well_formed-2.ensures.0 ∙ c.if-not-well_formed.false
 
 pub returns : goal.returns
 returns c = c.feed_accepted.ensures

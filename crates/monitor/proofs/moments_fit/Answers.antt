@@ -1,5 +1,4 @@
 use mathlib.Core.Path.{refl}
-use Prim.Native.Nat.{◌-◌}
 use native.Mathlib.Omega.{arith}
 use Rattle.model.specs.Chart.{most_clocks}
 use Rattle.monitor.specs.Fit.{moments_fit}
@@ -16,6 +15,6 @@ loop-k-preserved c = let I = c.loop-k.invariant in
 pub returns : goal.returns
 unfolding moments_fit
 returns c = record {
-      test = all_below_lem most_clocks c.loop-k.invariant.1 (omega arith);
-      places = omega arith;
-    }
+  test = all_below_lem most_clocks c.loop-k.invariant.1 (omega arith);
+  places = omega arith;
+}
