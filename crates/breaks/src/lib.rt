@@ -1,4 +1,6 @@
 // Whether a log breaks a chart: yes or no, and no more.
+#![tactic(auto)]
+
 ghost use Rattle.std.specs.Prelude.{◌≡◌};
 ghost use Rattle.breaks.specs.Breaks.{breaks_of};
 

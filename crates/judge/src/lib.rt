@@ -1,4 +1,6 @@
 // Judging a whole log: its records are checked and taken in one pass, and what comes after a break is checked.
+#![tactic(auto)]
+
 ghost use Rattle.std.specs.Prelude.{◌≡◌};
 ghost use Rattle.model.specs.Answers.{zero_verdict};
 ghost use Rattle.judge.specs.Said.{said};
