@@ -1,4 +1,6 @@
 // V21: a chart in bytes, read and written again in the writer's form. 0 is success, 12 a buffer with too few places.
+#![tactic(auto)]
+
 ghost use Rattle.std.specs.Prelude.{◌≡◌, ◌≤◌};
 ghost use Rattle.chart_step.specs.Refusal.{most_refusal};
 ghost use Rattle.chart_reader.specs.Read.{read_chart};

@@ -1,4 +1,6 @@
 // Saves a chart (D): puts a chart value in bytes that are read as that chart.
+#![tactic(auto)]
+
 ghost use Rattle.std.specs.Prelude.{◌≡◌, true, cond, [], ◌∷◌, ◌+◌, ◌≤◌, length};
 ghost use Rattle.wire.specs.Writing.{Wrote};
 ghost use Rattle.chart_command.specs.Bytes.{main_byte};

@@ -11,7 +11,7 @@ pub returns : goal.returns
 returns c =
     let relation = c.put_byte-third.ensures in
     let number = c.put_word32.ensures in record {
-      bytes = spelled (term_parts c.args.t (owned_number c.args.t _ s.well-formed.1.1.0))
+      bytes = spelled (term_parts c.args.t (owned_number c.args.t _ c.well_formed.1.1.0))
           (then c.put_left-second.ensures.bytes
           (then (spelled (ap (λ (b : ℕ). b ∷ []) c.relation_byte.ensures) relation) number));
       short = omega (arith, c.put_left-second.ensures.short, relation.next, number.next);

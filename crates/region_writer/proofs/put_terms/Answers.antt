@@ -1,7 +1,7 @@
 -- `region_writer::put_terms` meets its contract: before j the terms stand, one more at each turn. Assumes nothing.
 use mathlib.Core.Path.{◌≡◌, refl, ap}
 use mathlib.Core.List.{[]}
-use Prim.Native.Nat.{ℕ, ◌-◌, ◌≤◌}
+use Prim.Native.Nat.{ℕ, ◌≤◌}
 use native.Mathlib.Omega.{arith}
 use Rattle.wire.proofs.Writing.{nothing, spelled}
 use Rattle.chart_value.specs.Writer.{terms_bytes}
