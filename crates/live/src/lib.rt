@@ -1,4 +1,6 @@
 // A live monitor in bytes that the caller keeps: opened for a chart, fed records, asked for its standing.
+#![tactic(auto)]
+
 ghost use Rattle.std.specs.Prelude.{◌≡◌, true, ◌+◌, ◌≤◌, length};
 ghost use Rattle.model.specs.Answers.{feed_refusal_number, zero_verdict};
 ghost use Rattle.wire.specs.Writing.{Wrote};

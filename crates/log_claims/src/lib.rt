@@ -1,5 +1,7 @@
 // What is claimed of reading a log. The walks by which whole logs are judged have no function: the crates above cite
 // them.
+#![tactic(auto)]
+
 ghost use Rattle.std.specs.Prelude.{◌≡◌};
 ghost use Rattle.base.specs.Just.{Just};
 ghost use Rattle.log_reader.specs.Record.{said as recordSaid};

@@ -1,4 +1,6 @@
 // A monitor as bytes at the start of a buffer, and read from there; numbers with the most significant byte first.
+#![tactic(auto)]
+
 ghost use Rattle.std.specs.Prelude.{◌≡◌, ◌∷◌, [], ◌+◌, ◌≤◌, length};
 ghost use Rattle.wire.specs.Writing.{Wrote};
 ghost use Rattle.monitor_image.specs.MonitorImage.{words_bytes, monitor_size, moment_numbers, tally_bytes};

@@ -1,4 +1,6 @@
 // What each region's message would be answered, if it were fed at a moment: shown before anything is fed.
+#![tactic(auto)]
+
 ghost use Rattle.std.specs.Prelude.{◌≡◌, ◌≤◌, length, get_or};
 ghost use Rattle.base.specs.Table.{table};
 ghost use Rattle.wire.specs.Writing.{starting_with};

@@ -1,4 +1,6 @@
 // From the printing program's whole input to its text.
+#![tactic(auto)]
+
 ghost use Rattle.std.specs.Prelude.{◌≡◌, ◌<◌, ◌≤◌, length};
 ghost use Rattle.judge.specs.Said.{said};
 ghost use Rattle.respond.specs.Respond.{log_report, parts_report, report_of, text_of, response_of, buffer_after};
