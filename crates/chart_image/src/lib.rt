@@ -1,4 +1,6 @@
 // A chart value read from its image of 1,348 bytes.
+#![tactic(auto)]
+
 ghost use Rattle.std.specs.Prelude.{◌≡◌, ◌+◌, ◌≤◌};
 ghost use Rattle.chart_image.specs.ChartImage.{chart_size, left_of, term_in, term_fits, event_in, region_in, head_fits};
 ghost use Rattle.chart_image.specs.ChartImage.{region_fits, regions_in, is_image, chart_value_of};

@@ -1,4 +1,6 @@
 // What is claimed of saving a chart, in the contracts of functions that call it.
+#![tactic(auto)]
+
 ghost use Rattle.std.specs.Prelude.{◌≡◌, ◌≤◌, length};
 ghost use Rattle.chart_value.specs.Given.{Given};
 ghost use Rattle.chart_value.specs.Writer.{chart_bytes};

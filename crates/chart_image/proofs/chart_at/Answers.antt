@@ -1,0 +1,27 @@
+-- `chart_image::chart_at` meets its contract: zeros, or each field as it is read. Assumes nothing.
+use Rattle.chart_image.specs.ChartImage.{chart_value_of}
+use mathlib.Core.Path.{refl, sym, ◌∙◌}
+use Rattle.chart_image.proofs.chart_at.Goals as goal
+
+pub returns-then-not-is_image : goal.returns-then-not-is_image
+unfolding chart_value_of
+returns-then-not-is_image c = let e = sym c.is_image.ensures ∙ c.if-not-is_image.true in record {
+  value = rw e c.zero_chart.ensures;
+  unchanged = refl;
+}
+
+pub returns : goal.returns
+unfolding chart_value_of
+returns c =
+    let e = sym c.is_image.ensures
+    ∙ c.if-not-is_image.false in record {
+      value = rw (
+        e,
+        c.byte_at-4.ensures.value,
+        c.byte_at-3.ensures.value,
+        c.byte_at-2.ensures.value,
+        c.byte_at.ensures.value,
+        c.regions_at-regions.ensures,
+      );
+      unchanged = refl;
+    }
