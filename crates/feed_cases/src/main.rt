@@ -5,7 +5,7 @@
 // term, and each clock's reset moment. At last, of the whole log, whether it breaks the chart: yes, no, or the refusal's
 // number and offset. The expected lines, in the file stdout, are worked out from the rules.
 use breaks::BreakAnswer;
-use hex::{COLON, LINE_FEED};
+use hexadecimal::{COLON, LINE_FEED};
 use libc::{STDIN_FILENO, STDOUT_FILENO};
 use log_clock::{Dated, Kind};
 use model::{CLOCK_PLACES, Cause, Chart, MOST_REGIONS, Moment, Monitor};
@@ -135,7 +135,7 @@ fn put_asked(chart: &[u8], log: &[u8]) {
 
 fn put_log(chart: &[u8], digits: &[u8]) {
     let mut log = [0u8; 256];
-    let n = hex::put_bytes(digits, &mut log);
+    let n = hexadecimal::put_bytes(digits, &mut log);
     put_feeds(chart, &log[..n]);
     put_asked(chart, &log[..n]);
 }
@@ -143,7 +143,7 @@ fn put_log(chart: &[u8], digits: &[u8]) {
 // One line: the name, the chart's digits and the log's.
 fn show(name: &[u8], digits: &[u8], log: &[u8]) {
     let mut chart = [0u8; 256];
-    let n = hex::put_bytes(digits, &mut chart);
+    let n = hexadecimal::put_bytes(digits, &mut chart);
     put(name);
     put(b"\n");
     put_log(&chart[..n], log);
@@ -152,9 +152,9 @@ fn show(name: &[u8], digits: &[u8], log: &[u8]) {
 fn show_all(text: &[u8]) {
     let mut at: usize = 0;
     while at < text.len() {
-        let end = hex::find(text, at, text.len(), LINE_FEED);
-        let colon = hex::find(text, at, end, COLON);
-        let slash = hex::find(text, colon, end, SLASH);
+        let end = hexadecimal::find(text, at, text.len(), LINE_FEED);
+        let colon = hexadecimal::find(text, at, end, COLON);
+        let slash = hexadecimal::find(text, colon, end, SLASH);
         show(&text[at..colon], &text[colon..slash], &text[slash..end]);
         if end == text.len() {
             return;

@@ -4,7 +4,7 @@
 // and how many differ.
 ghost use Rattle.std.specs.Prelude.{◌≤◌, length};
 
-use hex::{COLON, LINE_FEED};
+use hexadecimal::{COLON, LINE_FEED};
 use libc::STDOUT_FILENO;
 use respond::Response;
 
@@ -30,7 +30,7 @@ fn is_refusal(line: &[u8]) -> bool {
 // Whether the text is a refusal's one line, or the header and then the line.
 fn agrees(text: &[u8], line: &[u8]) -> bool {
     let start: usize = 0;
-    let first = hex::find(text, start, text.len(), LINE_FEED);
+    let first = hexadecimal::find(text, start, text.len(), LINE_FEED);
     if first == text.len() {
         return false;
     }
@@ -38,7 +38,7 @@ fn agrees(text: &[u8], line: &[u8]) -> bool {
     if is_refusal(line) {
         return second == text.len() && check::same(&text[start..first], line);
     }
-    let end = hex::find(text, second, text.len(), LINE_FEED);
+    let end = hexadecimal::find(text, second, text.len(), LINE_FEED);
     if end == text.len() {
         return false;
     }
@@ -76,7 +76,7 @@ fn run_digits(name: &[u8], digits: &[u8], line: &[u8]) -> usize
     ensures { result ≤ 1 }
 {
     let mut input = [0u8; 2048];
-    let n = hex::put_bytes(digits, &mut input);
+    let n = hexadecimal::put_bytes(digits, &mut input);
     run(name, &input[..n], line)
 }
 
@@ -85,8 +85,8 @@ fn differs(text: &[u8], at: usize, end: usize) -> usize
     requires { (at ≤ end) × (end ≤ length text.now) }
     ensures { result ≤ 1 }
 {
-    let colon = hex::find(text, at, end, COLON);
-    let equals = hex::find(text, colon, end, EQUALS);
+    let colon = hexadecimal::find(text, at, end, COLON);
+    let equals = hexadecimal::find(text, colon, end, EQUALS);
     if end - equals < 2 {
         put(&text[at..end]);
         put(b" is no case\n");
@@ -110,7 +110,7 @@ fn run_text(name: &[u8], text: &[u8]) {
     let mut cases: usize = 0;
     let mut differ: usize = 0;
     while at < text.len() {
-        let end = hex::find(text, at, text.len(), LINE_FEED);
+        let end = hexadecimal::find(text, at, text.len(), LINE_FEED);
         if text[at] != HASH {
             cases += 1;
             differ += differs(text, at, end);

@@ -3,7 +3,7 @@
 // number that saving answers, the length that it tells, and the buffer's bytes up to the first after that length. The
 // expected lines, in the file stdout, are worked out from the rules.
 use chart_reader::ChartAnswer;
-use hex::{COLON, LINE_FEED};
+use hexadecimal::{COLON, LINE_FEED};
 use libc::{STDIN_FILENO, STDOUT_FILENO};
 use model::Chart;
 
@@ -20,7 +20,7 @@ fn put_number(n: u64) {
 }
 
 fn put_byte(b: u8) {
-    let text = [b' ', hex::low_digit(b / 16), hex::low_digit(b)];
+    let text = [b' ', hexadecimal::low_digit(b / 16), hexadecimal::low_digit(b)];
     put(&text);
 }
 
@@ -62,7 +62,7 @@ fn put_answer(answer: ChartAnswer) {
 // One line: the name, and the chart's digits.
 fn show(name: &[u8], digits: &[u8]) {
     let mut bytes = [0u8; 256];
-    let n = hex::put_bytes(digits, &mut bytes);
+    let n = hexadecimal::put_bytes(digits, &mut bytes);
     let read = chart_reader::read(&bytes[..n]);
     let answer = read.answer;
     let mut wide = [STAYS; 64];
@@ -77,8 +77,8 @@ fn show(name: &[u8], digits: &[u8]) {
 fn show_all(text: &[u8]) {
     let mut at: usize = 0;
     while at < text.len() {
-        let end = hex::find(text, at, text.len(), LINE_FEED);
-        let colon = hex::find(text, at, end, COLON);
+        let end = hexadecimal::find(text, at, text.len(), LINE_FEED);
+        let colon = hexadecimal::find(text, at, end, COLON);
         show(&text[at..colon], &text[colon..end]);
         if end == text.len() {
             return;

@@ -9,7 +9,7 @@ use borrow.Author.Tests.{ltb-true, le-leb, lt-leb, lt-ltb, le-ltb, eq-eqb, ne_eq
 use lib.ListN.{length, get_or, drop, length-set, drop_of_length-le}
 use lib.Seq.{drop-cons}
 use lib.Dec.{ltb}
-use Rattle.hex.specs.Hex.{first_among, digit_of, Filled, digit_put, byte_more, filled_by}
+use Rattle.hexadecimal.specs.Hex.{first_among, digit_of, Filled, digit_put, byte_more, filled_by}
 
 module _ (s : List ℕ) (at byte n : ℕ) where
   pub none_left : n ≡ 0 → first_among n s at byte ≡ at

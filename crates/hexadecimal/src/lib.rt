@@ -1,7 +1,9 @@
 // Lines of text with bytes in hexadecimal, for the programs that run stored examples.
+#![tactic(auto)]
+
 ghost use Rattle.std.specs.Prelude.{◌≡◌, ◌<◌, ◌≤◌, ◌/◌, ◌%◌, length};
-ghost use Rattle.io.specs.Counts.{IsPrefixLen};
-ghost use Rattle.hex.specs.Hex.{first_of, digit_of, low_digit, with_digit, filled_with, byte_more, filled_by};
+ghost use Rattle.std.specs.Counts.{IsPrefixLen};
+ghost use Rattle.hexadecimal.specs.Hex.{first_of, digit_of, low_digit, with_digit, filled_with, byte_more, filled_by};
 
 pub const LINE_FEED: u8 = 10;
 
