@@ -9,13 +9,13 @@ pub fn link(name: &str) -> PathBuf {
     let package = PathBuf::from(env::var_os("CARGO_MANIFEST_DIR").expect("cargo sets it"));
     let folder = match env::var_os("LSC_LIB_DIR") {
         Some(folder) => package.join(folder),
-        None => package.join("../../target/staticlib"),
+        None => package.join("../../crates").join(name).join("out"),
     };
     let archive = folder.join(format!("lib{name}.a"));
     println!("cargo:rerun-if-changed={}", archive.display());
     let Ok(archive) = archive.canonicalize() else {
         panic!(
-            "{} is missing: run \"rt staticlib {name}\" in the repository's root first \
+            "{} is missing: run \"rt lib\" in the folder crates/{name} first \
              (or set LSC_LIB_DIR to the folder that has it)",
             archive.display()
         );

@@ -2,22 +2,26 @@
 // a name, ':', the whole input in hexadecimal, '=', the numbers of the verdict or the refusal, worked out from the
 // rules; a line that starts with '#' has the reason. It writes what differs, and for each file how many cases it ran
 // and how many differ.
-ghost use Rattle.std.specs.Prelude.{◌≤◌, length};
+#![tactic(auto)]
+
+ghost use Rattle.std.specs.Prelude.{◌≤◌, IfOk, length};
 
 use hexadecimal::{COLON, LINE_FEED};
-use libc::STDOUT_FILENO;
 use respond::Response;
+use std::fs::File;
+use std::io;
+use std::rt::Files;
 
 const HASH: u8 = b'#';
 
 const EQUALS: u8 = b'=';
 
-fn put(text: &[u8]) {
-    io::write_all(STDOUT_FILENO, text);
+fn put(rt: &impl Print, text: &[u8]) -> io::Result<()> {
+    rt.write_all(text)
 }
 
-fn put_number(n: usize) {
-    io::print_decimal(STDOUT_FILENO, n as u64);
+fn put_number(rt: &impl Print, n: usize) -> io::Result<()> {
+    rt.print(n)
 }
 
 fn is_refusal(line: &[u8]) -> bool {
@@ -49,63 +53,68 @@ fn agrees(text: &[u8], line: &[u8]) -> bool {
 }
 
 // 0 if the text is as expected; otherwise 1, and it says what was printed.
-fn compare(name: &[u8], text: &[u8], line: &[u8]) -> usize
-    ensures { result ≤ 1 }
+fn compare(rt: &impl Print, name: &[u8], text: &[u8], line: &[u8]) -> io::Result<usize>
+    ensures { IfOk result (λ n. n ≤ 1) }
 {
     if agrees(text, line) {
-        return 0;
+        return Ok(0);
     }
-    put(name);
-    put(b" printed ");
-    put(text);
-    1
+    put(rt, name)?;
+    put(rt, b" printed ")?;
+    put(rt, text)?;
+    Ok(1)
 }
 
-fn run(name: &[u8], input: &[u8], line: &[u8]) -> usize
-    ensures { result ≤ 1 }
+fn run(rt: &impl Print, name: &[u8], input: &[u8], line: &[u8]) -> io::Result<usize>
+    ensures { IfOk result (λ n. n ≤ 1) }
 {
     let mut out = [0u8; 223];
     let response = respond::respond(input, &mut out);
     match response {
-        Response::Written(n) => compare(name, &out[..n], line),
-        Response::TooShort => 1,
+        Response::Written(n) => compare(rt, name, &out[..n], line),
+        Response::TooShort => Ok(1),
     }
 }
 
-fn run_digits(name: &[u8], digits: &[u8], line: &[u8]) -> usize
-    ensures { result ≤ 1 }
+fn run_digits(rt: &impl Print, name: &[u8], digits: &[u8], line: &[u8]) -> io::Result<usize>
+    ensures { IfOk result (λ n. n ≤ 1) }
 {
     let mut input = [0u8; 2048];
     let n = hexadecimal::put_bytes(digits, &mut input);
-    run(name, &input[..n], line)
+    run(rt, name, &input[..n], line)
 }
 
 // One case, which stands from `at` to `end`.
-fn differs(text: &[u8], at: usize, end: usize) -> usize
+fn differs(rt: &impl Print, text: &[u8], at: usize, end: usize) -> io::Result<usize>
     requires { (at ≤ end) × (end ≤ length text.now) }
-    ensures { result ≤ 1 }
+    ensures { IfOk result (λ n. n ≤ 1) }
 {
     let colon = hexadecimal::find(text, at, end, COLON);
     let equals = hexadecimal::find(text, colon, end, EQUALS);
     if end - equals < 2 {
-        put(&text[at..end]);
-        put(b" is no case\n");
-        return 1;
+        put(rt, &text[at..end])?;
+        put(rt, b" is no case\n")?;
+        return Ok(1);
     }
     let start = equals + 2;
-    run_digits(&text[at..colon], &text[colon..equals], &text[start..end])
+    run_digits(
+        rt,
+        &text[at..colon],
+        &text[colon..equals],
+        &text[start..end],
+    )
 }
 
-fn put_result(name: &[u8], cases: usize, differ: usize) {
-    put(name);
-    put(b": ");
-    put_number(cases);
-    put(b" cases, ");
-    put_number(differ);
-    put(b" differ\n");
+fn put_result(rt: &impl Print, name: &[u8], cases: usize, differ: usize) -> io::Result<()> {
+    put(rt, name)?;
+    put(rt, b": ")?;
+    put_number(rt, cases)?;
+    put(rt, b" cases, ")?;
+    put_number(rt, differ)?;
+    put(rt, b" differ\n")
 }
 
-fn run_text(name: &[u8], text: &[u8]) {
+fn run_text(rt: &impl Print, name: &[u8], text: &[u8]) -> io::Result<()> {
     let mut at: usize = 0;
     let mut cases: usize = 0;
     let mut differ: usize = 0;
@@ -113,40 +122,43 @@ fn run_text(name: &[u8], text: &[u8]) {
         let end = hexadecimal::find(text, at, text.len(), LINE_FEED);
         if text[at] != HASH {
             cases += 1;
-            differ += differs(text, at, end);
+            differ += differs(rt, text, at, end)?;
         }
         if end == text.len() {
-            put_result(name, cases, differ);
-            return;
+            return put_result(rt, name, cases, differ);
         }
         at = end + 1;
     }
-    put_result(name, cases, differ);
+    put_result(rt, name, cases, differ)
 }
 
-fn run_file(name: &[u8]) {
-    let fd = os::open_read(name);
+fn run_file(rt: &(impl Files + Print), name: &str) -> io::Result<()> {
+    let mut file = File::open(rt, name)?;
     let mut text = [0u8; 65536];
-    let n = io::read_full(fd, &mut text);
-    run_text(name, &text[..n]);
-    libc::close(fd);
+    let n = input::read_full(&mut file, &mut text)?;
+    run_text(rt, name.as_bytes(), &text[..n])
 }
 
 // The longest input, and one byte more: too long for a line of text.
-fn run_long() {
+fn run_long(rt: &impl Print) -> io::Result<()> {
     let longest = [0u8; 65536];
-    let first = run(b"the longest input", &longest, b"refused chart 1 at 0");
+    let first = run(rt, b"the longest input", &longest, b"refused chart 1 at 0")?;
     let too_long = [0u8; 65537];
-    let second = run(b"an input too long", &too_long, b"refused input 40 at 0");
-    put_result(b"long", 2, first + second);
+    let second = run(
+        rt,
+        b"an input too long",
+        &too_long,
+        b"refused input 40 at 0",
+    )?;
+    put_result(rt, b"long", 2, first + second)
 }
 
-fn main() {
-    run_file(b"charts");
-    run_file(b"logs");
-    run_file(b"relations");
-    run_file(b"second_offers");
-    run_file(b"raw_logs");
-    run_file(b"rests");
-    run_long();
+fn main(rt: HostRuntime) -> io::Result<()> {
+    run_file(&rt, "charts")?;
+    run_file(&rt, "logs")?;
+    run_file(&rt, "relations")?;
+    run_file(&rt, "second_offers")?;
+    run_file(&rt, "raw_logs")?;
+    run_file(&rt, "rests")?;
+    run_long(&rt)
 }

@@ -4,7 +4,8 @@
  * end anywhere. follow.rs does the same in Rust. In the folder rust/:
  *
  *   gcc -std=c99 -Wall -Wextra -Werror -Iinclude lsc/examples/follow.c \
- *       ../target/staticlib/liblsc_live.a ../target/staticlib/liblsc_log.a -o target/follow
+ *       ../crates/lsc_live/out/liblsc_live.a ../crates/lsc_log/out/liblsc_log.a \
+ *       -o target/follow
  */
 #include "lsc.h"
 

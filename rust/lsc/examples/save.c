@@ -3,7 +3,7 @@
  * same exactly if their saved bytes are. In the folder rust/:
  *
  *   gcc -std=c99 -Wall -Wextra -Werror -Iinclude lsc/examples/save.c \
- *       ../target/staticlib/liblsc_more.a -o target/save
+ *       ../crates/lsc_more/out/liblsc_more.a -o target/save
  */
 #include "lsc.h"
 

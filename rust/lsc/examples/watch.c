@@ -5,7 +5,8 @@
  * rust/:
  *
  *   gcc -std=c99 -Wall -Wextra -Werror -Iinclude lsc/examples/watch.c \
- *       ../target/staticlib/liblsc_live.a ../target/staticlib/liblsc_more.a -o target/watch
+ *       ../crates/lsc_live/out/liblsc_live.a ../crates/lsc_more/out/liblsc_more.a \
+ *       -o target/watch
  */
 #include "lsc.h"
 
