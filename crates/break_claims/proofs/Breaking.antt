@@ -194,9 +194,9 @@ module _ (c : Chart) (s : List ℕ) where
         let E = fault_ends s k (log_refusal_number f) (walked s W).first F in
         let y : f ≡ E.why = number_tells f E.why E.told in
         let l = left_step s at k (moment last) (size es) (walked s W).left (Over (checked.Refused E.why at))
-        E.Ends-there in
+        E.ends_there in
         ap (λ (r : LogRefusal). Refused r at) y ∙ sym (unbroken_by es u (checked.Refused E.why at))
-        ∙ answered g es (all_walked s W _ E.Ends-there) (checked.Refused E.why at) (sym l)
+        ∙ answered g es (all_walked s W _ E.ends_there) (checked.Refused E.why at) (sym l)
     breaks_only x (case.breaks g {es} e {k} {at} {last} W u b) =
         let S = sound s W in
         let w = still (chart_of c) S.more s at k (moment last) (size (es ▸ e)) (es ▸ e) b in

@@ -1,4 +1,6 @@
 // What is claimed of asking for yes or no alone, in the contract of a function that calls it.
+#![tactic(auto)]
+
 ghost use Rattle.std.specs.Prelude.{◌≡◌};
 ghost use Rattle.base.specs.Just.{Just};
 ghost use Rattle.break_claims.specs.Breaks.{BreaksAs};

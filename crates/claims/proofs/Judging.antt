@@ -51,7 +51,7 @@ module _ (c : Chart) (G : (well_formed c ≡ true) ↔ Given c) (s : List ℕ) w
       let E = fault_ends s k f S.first F in
       rw E.told
       (judged_by g (checked.Refused E.why at)
-      (left_step s at k (moment last) (size es) S.left (Over (checked.Refused E.why at)) E.Ends-there))
+      (left_step s at k (moment last) (size es) S.left (Over (checked.Refused E.why at)) E.ends_there))
   judges_only x (judges g {es} W F) =
       ap {B = judge.Said}
       (λ (l : Snoc Record). record {

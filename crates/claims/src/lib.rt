@@ -1,6 +1,8 @@
 // What is claimed of the operations. The first demand is in the contracts of functions that call one operation each:
 // two here, one in `log_claims`, two in `feed_claims`. The second and the third are in `claims`, of the definitions
 // that the operations cite; `watch` has the third of a chart and a log in bytes.
+#![tactic(auto)]
+
 ghost use Rattle.std.specs.Prelude.{◌≡◌};
 ghost use Rattle.model.specs.Monitor.{zero_monitor};
 ghost use Rattle.chart_reader.specs.Said.{said as readSaid};

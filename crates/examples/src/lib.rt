@@ -1,2 +1,4 @@
 // The examples of section X by computation, from their bytes. There is no function here: `claims` has them among its
 // claims.
+
+#![tactic(auto)]

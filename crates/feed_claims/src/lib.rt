@@ -1,4 +1,6 @@
 // What is claimed of monitors, each in the contract of a function that calls one operation.
+#![tactic(auto)]
+
 ghost use Rattle.base.specs.Just.{Just};
 ghost use Rattle.stepping.specs.Answers.{answer_of};
 ghost use Rattle.feed_claims.specs.Feeds.{MakesAs, FeedsJust};

@@ -1,4 +1,6 @@
 // The records in a stretch of a log's bytes, fed to a live monitor. The chart is read and compiled once.
+#![tactic(auto)]
+
 ghost use Rattle.std.specs.Prelude.{◌≡◌, ◌-◌, ◌≤◌, ◌<◌, length};
 ghost use Rattle.rounds.specs.Machine.{Fit};
 ghost use Rattle.layout.specs.View.{plan_chart, Compiled};

@@ -1,4 +1,6 @@
 // V20: what a live monitor in bytes would answer, shown in bytes of the caller. 0 is success, 12 a buffer too short.
+#![tactic(auto)]
+
 ghost use Rattle.std.specs.Prelude.{◌≡◌, length};
 ghost use Rattle.preview.specs.Preview.{preview_number, buffer_of};
 ghost use Rattle.monitor_image.specs.MonitorImage.{monitor_in};

@@ -1,4 +1,6 @@
 // What is claimed of showing what would be answered, in the contracts of functions that call it.
+#![tactic(auto)]
+
 ghost use Rattle.preview_claims.specs.Previews.{PreviewsJust, Foretold};
 
 use model::{Chart, Message, Moment, Monitor, Record};

@@ -1,4 +1,6 @@
 // V18: one record of a log, read and put as six numbers. 0 is success, 12 a buffer with too few places.
+#![tactic(auto)]
+
 ghost use Rattle.std.specs.Prelude.{◌≡◌, [], ◌∷◌, ◌≤◌, length};
 ghost use Rattle.wire.specs.Writing.{starting_with};
 ghost use Rattle.log_reader.specs.Next.{next_at};

@@ -14,10 +14,9 @@ use Rattle.claims.proofs.Watching.{demands_read, judged_walk}
 use Rattle.claims.proofs.Standing.{standing_row, standing_after_break}
 use Rattle.log_claims.proofs.Logs.{walk_records, true_walk}
 use Rattle.chart_faults.proofs.Reading.{faults}
-use Rattle.claims.proofs.claims.Statement.{statement}
-use Rattle.claims.proofs.claims.Tie as tie
+use Rattle.claims.proofs.claims.Goals as goal
 
-returns : tie.Need-returns
+pub returns : goal.returns
 returns c =
     record {
       answers_tell = answers_tell;
@@ -50,6 +49,3 @@ returns c =
       view_tells = view_tells;
       examples_said = examples_said;
     }
-
-pub claims-spec : {M : Type 1} → statement M
-claims-spec = tie.close (tie.spec returns)
