@@ -71,7 +71,7 @@ abbrev InRange : ℕ → Type 0
 InRange n = (1 ≤ n) × (n ≤ 5)
 
 module _ (C : Abstract) where
-  offered_range : {x y : Status} {e : LogRecord} {a : AbstractAnswer} → Offered C x e y a → InRange (told_number a)
+  offered_range : {x : Status} {e : LogRecord} {y : Status} {a : AbstractAnswer} → Offered C x e y a → InRange (told_number a)
   offered_range (case.moves z M l p) = (omega arith, omega arith)
   offered_range (case.enters z M l n p) = (omega arith, omega arith)
   offered_range (case.keeps z M f) = (omega arith, omega arith)
@@ -80,13 +80,13 @@ module _ (C : Abstract) where
   offered_range (case.unmatched_prechart h U n) = (omega arith, omega arith)
   offered_range (case.unmatched_main h U d) = (omega arith, omega arith)
 
-  taken_range : {x y : Status} {e : LogRecord} {a : AbstractAnswer} → So (chart_message C e) → Taken C x e y a
+  taken_range : {x : Status} {e : LogRecord} {y : Status} {a : AbstractAnswer} → So (chart_message C e) → Taken C x e y a
       → InRange (told_number a)
   taken_range s (case.passes h) = absurd (clash s h)
   taken_range s (case.once n O) = offered_range O
   taken_range s (case.twice m f O) = offered_range O
 
-  offered_unrefused : {x y : Status} {e : LogRecord} {a : AbstractAnswer} → Offered C x e y a → is_refusal a ≡ false
+  offered_unrefused : {x : Status} {e : LogRecord} {y : Status} {a : AbstractAnswer} → Offered C x e y a → is_refusal a ≡ false
   offered_unrefused (case.moves z M l p) = refl
   offered_unrefused (case.enters z M l n p) = refl
   offered_unrefused (case.keeps z M f) = refl
@@ -95,7 +95,7 @@ module _ (C : Abstract) where
   offered_unrefused (case.unmatched_prechart h U n) = refl
   offered_unrefused (case.unmatched_main h U d) = refl
 
-  taken_unrefused : {x y : Status} {e : LogRecord} {a : AbstractAnswer} → Taken C x e y a → is_refusal a ≡ false
+  taken_unrefused : {x : Status} {e : LogRecord} {y : Status} {a : AbstractAnswer} → Taken C x e y a → is_refusal a ≡ false
   taken_unrefused (case.passes h) = refl
   taken_unrefused (case.once n O) = offered_unrefused O
   taken_unrefused (case.twice m f O) = offered_unrefused O
