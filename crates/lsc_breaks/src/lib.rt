@@ -1,5 +1,7 @@
 // V19: the exported function that asks whether a log breaks a chart. 0 is success, 12 a buffer with too few places. In
 // an archive of its own the loop over the records is the only caller of the step, which the compiler then takes in.
+#![tactic(auto)]
+
 ghost use Rattle.std.specs.Prelude.{◌≡◌, [], ◌∷◌, ◌≤◌, length};
 ghost use Rattle.wire.specs.Writing.{starting_with};
 ghost use Rattle.breaks.specs.Numbers.{break_number};
