@@ -12,7 +12,7 @@ use Rattle.base.proofs.Bools.{split}
 use Rattle.model.specs.declared.Moment.{Moment}
 use Rattle.model.specs.declared.Stamp.{Stamp}
 use Rattle.model.specs.declared.RawRecord.{RawRecord}
-use Rattle.model.specs.Monitor.{stamp_of, time_of, at_moment}
+use Rattle.model.specs.Monitor.{stamp_of}
 use Rattle.log_reader.specs.declared.Next.{Next}
 use Rattle.log_reader.specs.declared.Next.TheVariants as next
 use Rattle.log_reader.specs.Next.{next_at}

@@ -1,10 +1,10 @@
 -- Records taken by the machine are fed to live bytes one by one: after each the image is that of the monitor so far.
 -- Assumes nothing.
 use mathlib.Core.Path.{◌≡◌, refl, sym, ap, subst, ◌∙◌}
-use mathlib.Core.Bool.{Bool, true, false, cond, ◌||◌}
+use mathlib.Core.Bool.{true, false}
 use mathlib.Core.Logic.{inl, inr}
 use mathlib.Core.List.{List, ◌++◌}
-use Prim.Native.Nat.{ℕ, suc, ◌+◌, ◌-◌, ◌≤◌}
+use Prim.Native.Nat.{ℕ, suc, ◌+◌, ◌≤◌}
 use native.Mathlib.Omega.{arith}
 use borrow.Author.Tests.{eq-eqb, ne_eqb, eqb-true}
 use lib.Dec.{eqb, ltb, leb}
@@ -12,8 +12,6 @@ use lib.ListN.{length, drop, length-append, length-drop}
 use lib.Seq.{drop_at}
 use Rattle.base.specs.Lists.{Snoc, ε, ◌▸◌, size}
 use Rattle.base.proofs.Bools.{split}
-use Rattle.model.specs.declared.Chart.{Chart}
-use Rattle.model.specs.declared.Moment.{Moment}
 use Rattle.model.specs.declared.Monitor.{Monitor}
 use Rattle.model.specs.declared.Record.{Record}
 use Rattle.model.specs.declared.Answer.{Answer}
@@ -42,9 +40,8 @@ use Rattle.log_clock.specs.declared.MomentRefusal.TheVariants.{Falls}
 use Rattle.log_check.specs.declared.LogRefusal.TheVariants.{NoMoment, TooManyRecords as TooMany}
 use Rattle.log_check.specs.declared.Checked.{Checked}
 use Rattle.log_check.specs.declared.Checked.TheVariants as fault
-use Rattle.log_check.specs.declared.CheckStep.{CheckStep}
 use Rattle.log_check.specs.declared.CheckStep.TheVariants.{Over, Going}
-use Rattle.log_check.specs.Check.{take_record, step_by, step_at}
+use Rattle.log_check.specs.Check.{step_at}
 use Rattle.log_check.specs.Met.{ended_by}
 use Rattle.log_check.proofs.Laws.{came_to}
 use Rattle.monitor_image.specs.MonitorImage.{monitor_size, monitor_bytes, monitor_in}
@@ -55,7 +52,7 @@ use Rattle.live.proofs.Feeding.{fed_live}
 use Rattle.feed_log.specs.Feeds.{Outcome, now_in, Feeds, at_break, at_end, at_no_record, at_no_moment, at_refused}
 use Rattle.feed_log.specs.Feeds.{taken}
 use Rattle.feed_log.specs.Run.{Takes, none_yet, one_more, Stops, checked_number, stop_number, bytes_after}
-use Rattle.feed_log.proofs.Parts.{stop_broken, stop_ended}
+use Rattle.feed_log.proofs.Parts.{stop_ended}
 
 -- what a call that stops here comes to
 abbrev stopped : ℕ → Snoc Answer → ℕ → Kind → List ℕ → Outcome

@@ -3,7 +3,7 @@ use mathlib.Core.Path.{◌≡◌, refl, sym, ap, subst, ◌∙◌}
 use mathlib.Core.Bool.{true, false}
 use mathlib.Core.Logic.{◌≢◌}
 use mathlib.Core.List.{List}
-use Prim.Native.Nat.{ℕ, ◌+◌, ◌-◌}
+use Prim.Native.Nat.{ℕ, ◌-◌}
 use native.Mathlib.Omega.{arith}
 use Rattle.base.specs.Lists.{ε, size}
 use Rattle.model.specs.declared.Monitor.{Monitor}
@@ -20,7 +20,7 @@ use Rattle.live.specs.Live.{chart_in, is_broken, standing_in}
 use Rattle.live.proofs.Charts.{live_long}
 use Rattle.feed_log.specs.declared.LogFed.{LogFed}
 use Rattle.feed_log.specs.declared.Run.{Run}
-use Rattle.feed_log.specs.Feeds.{Outcome, FeedsLog, refuses, feeds, at_break, FedLog}
+use Rattle.feed_log.specs.Feeds.{FeedsLog, refuses, feeds, at_break, FedLog}
 use Rattle.feed_log.specs.Run.{Ran, stop_number, bytes_after, finished_as, stopped_as}
 use Rattle.feed_log.proofs.Bytes.{fed_all}
 

@@ -1,22 +1,19 @@
 -- The records taken so far, and one more. Assumes nothing.
-use mathlib.Core.Path.{◌≡◌, refl, sym, ap, ap₂, subst, ◌∙◌}
-use mathlib.Core.Bool.{Bool, false, cond}
-use mathlib.Core.Logic.{◌≢◌, inl, inr}
+use mathlib.Core.Path.{◌≡◌, refl, sym, ap, subst, ◌∙◌}
+use mathlib.Core.Bool.{false}
+use mathlib.Core.Logic.{inl, inr}
 use mathlib.Core.List.{List}
-use Prim.Native.Nat.{ℕ, suc, ◌+◌, ◌-◌, ◌≤◌, ◌<◌}
+use Prim.Native.Nat.{ℕ, ◌+◌, ◌-◌, ◌≤◌, ◌<◌}
 use native.Mathlib.Omega.{arith}
 use borrow.Author.Tests.{ltb-false, leb-false, eq-eqb, ne_eqb}
-use lib.Dec.{eqb}
 use lib.ListN.{length, get_or, set}
 use Rattle.base.specs.Lists.{Snoc, ε, ◌▸◌, size}
 use Rattle.model.specs.declared.Moment.{Moment}
 use Rattle.model.specs.declared.Monitor.{Monitor}
-use Rattle.model.specs.declared.Record.{Record}
 use Rattle.model.specs.declared.Answer.{Answer}
 use Rattle.model.specs.Answers.{most_records, answer_number}
 use Rattle.model.specs.Monitor.{time_of}
 use Rattle.rounds.specs.Chart.{Chart as Abstract, Accepted}
-use Rattle.rounds.specs.Rows.{LogRecord}
 use Rattle.rounds.specs.Machine.{Monitor as AbstractMonitor, Step as AbstractStep, Fit, accept, feed}
 use Rattle.rounds.proofs.Fitness.{feed_fit}
 use Rattle.stepping.specs.declared.Step.{Step}
@@ -24,7 +21,6 @@ use Rattle.stepping.specs.Monitors.{monitor_at, step_of, record_of}
 use Rattle.stepping.proofs.Back.{NotRefused, accept_taken}
 use Rattle.chart_value.specs.Records.{record_code, log_record}
 use Rattle.log_clock.specs.declared.Kind.{Kind}
-use Rattle.log_check.specs.declared.Checked.{Checked}
 use Rattle.log_check.specs.declared.CheckStep.TheVariants.{Going}
 use Rattle.log_check.specs.declared.Pace.{Pace}
 use Rattle.log_check.specs.declared.Met.TheVariants.{Other}
@@ -35,7 +31,7 @@ use Rattle.log_check.proofs.Meets.{Goes, over_there}
 use Rattle.log_pass.proofs.Codes.{code_of}
 use Rattle.log_pass.proofs.Fed.{accept_counted, accept_fed}
 use Rattle.monitor_image.proofs.Laws.{Small, monitor_read}
-use Rattle.live.specs.Live.{is_refused, is_broken}
+use Rattle.live.specs.Live.{is_refused}
 use Rattle.feed_log.specs.declared.Run.{Run}
 use Rattle.feed_log.specs.Feeds.{last_number, counts_of}
 use Rattle.feed_log.specs.Run.{kind_now, reached_as, Takes, none_yet, one_more, Stops, Ran}

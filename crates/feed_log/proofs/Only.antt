@@ -1,12 +1,12 @@
 -- Live bytes, kind and log fix what a call says and the bytes after it. Assumes nothing.
 use mathlib.Core.Path.{◌≡◌, refl, sym, ap, subst, ◌∙◌}
-use mathlib.Core.Bool.{Bool, true, false, cond, ◌||◌}
+use mathlib.Core.Bool.{true, false, ◌||◌}
 use mathlib.Core.Logic.{◌≢◌, inl, inr}
 use mathlib.Core.List.{List, ◌++◌}
 use Prim.Native.Nat.{ℕ, ◌+◌, ◌*◌, ◌/◌, ◌%◌, ◌^◌, ◌<◌}
 use native.Mathlib.Omega.{arith}
 use lib.ListN.{length, drop}
-use Rattle.base.specs.Lists.{Snoc, ε, ◌▸◌, size}
+use Rattle.base.specs.Lists.{Snoc, ◌▸◌, size}
 use Rattle.base.proofs.Bools.{clash, split}
 use Rattle.model.specs.Chart.{most_regions, most_clocks}
 use Rattle.model.specs.declared.Monitor.{Monitor}
@@ -15,7 +15,6 @@ use Rattle.model.specs.declared.Answer.{Answer}
 use Rattle.model.specs.Answers.{answer_number}
 use Rattle.rounds.specs.Machine.{Step as AbstractStep}
 use Rattle.stepping.specs.declared.Step.{Step}
-use Rattle.stepping.specs.Monitors.{monitor_at}
 use Rattle.monitor.specs.Stored.{Stored}
 use Rattle.monitor.proofs.History.{view_tells}
 use Rattle.log_reader.specs.declared.RecordRefusal.{RecordRefusal}
@@ -28,9 +27,8 @@ use Rattle.log_clock.specs.declared.Dated.TheVariants as dated
 use Rattle.monitor_image.specs.MonitorImage.{monitor_size, monitor_bytes, monitor_in}
 use Rattle.live.specs.Live.{is_refused, is_broken, bytes_fed, LiveFed}
 use Rattle.live.proofs.History.{one_answer}
-use Rattle.feed_log.specs.declared.LogFed.{LogFed}
 use Rattle.feed_log.specs.Feeds.{Outcome, Feeds, at_break, at_end, at_no_record, at_no_moment, at_refused, taken}
-use Rattle.feed_log.specs.Feeds.{FeedsLog, refuses, feeds, counts_of, last_number, FedLog, FeedsTell}
+use Rattle.feed_log.specs.Feeds.{FeedsLog, refuses, feeds, counts_of, last_number, FeedsTell}
 
 -- four bytes are 32 bits
 four_bytes : (x : ℕ) → (x / 0x100_0000 % 256 * 256 + x / 0x1_0000 % 256) * 65536 + (x / 0x100 % 256 * 256 + x % 256)

@@ -16,7 +16,6 @@ use Rattle.wire.specs.Writing.{Wrote}
 use Rattle.monitor_image.specs.MonitorImage.{monitor_size, monitor_bytes}
 use Rattle.live.specs.Live.{is_broken}
 use Rattle.live.proofs.Feeding.{monitor_at_start}
-use Rattle.feed_log.specs.declared.Run.{Run}
 use Rattle.feed_log.specs.Run.{reached_as, checked_number, stop_number, bytes_after}
 
 module _ (k : Kind) (p : Pace) (m : Monitor) (at last : ℕ) (counts : List ℕ) where

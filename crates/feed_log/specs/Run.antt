@@ -1,5 +1,5 @@
 -- The loop over the records, for the functions that make up the call.
-use Rattle.std.specs.Prelude.{◌≡◌, ◌⊎◌, ◌≢◌, Bool, false, cond, not, List, ◌++◌, ℕ, ◌+◌, ◌-◌, ◌<◌, eqb, drop}
+use Rattle.std.specs.Prelude.{◌≡◌, ◌⊎◌, ◌≢◌, false, cond, List, ◌++◌, ℕ, ◌+◌, ◌-◌, ◌<◌, eqb, drop}
 use Rattle.base.specs.Lists.{Snoc, ε, ◌▸◌, size}
 use Rattle.model.specs.declared.Moment.{Moment}
 use Rattle.model.specs.declared.Monitor.{Monitor}
@@ -10,7 +10,6 @@ use Rattle.rounds.specs.Machine.{feed}
 use Rattle.chart_value.specs.Records.{log_record}
 use Rattle.stepping.specs.declared.Step.{Step}
 use Rattle.stepping.specs.Monitors.{monitor_at, step_of}
-use Rattle.monitor.specs.Stored.{Stored}
 use Rattle.log_reader.specs.declared.Next.{Next}
 use Rattle.log_clock.specs.declared.Kind.{Kind}
 use Rattle.log_clock.specs.declared.Kind.TheVariants.{Unset, Plain, Raw}

@@ -32,7 +32,7 @@ use Rattle.log_check.proofs.Sound.{all_sound}
 use Rattle.judge.specs.Said as judge
 use Rattle.judge.specs.Judge.{by_check, judge_of}
 use Rattle.breaks.specs.declared.BreakAnswer.{BreakAnswer}
-use Rattle.breaks.specs.declared.BreakAnswer.TheVariants.{Yes, No, Refused}
+use Rattle.breaks.specs.declared.BreakAnswer.TheVariants.{Yes, No}
 use Rattle.breaks.specs.Numbers.{break_number, break_offset}
 use Rattle.breaks.specs.Breaks.{by_fault, answer_by, breaks_of}
 use Rattle.claims.specs.Demand1.{JudgesAs}

@@ -1,4 +1,6 @@
 // Witnesses: rounds, rows, steps and feeds that are written out and meet the definitions of the theory.
+#![tactic(auto)]
+
 ghost use Rattle.witness_rounds.specs.Cases.{Cases};
 ghost use Rattle.witness_rounds.specs.Witnesses.{Witnesses};
 

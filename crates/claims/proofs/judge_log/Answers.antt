@@ -5,8 +5,8 @@ use Rattle.claims.proofs.judge_log.Goals as goal
 
 pub returns : goal.returns
 returns c = record {
-      demand = judges_just c.args.chart
+  demand = judges_just c.args.chart
       (exact_test c.args.chart _ c.well_formed.0 _ refl).1 _ _
       c.judge.ensures.verdict;
-      unchanged = c.judge.ensures.unchanged;
-    }
+  unchanged = c.judge.ensures.unchanged;
+}

@@ -3,6 +3,6 @@ use Rattle.claims.proofs.read_chart.Goals as goal
 
 pub returns : goal.returns
 returns c = record {
-      demand = reads_just _ _ c.read.ensures.answer;
-      unchanged = c.read.ensures.unchanged;
-    }
+  demand = reads_just _ _ c.read.ensures.answer;
+  unchanged = c.read.ensures.unchanged;
+}

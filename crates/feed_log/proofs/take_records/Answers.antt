@@ -47,10 +47,10 @@ accept-s-requires c =
     let F = l.invariant.fit in record {
       compiled = c.requires.compiled;
       offerable = record {
-          moments = λ i. omega (arith, F.moments i, met_later l.invariant _ _ _ M);
-          few = met_few l.invariant _ _ _ M;
-          counts = F.counts;
-        };
+        moments = λ i. omega (arith, F.moments i, met_later l.invariant _ _ _ M);
+        few = met_few l.invariant _ _ _ M;
+        counts = F.counts;
+      };
       covers = rw c.slot_of.ensures.value (slot_covers c.slots_of-slots.ensures c.requires.compiled.regions _);
     }
 

@@ -9,10 +9,9 @@ use Rattle.witness_rounds.proofs.Ways.{nothing_fired_case, prechart_done_case}
 use Rattle.witness_rounds.proofs.Shared.{shared_fed, dropped_twice, shared_judged, twice_judged, missed_starts}
 use Rattle.witness_rounds.proofs.Shared.{missed_fails, missed_ends, condition_failed, twice_moves}
 use Rattle.witness_rounds.proofs.Shared.{twice_fails, unmatched_once}
-use Rattle.witness_rounds.proofs.rounds.Statement.{statement}
-use Rattle.witness_rounds.proofs.rounds.Tie as tie
+use Rattle.witness_rounds.proofs.rounds.Goals as goal
 
-returns : tie.Need-returns
+pub returns : goal.returns
 returns c = record {
   round_u_shown = round_u_shown;
   kept_a_shown = kept_a_shown;
@@ -56,6 +55,3 @@ returns c = record {
   twice_fails = twice_fails;
   unmatched_once = unmatched_once;
 }
-
-pub rounds-spec : {M : Type 1} → statement M
-rounds-spec = tie.close (tie.spec returns)

@@ -1,10 +1,9 @@
 use Rattle.request_claims.proofs.Besides.{breaks_judged, breaks_refused}
 use Rattle.save_claims.proofs.Saving.{saved_read, bytes_tell}
 use Rattle.request_claims.proofs.Marking.{fed_alike, judged_alike}
-use Rattle.request_claims.proofs.requests.Statement.{statement}
-use Rattle.request_claims.proofs.requests.Tie as tie
+use Rattle.request_claims.proofs.requests.Goals as goal
 
-returns : tie.Need-returns
+pub returns : goal.returns
 returns c = record {
   breaks_judged = breaks_judged;
   breaks_refused = breaks_refused;
@@ -13,6 +12,3 @@ returns c = record {
   marks_fed = fed_alike;
   marks_judged = judged_alike;
 }
-
-pub requests-spec : {M : Type 1} → statement M
-requests-spec = tie.close (tie.spec returns)
