@@ -13,9 +13,11 @@ use Rattle.chart_command.specs.declared.Command.TheVariants.{Heading, Message, P
 use Rattle.chart_command.specs.declared.Command.TheVariants.{Rest, Resets, Main, End}
 use Rattle.chart_command.specs.declared.Decoded.TheVariants as decoded
 use Rattle.chart_command.proofs.Laws.{decode_cases}
+use Rattle.chart_step.specs.declared.Reading.{Reading}
 use Rattle.chart_step.specs.declared.Fault.{Fault}
 use Rattle.chart_step.specs.declared.Fault.TheVariants.{Nothing, Found}
-use Rattle.chart_step.specs.Reading.{Reading, Outcome, Going, Ended, Refused}
+use Rattle.chart_step.specs.declared.Outcome.{Outcome}
+use Rattle.chart_step.specs.declared.Outcome.TheVariants.{Going, Ended, Refused}
 use Rattle.chart_step.specs.Reading.{fault_of, decided, applied, outcome_of}
 use Rattle.chart_reader.specs.Read.{read_from, read_chart, start_reading, continue_by, advance_of, advance_by}
 use Rattle.chart_reader.specs.Said.{Said}

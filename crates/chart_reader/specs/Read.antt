@@ -5,7 +5,10 @@ use Rattle.chart_command.specs.declared.Decoded.{Decoded}
 use Rattle.chart_command.specs.declared.Decoded.TheVariants as decoded
 use Rattle.chart_command.specs.Command.{decode_at}
 use Rattle.chart_step.specs.declared.Refusal.TheVariants.{CutShort, Unknown}
-use Rattle.chart_step.specs.Reading.{Reading, Outcome, Going, Ended, Refused, Step}
+use Rattle.chart_step.specs.declared.Reading.{Reading}
+use Rattle.chart_step.specs.declared.Step.{Step}
+use Rattle.chart_step.specs.declared.Outcome.{Outcome}
+use Rattle.chart_step.specs.declared.Outcome.TheVariants.{Going, Ended, Refused}
 use Rattle.chart_step.specs.Reading.{step_of}
 use Rattle.chart_reader.specs.Said.{Said, accepted_as, refused_for}
 

@@ -19,30 +19,12 @@ use Rattle.chart_step.specs.declared.Refusal.{Refusal}
 use Rattle.chart_step.specs.declared.Refusal.TheVariants.{Misplaced, Outside, Excess, Bare}
 use Rattle.chart_step.specs.declared.Refusal.TheVariants.{HotAlone, Early, RestInPrechart, Unanchored}
 use Rattle.chart_step.specs.declared.Refusal.TheVariants.{Mainless, Trailing}
+use Rattle.chart_step.specs.declared.Reading.{Reading}
 use Rattle.chart_step.specs.declared.Fault.{Fault}
 use Rattle.chart_step.specs.declared.Fault.TheVariants.{Nothing, Found}
-
--- What is known between two commands: whether the heading and 50 were read, whether a region was started in this half
--- and at which offset, the lines that the regions started so far touch, the region last started, and the chart with the
--- regions closed so far.
-pub record Reading : Type 0 where
-  pub headed : Bool
-  pub main : Bool
-  pub started : Bool
-  pub start : ℕ
-  pub touched : ℕ
-  pub region : Region
-  pub chart : Chart
-
--- a command leads to the next offset, ends the chart, or is refused
-pub data Outcome : Type 0 where
-  Going : ℕ → Outcome
-  Ended : Outcome
-  Refused : Refusal → ℕ → Outcome
-
-pub record Step : Type 0 where
-  pub outcome : Outcome
-  pub reading : Reading
+use Rattle.chart_step.specs.declared.Outcome.{Outcome}
+use Rattle.chart_step.specs.declared.Outcome.TheVariants.{Going, Ended, Refused}
+use Rattle.chart_step.specs.declared.Step.{Step}
 
 -- there are five relations
 abbrev pub relation_count : ℕ

@@ -21,7 +21,9 @@ use Rattle.chart_command.specs.Bytes.{rest_byte, resets_byte, main_byte, end_byt
 use Rattle.chart_command.specs.Command.{decode_at, decode_byte, operands}
 use Rattle.chart_step.specs.declared.Fault.{Fault}
 use Rattle.chart_step.specs.declared.Fault.TheVariants.{Nothing}
-use Rattle.chart_step.specs.Reading.{Reading, Going, Ended, Step}
+use Rattle.chart_step.specs.declared.Reading.{Reading}
+use Rattle.chart_step.specs.declared.Outcome.TheVariants.{Going, Ended}
+use Rattle.chart_step.specs.declared.Step.{Step}
 use Rattle.chart_step.specs.Reading.{fault_of, decided, applied, outcome_of, with_term}
 use Rattle.model.specs.declared.Left.TheVariants.{Clock, Difference}
 use Rattle.chart_reader.specs.Read.{read_from, continue_by, advance_of, advance_by, read_chart, start_reading}

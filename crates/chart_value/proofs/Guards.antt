@@ -15,7 +15,9 @@ use Rattle.model.specs.Chart.{most_lines, most_regions, most_terms}
 use Rattle.chart_command.specs.declared.Command.TheVariants.{Message, ClockTerm, DifferenceTerm}
 use Rattle.chart_step.specs.declared.Fault.TheVariants.{Nothing}
 use Rattle.chart_step.specs.declared.Refusal.TheVariants.{CutShort, Misplaced, Outside, Excess}
-use Rattle.chart_step.specs.Reading.{Reading, Outcome, Going, Ended, Refused}
+use Rattle.chart_step.specs.declared.Reading.{Reading}
+use Rattle.chart_step.specs.declared.Outcome.{Outcome}
+use Rattle.chart_step.specs.declared.Outcome.TheVariants.{Going, Ended, Refused}
 use Rattle.chart_step.specs.Reading.{fault_of, is_outside, closing_fault}
 use Rattle.chart_reader.specs.Read.{read_chart, read_from, continue_by, advance_of, start_reading}
 use Rattle.chart_reader.specs.Said.{Said, accepted_as}

@@ -27,7 +27,7 @@ use Rattle.model.specs.Chart.{zero_term, zero_region, absent_region, region_at, 
 use Rattle.chart_command.specs.Bytes.{hot_byte, rest_byte, resets_byte, main_byte, end_byte}
 use Rattle.chart_step.specs.declared.Fault.TheVariants.{Nothing}
 use Rattle.chart_step.specs.declared.Refusal.TheVariants.{Bare, HotAlone}
-use Rattle.chart_step.specs.Reading.{Reading}
+use Rattle.chart_step.specs.declared.Reading.{Reading}
 use Rattle.chart_step.specs.Reading.{first_fault, closing_fault, closed, or_else, when, with_term, relation_of}
 use Rattle.chart_step.specs.Reading.{relation_count, begun_with, with_main, with_heading}
 use Rattle.chart_reader.specs.Read.{read_chart, start_reading}

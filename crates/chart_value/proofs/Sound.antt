@@ -36,7 +36,10 @@ use Rattle.chart_step.specs.declared.Refusal.{Refusal}
 use Rattle.chart_step.specs.declared.Refusal.TheVariants.{CutShort, Misplaced, Outside, Excess, Bare, HotAlone, Early}
 use Rattle.chart_step.specs.declared.Refusal.TheVariants.{RestInPrechart, Unanchored, Mainless}
 use Rattle.chart_step.proofs.Numbers.{refusal_nonzero}
-use Rattle.chart_step.specs.Reading.{Reading, Outcome, Going, Ended, Refused, Step}
+use Rattle.chart_step.specs.declared.Reading.{Reading}
+use Rattle.chart_step.specs.declared.Outcome.{Outcome}
+use Rattle.chart_step.specs.declared.Outcome.TheVariants.{Going, Ended, Refused}
+use Rattle.chart_step.specs.declared.Step.{Step}
 use Rattle.chart_step.specs.Reading.{step_of, fault_of, decided, applied, outcome_of, closing_fault, closed, or_else, when}
 use Rattle.chart_step.specs.Reading.{with_term, relation_of, begun_with, with_region, with_main, with_heading, is_outside}
 use Rattle.chart_step.specs.Reading.{is_unanchored, is_mainless}

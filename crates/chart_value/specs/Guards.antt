@@ -5,7 +5,8 @@ use Rattle.model.specs.declared.Chart.{Chart}
 use Rattle.model.specs.Chart.{most_lines, most_regions, most_terms}
 use Rattle.chart_command.specs.declared.Command.TheVariants.{Message, ClockTerm, DifferenceTerm}
 use Rattle.chart_step.specs.declared.Fault.TheVariants.{Nothing}
-use Rattle.chart_step.specs.Reading.{Reading, Going, Ended}
+use Rattle.chart_step.specs.declared.Reading.{Reading}
+use Rattle.chart_step.specs.declared.Outcome.TheVariants.{Going, Ended}
 use Rattle.chart_step.specs.Reading.{fault_of}
 use Rattle.chart_reader.specs.Read.{advance_of, start_reading, read_chart}
 use Rattle.chart_reader.specs.Said.{accepted_as}

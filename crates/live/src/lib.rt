@@ -169,9 +169,11 @@ fn refused(k: FeedRefusal) -> LiveVerdict
 
 // V12: the verdict so far of a monitor for a chart.
 fn standing_of(chart: Chart, m: Monitor) -> LiveVerdict
-    requires { well_formed chart ≡ true }
     ensures { result ≡ standing_by chart m }
 {
+    if !chart_value::well_formed(chart) {
+        return refused(FeedRefusal::NotAChart);
+    }
     let p = plan::compile(chart);
     let h = p.head;
     if !monitor::is_fit(h, &p.keys, &p.above, &p.resets, &p.terms, m) {
@@ -186,11 +188,7 @@ pub fn standing(live: &[u8]) -> LiveVerdict
     ensures value { result ≡ standing_in live.now }
     ensures unchanged { live.exit.now ≡ live.entry.now }
 {
-    let chart = chart_in(live);
-    if chart.count == 0 {
-        return refused(FeedRefusal::NotAChart);
-    }
-    standing_of(chart, monitor_image::monitor_at(live))
+    standing_of(chart_in(live), monitor_image::monitor_at(live))
 }
 
 // V3, V13: which bytes hold a live monitor, and that feeding them is feeding the monitor in them.

@@ -2,9 +2,9 @@ use Rattle.chart_step.proofs.closing_fault.Goals as goal
 
 pub returns : goal.returns
 returns c =
-    λ ts gs. rw (
+    rw (
       c.or_else.ensures,
-      c.when-alone.ensures,
       c.when.ensures,
-      c.is_plain.ensures,
+      c.when-bare.ensures,
+      c.is_bare.ensures,
     )

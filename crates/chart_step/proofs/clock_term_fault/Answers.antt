@@ -1,4 +1,0 @@
-use Rattle.chart_step.proofs.clock_term_fault.Goals as goal
-
-pub returns : goal.returns
-returns c = λ n next more ts gs. c.term_fault.ensures next
