@@ -9,7 +9,7 @@ use Rattle.base.proofs.Bools.{split, clash, or_left}
 use Rattle.base.proofs.Facts.{all_of, all_at, empty_snoc}
 use Rattle.model.specs.declared.Chart.{Chart}
 use Rattle.model.specs.declared.Cause.{Cause}
-use Rattle.resting.specs.Rest.{rests as restsTest}
+use Rattle.resting.specs.Rest.{rests as rests_test}
 use Rattle.resting.proofs.Exact.{exact}
 use Rattle.rounds.specs.Chart.{Chart as Abstract, Accepted}
 use Rattle.rounds.specs.Rows.{LogRecord, Row, stands, Lawful, LawfulBy}
@@ -40,7 +40,7 @@ module _ (c : Chart) where
   abbrev by_fired : (ℕ → Bool) → ℕ
   by_fired fired =
       cond (all_below c.count (λ i. not (fired i))) nothing_fired
-      (cond (not (prechart_done (chart_of c) fired)) in_prechart (cond (restsTest c fired) resting owed))
+      (cond (not (prechart_done (chart_of c) fired)) in_prechart (cond (rests_test c fired) resting owed))
 
   -- nothing is fired exactly if the row is empty
   module _ (r : Row) where
@@ -53,7 +53,7 @@ module _ (c : Chart) where
         done : r ≢ ε → all_below c.count (λ i. not (stands r i)) ≡ false → StandsAs c r (by_fired (stands r))
         done n e = elim (split (prechart_done (chart_of c) (stands r))) [
           | inr d ↦ rw (e, d) (in_prechart_case n (done_false (chart_of c) (stands r) d))
-          | inl d ↦ elim (split (restsTest c (stands r))) [
+          | inl d ↦ elim (split (rests_test c (stands r))) [
             | inl t ↦ rw (e, d, t) (rests n (done_true (chart_of c) (stands r) d) ((exact c (stands r)).0 t))
             | inr t ↦ rw (e, d, t) (owes n (done_true (chart_of c) (stands r) d)
                 (λ R. clash ((exact c (stands r)).1 R) t))
@@ -70,7 +70,7 @@ module _ (c : Chart) where
     row_only s k (opens e) = rw (none_there e)
     row_only s k (in_prechart_case n d) = rw (s n, done_is_not (chart_of c) (stands r) d)
     row_only s k (owes n d t) =
-        elim (split (restsTest c (stands r))) [
+        elim (split (rests_test c (stands r))) [
           | inl y ↦ absurd (t ((exact c (stands r)).0 y))
           | inr y ↦ rw (s n, done_is (chart_of c) (stands r) d, y)
         ]

@@ -5,8 +5,8 @@
 
 ghost use Rattle.std.specs.Prelude.{◌≡◌};
 ghost use Rattle.model.specs.Monitor.{zero_monitor};
-ghost use Rattle.chart_reader.specs.Said.{said as readSaid};
-ghost use Rattle.judge.specs.Said.{said as judgeSaid};
+ghost use Rattle.chart_reader.specs.Said.{said as read_said};
+ghost use Rattle.judge.specs.Said.{said as judge_said};
 ghost use Rattle.claims.specs.Claims.{Claims};
 ghost use Rattle.base.specs.Just.{Just};
 ghost use Rattle.claims.specs.Demand1.{ReadsAs, JudgesAs};
@@ -20,7 +20,7 @@ use model::{Chart, Moment, Monitor};
 
 // Reading a chart: every byte string.
 pub fn read_chart(bytes: &[u8]) -> ChartRead
-    ensures demand { Just (ReadsAs bytes.now) (readSaid result) }
+    ensures demand { Just (ReadsAs bytes.now) (read_said result) }
     ensures unchanged { bytes.exit.now ≡ bytes.entry.now }
 {
     chart_reader::read(bytes)
@@ -28,7 +28,7 @@ pub fn read_chart(bytes: &[u8]) -> ChartRead
 
 // Judging a whole log: every chart value and byte string.
 pub fn judge_log(chart: Chart, log: &[u8]) -> Judgement
-    ensures demand { Just (JudgesAs chart log.now) (judgeSaid result) }
+    ensures demand { Just (JudgesAs chart log.now) (judge_said result) }
     ensures unchanged { log.exit.now ≡ log.entry.now }
 {
     judge::judge(chart, log)

@@ -5,7 +5,6 @@ ghost use Rattle.std.specs.Prelude.{◌≡◌, true, ◌+◌, ◌≤◌, length}
 ghost use Rattle.model.specs.Answers.{feed_refusal_number, zero_verdict};
 ghost use Rattle.wire.specs.Writing.{Wrote};
 ghost use Rattle.base.specs.Lists.{ε};
-ghost use Rattle.chart_value.specs.WellFormed.{well_formed};
 ghost use Rattle.stepping.specs.Answers.{HandsBack};
 ghost use Rattle.stepping.specs.Monitors.{step_of};
 ghost use Rattle.monitor.specs.Feed.{feed_of};

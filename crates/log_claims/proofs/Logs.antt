@@ -49,7 +49,7 @@ use Rattle.log_check.specs.declared.LogRefusal.TheVariants.{NoRecord, NoMoment, 
 use Rattle.log_check.specs.declared.Checked.{Checked}
 use Rattle.log_check.specs.declared.Checked.TheVariants as checked
 use Rattle.log_check.specs.declared.CheckStep.TheVariants.{Over, Going}
-use Rattle.log_check.specs.Check.{step_by, step_at, continue_by as checkOn, check_from, check_log}
+use Rattle.log_check.specs.Check.{step_by, step_at, continue_by as check_on, check_from, check_log}
 use Rattle.log_check.specs.Refusal.{log_refusal_number}
 use Rattle.log_check.proofs.Laws.{came_to, Left, left_first, left_step, left_going}
 use Rattle.base.specs.Just.{Just}
@@ -393,7 +393,7 @@ module _ (s : List ℕ) where
       by : (d : Dated) → dated_at s at k last ≡ d → Seen s at last.0 k d
           → ((ds : Snoc Record) (q : ℕ) (j : Kind) (t : Moment) → Walk s ds j q t.0 → length s < q + f
           → Checks s (check_from f s q j t (size ds)))
-          → Checks s (checkOn (check_from f s) (step_by at last (size es) d))
+          → Checks s (check_on (check_from f s) (step_by at last (size es) d))
       by d q (sees_end F) i = fine W F
       by d q (sees_none g F) i = bad W (NoRecord g) (no_record k _ F)
       by d q (sees_fault g F) i = bad W (NoMoment g) (F es)
@@ -401,7 +401,7 @@ module _ (s : List ℕ) where
           tests (ltb (time_of e).0 last.0) (leb most_records (size es)) refl refl
         where
           tests : (a b : Bool) → ltb (time_of e).0 last.0 ≡ a → leb most_records (size es) ≡ b
-              → Checks s (checkOn (check_from f s)
+              → Checks s (check_on (check_from f s)
               (cond a (Over (checked.Refused (NoMoment Falls) at))
               (cond b (Over (checked.Refused TooManyRecords at)) (Going p kind (time_of e) (size es + 1)))))
           tests true b x y = bad W (NoMoment Falls) (N (ltb-true _ _ x) (walked s W).first es)

@@ -4,14 +4,14 @@
 
 ghost use Rattle.std.specs.Prelude.{◌≡◌};
 ghost use Rattle.base.specs.Just.{Just};
-ghost use Rattle.log_reader.specs.Record.{said as recordSaid};
+ghost use Rattle.log_reader.specs.Record.{said as record_said};
 ghost use Rattle.log_claims.specs.Logs.{FindsAs};
 
 use log_reader::Next;
 
 // Reading one record: every byte string and offset.
 pub fn read_record(log: &[u8], offset: usize) -> Next
-    ensures demand { Just (FindsAs log.now offset) (recordSaid offset result) }
+    ensures demand { Just (FindsAs log.now offset) (record_said offset result) }
     ensures unchanged { log.exit.now ≡ log.entry.now }
 {
     log_reader::read_record(log, offset)

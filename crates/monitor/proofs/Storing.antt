@@ -26,7 +26,7 @@ use Rattle.model.specs.Answers.{most_records}
 use Rattle.rounds.specs.Chart.{Chart as Abstract}
 use Rattle.rounds.specs.Rows.{LogRecord}
 use Rattle.rounds.specs.Tally.{Tally as AbstractTally}
-use Rattle.rounds.specs.Feeds.{Answer as AbstractAnswer, refused, broken_at, keptNow, dropped_now, entered, moved, quiet}
+use Rattle.rounds.specs.Feeds.{Answer as AbstractAnswer, refused, broken_at, kept_now, dropped_now, entered, moved, quiet}
 use Rattle.rounds.specs.Machine.{Monitor as AbstractMonitor, Fit, accept, feed}
 use Rattle.base.proofs.Bools.{split, or_right}
 use Rattle.stepping.specs.Answers.{answer_of}
@@ -143,7 +143,7 @@ answered_so : (a : AbstractAnswer) → NotRefused a → AnsweredAs a
 unfolding NotRefused
 answered_so (refused k) t = absurd t
 answered_so (broken_at n k x) t = record { answer = Broken n k x; tells = refl }
-answered_so keptNow t = record { answer = Kept; tells = refl }
+answered_so kept_now t = record { answer = Kept; tells = refl }
 answered_so (dropped_now x) t = record { answer = Dropped x; tells = refl }
 answered_so entered t = record { answer = Entered; tells = refl }
 answered_so moved t = record { answer = Moved; tells = refl }

@@ -9,7 +9,7 @@ use Rattle.model.specs.declared.Cause.{Cause}
 use Rattle.model.specs.Monitor.{no_cause, cause_of}
 use Rattle.rounds.specs.Chart.{Chart, Accepted}
 use Rattle.rounds.specs.Rows.{LogRecord, chart_message, Full, PrechartDone}
-use Rattle.rounds.specs.Feeds.{no_ready_region, condition_fails, Answer, refused, broken_at, keptNow, dropped_now, entered}
+use Rattle.rounds.specs.Feeds.{no_ready_region, condition_fails, Answer, refused, broken_at, kept_now, dropped_now, entered}
 use Rattle.rounds.specs.Feeds.{moved, quiet}
 use Rattle.rounds.specs.Machine.{Place, Move, stuck, fails, rests, take_message, Monitor, Step, full, prechart_done, go_on}
 use Rattle.rounds.specs.Machine.{keep_round, drop_round, break_round, conclude, offer}
@@ -54,7 +54,7 @@ case_for b (refused k) = 0
 case_for b quiet = 0
 case_for b moved = 1
 case_for b entered = 2
-case_for b keptNow = 3
+case_for b kept_now = 3
 case_for b (dropped_now x) = cond b 6 4
 case_for b (broken_at n k x) = cond b 7 5
 
@@ -87,7 +87,7 @@ module _ (C : Chart) (A : Accepted C) (m : Monitor) (e : LogRecord) (P : Offerab
     unfolding drop_round
     offered_drop x O = rw (opening_config C e.time) O
 
-    offered_keep : Offered C before e (keeping before e) keptNow → IsOffered (keep_round C m e)
+    offered_keep : Offered C before e (keeping before e) kept_now → IsOffered (keep_round C m e)
     unfolding keep_round
     offered_keep O = rw (opening_config C e.time) O
 
@@ -151,7 +151,7 @@ module _ (C : Chart) (A : Accepted C) (m : Monitor) (e : LogRecord) (P : Offerab
     offer_is = rw h (offered_move (take_message C m.place e) refl)
 
   -- and each case is the machine's step
-  is_keep : Is C (keep_round C m e) (keeping before e) keptNow
+  is_keep : Is C (keep_round C m e) (keeping before e) kept_now
   unfolding keep_round
   is_keep = (rw (opening_config C e.time), refl)
 

@@ -15,7 +15,7 @@ use Rattle.model.specs.declared.Cause.{Cause}
 use Rattle.rounds.specs.Chart.{Chart, Accepted}
 use Rattle.rounds.specs.Rows.{LogRecord, chart_message, chart_messages, PrechartDone}
 use Rattle.rounds.specs.Feeds.{last_moment, refusal, kept, dropped, broken, Outcome, Stretch, Last, unended, after_break}
-use Rattle.rounds.specs.Feeds.{last_after, Answer, refused, broken_at, keptNow, dropped_now, entered, moved, quiet}
+use Rattle.rounds.specs.Feeds.{last_after, Answer, refused, broken_at, kept_now, dropped_now, entered, moved, quiet}
 use Rattle.rounds.specs.Feeds.{runs_on, ends, Missed, Fits, refuses, once, twice, again, Fed, none_yet, one_more}
 use Rattle.rounds.specs.Feeds.{SaysDroppedOrBroken}
 use Rattle.rounds.specs.Machine.{Move, stuck, fails, rests, take_message, prechart_done, full, Monitor, go_on, keep_round}
@@ -49,7 +49,7 @@ use Rattle.paper.proofs.Deciding.{full_of, comes_enter, no_run, decided_by}
 dropped_broken : {X : Type 0} {n k : ℕ} {x y : Cause} → dropped_now y ≡ broken_at n k x → X
 dropped_broken p = absurd (let z : ◌≡◌ {A = ℕ} 0 1 = cc in omega arith)
 
-kept_broken : {X : Type 0} {n k : ℕ} {x : Cause} → keptNow ≡ broken_at n k x → X
+kept_broken : {X : Type 0} {n k : ℕ} {x : Cause} → kept_now ≡ broken_at n k x → X
 kept_broken p = absurd (let z : ◌≡◌ {A = ℕ} 0 1 = cc in omega arith)
 
 onward_broken : {X : Type 0} (b : Bool) {n k : ℕ} {x : Cause} → cond b entered moved ≡ broken_at n k x → X
@@ -64,7 +64,7 @@ abbrev first_only : Answer → Bool
 first_only (refused k) = false
 first_only (broken_at n k x) = true
 first_only (dropped_now x) = false
-first_only keptNow = true
+first_only kept_now = true
 first_only entered = true
 first_only moved = false
 first_only quiet = true
@@ -324,7 +324,7 @@ module _ (C : Chart) where
               )
         ]
 
-      pub kept_satisfies : (e : LogRecord) → (feed C here e).answer ≡ keptNow
+      pub kept_satisfies : (e : LogRecord) → (feed C here e).answer ≡ kept_now
           → (z : Config) × (P : Reaches C o (s ▸ e) z) × CompletedBy C C.regions P.letters
       kept_satisfies e p =
           let h : refusal rs e ≡ none = not_refused e (ap first_only p) in

@@ -7,7 +7,7 @@ use Rattle.base.specs.Lists.{Snoc, ε, ◌▸◌}
 use Rattle.model.specs.declared.Cause.{Cause}
 use Rattle.rounds.specs.Chart.{Chart, condition_of}
 use Rattle.rounds.specs.Rows.{LogRecord, Row, plain, chart_messages, Ready, Full, PrechartDone, Lawful}
-use Rattle.rounds.specs.Feeds.{refusal, unended, Answer, keptNow, dropped_now, broken_at, entered, moved, SaysRunsOn}
+use Rattle.rounds.specs.Feeds.{refusal, unended, Answer, kept_now, dropped_now, broken_at, entered, moved, SaysRunsOn}
 use Rattle.rounds.specs.Feeds.{SaysDroppedOrBroken}
 use Rattle.rounds.specs.Machine.{Monitor, feed, after, answers, Fit}
 use Rattle.rounds.specs.Demand3.{Agrees, Meaning}
@@ -41,7 +41,7 @@ module _ (C : Chart) where
   -- word decide a:
   pub record Decided (o : ℕ) (s : Snoc LogRecord) (e : LogRecord) (a : Answer) : Type 0 where
     -- kept exactly if one ends in the maximal cut
-    pub kept_exactly : (a ≡ keptNow) ↔ ((z : Config) × Reaches o (s ▸ e) z × Maximal C C.regions z.cut)
+    pub kept_exactly : (a ≡ kept_now) ↔ ((z : Config) × Reaches o (s ▸ e) z × Maximal C C.regions z.cut)
     -- running on exactly if one ends short of it
     pub runs_on_exactly : SaysRunsOn a ↔ ((z : Config) × Reaches o (s ▸ e) z × (¬ Maximal C C.regions z.cut))
     -- entered exactly if one ends short of it with all prechart regions, and one over the word before the record ends
@@ -158,7 +158,7 @@ pub record Demand2 (C : Chart) : Type 0 where
   -- where it is answered kept, the whole chart
   pub kept_satisfies : {fs : Snoc LogRecord} (M : Meaning C fs) (o : ℕ) (s : Snoc LogRecord) (e : LogRecord)
       → M.last ≡ unended o s
-      → (feed C (after C fs) e).answer ≡ keptNow
+      → (feed C (after C fs) e).answer ≡ kept_now
       → (z : Config) × (P : Reaches C o (s ▸ e) z) × CompletedBy C C.regions P.letters
   -- the run that completes a word consumes each delay and each message of it
   pub completed_whole : (n : ℕ) (w : Snoc Letter) (K : CompletedBy C n w) → strip K.satisfies.prefix ≡ strip w

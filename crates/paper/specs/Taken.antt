@@ -10,7 +10,7 @@ use Rattle.rounds.specs.Chart.{Chart}
 use Rattle.rounds.specs.Rows.{LogRecord, chart_message, Ready, Full, PrechartDone}
 use Rattle.rounds.specs.Tally.{Tally, fresh_tally, counted, counted_kept, counted_dropped, counted_broken, reopened_tally}
 use Rattle.rounds.specs.Feeds.{no_ready_region, condition_fails, Answer, refused}
-use Rattle.rounds.specs.Feeds.{broken_at, keptNow, dropped_now, entered, moved, quiet}
+use Rattle.rounds.specs.Feeds.{broken_at, kept_now, dropped_now, entered, moved, quiet}
 use Rattle.rounds.specs.Machine.{Monitor, Fit}
 use Rattle.paper.specs.Runs.{Config, Letter, silent, initial, strip, wait, Advance, by, Next, Prompt, Over}
 use Rattle.paper.specs.Runs.{config_at, spelled}
@@ -84,7 +84,7 @@ module _ (C : Chart) where
         → Offered x e (onward x e z) entered
     -- one that ends in the maximal cut
     keeps : (z : Config) → Over C x.config (word_of x e) z
-        → Full C z.cut → Offered x e (keeping x e) keptNow
+        → Full C z.cut → Offered x e (keeping x e) kept_now
     -- a region terminates in its turn; the cause is that region, with its first failing term
     fails_cold : (i : ℕ) (y : Config) → Turn x e i y
         → Terminates y i → Offered x e (dropping x e) (dropped_now (cause_of i (C.failing i y.valuation)))

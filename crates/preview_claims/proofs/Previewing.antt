@@ -34,7 +34,7 @@ use Rattle.chart_value.specs.Records.{log_record}
 use Rattle.chart_value.proofs.Shown.{shown}
 use Rattle.rounds.specs.Chart.{Chart as Abstract}
 use Rattle.rounds.specs.Rows.{LogRecord, chart_message}
-use Rattle.rounds.specs.Feeds.{Answer as AbstractAnswer, refused, broken_at, keptNow, dropped_now, entered, moved, quiet}
+use Rattle.rounds.specs.Feeds.{Answer as AbstractAnswer, refused, broken_at, kept_now, dropped_now, entered, moved, quiet}
 use Rattle.rounds.specs.Machine as machine
 use Rattle.rounds.specs.Machine.{feed, Fit}
 use Rattle.paper.specs.Taken as case
@@ -61,7 +61,7 @@ use Rattle.preview_claims.specs.Previews.{ForeseenAs, PreviewsAs, PreviewsJust, 
 abbrev is_refusal : AbstractAnswer → Bool
 is_refusal (refused k) = true
 is_refusal (broken_at n k x) = false
-is_refusal keptNow = false
+is_refusal kept_now = false
 is_refusal (dropped_now x) = false
 is_refusal entered = false
 is_refusal moved = false

@@ -10,7 +10,7 @@ use Rattle.model.specs.declared.Cause.{Cause}
 use Rattle.rounds.specs.Chart.{Chart, Accepted}
 use Rattle.rounds.specs.Rows.{LogRecord, Row, stands, Lawful, NoRow, Full}
 use Rattle.rounds.specs.Rows.{NoRowBy}
-use Rattle.rounds.specs.Feeds.{refusal, kept, unended, Ends, complete, Answer, refused, broken_at, keptNow}
+use Rattle.rounds.specs.Feeds.{refusal, kept, unended, Ends, complete, Answer, refused, broken_at, kept_now}
 use Rattle.rounds.specs.Feeds.{dropped_now, entered, moved, quiet, Onward, completes_prechart, fires, stays}
 use Rattle.rounds.specs.Feeds.{SaysRunsOn, SaysDroppedOrBroken, Missed, Fits, ExactlyOffered}
 use Rattle.rounds.specs.Machine.{Monitor, Step, go_on, keep_round, drop_round, break_round, reopened, feed, after}
@@ -26,7 +26,7 @@ use Rattle.rounds.proofs.Feeds.{feed_unbroken, besides_opened, Besides, besides,
 abbrev kind : Answer → ℕ
 kind (refused k) = 0
 kind (broken_at n k x) = 1
-kind keptNow = 2
+kind kept_now = 2
 kind (dropped_now x) = 1
 kind entered = 3
 kind moved = 3
@@ -45,10 +45,10 @@ module _ {X : Type 0} {a : Answer} where
   on≢lost : SaysRunsOn a → SaysDroppedOrBroken a → X
   on≢lost p q = let z : ◌≡◌ {A = ℕ} 3 1 = sym (on_kind p) ∙ lost_kind q in absurd (omega arith)
 
-  on≢kept : SaysRunsOn a → a ≡ keptNow → X
+  on≢kept : SaysRunsOn a → a ≡ kept_now → X
   on≢kept p q = let z : ◌≡◌ {A = ℕ} 3 2 = sym (on_kind p) ∙ ap kind q in absurd (omega arith)
 
-  lost≢kept : SaysDroppedOrBroken a → a ≡ keptNow → X
+  lost≢kept : SaysDroppedOrBroken a → a ≡ kept_now → X
   lost≢kept p q = let z : ◌≡◌ {A = ℕ} 1 2 = sym (lost_kind p) ∙ ap kind q in absurd (omega arith)
 
 module _ (C : Chart) (A : Accepted C) where

@@ -77,11 +77,11 @@ pub data Answer : Type 0 where
   refused : ℕ → Answer
   broken_at : ℕ → ℕ → Cause → Answer
   dropped_now : Cause → Answer
-  keptNow entered moved quiet : Answer
+  kept_now entered moved quiet : Answer
 
 -- W22: the answer where a stretch ends, at the n-th accepted record
 abbrev pub ending : Outcome → ℕ → Answer
-ending kept n = keptNow
+ending kept n = kept_now
 ending (dropped x) n = dropped_now x
 ending (broken k x) n = broken_at n k x
 
@@ -187,7 +187,7 @@ SaysDroppedOrBroken a = ((x : Cause) × (a ≡ dropped_now x)) ⊎ ((n k : ℕ) 
 -- W24, of the answer to record e after the stretch s
 pub record ExactlyBy (C : Chart) (T : Test) (o : ℕ) (s : Snoc LogRecord) (e : LogRecord) (a : Answer) : Type 0 where
   -- kept: some lawful row is complete
-  pub kept_exactly : (a ≡ keptNow) ↔ ((r : Row) × LawfulBy C T o (s ▸ e) r × Full C (stands r))
+  pub kept_exactly : (a ≡ kept_now) ↔ ((r : Row) × LawfulBy C T o (s ▸ e) r × Full C (stands r))
   -- running on: some lawful row is not
   pub runs_on_exactly : SaysRunsOn a ↔ ((r : Row) × LawfulBy C T o (s ▸ e) r × (¬ Full C (stands r)))
   -- dropped or broken: no row is lawful

@@ -11,7 +11,7 @@ use Rattle.rounds.specs.Rows.{LogRecord, chart_message, plain, Ready, Full, valu
 use Rattle.rounds.specs.Tally.{Tally, fresh_tally, counted, counted_kept, counted_dropped, counted_broken}
 use Rattle.rounds.specs.Tally.{reopened_tally}
 use Rattle.rounds.specs.Feeds.{no_ready_region, condition_fails, Answer}
-use Rattle.rounds.specs.Feeds.{refused, broken_at, keptNow, dropped_now, entered, moved, quiet}
+use Rattle.rounds.specs.Feeds.{refused, broken_at, kept_now, dropped_now, entered, moved, quiet}
 
 -- T1: which regions are fired, and when each clock was last reset
 pub record Place : Type 0 where
@@ -95,7 +95,7 @@ module _ (C : Chart) where
   -- T17, T18: one more round is kept, or dropped with cause z (T31), and another opens
   unfoldable pub keep_round : Monitor → LogRecord → Step
   keep_round m e = record {
-    answer = keptNow;
+    answer = kept_now;
     next = record { place = opening e.time; tally = counted_kept m.tally e.time };
   }
 

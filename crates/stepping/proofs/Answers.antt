@@ -8,7 +8,7 @@ use Rattle.model.specs.declared.FeedRefusal.TheVariants.{NotAChart, Unfit, TimeF
 use Rattle.model.specs.declared.Answer.{Answer}
 use Rattle.model.specs.declared.Answer.TheVariants.{Refused, Broken, Kept, Dropped, Entered, Moved, Quiet}
 use Rattle.model.specs.Answers.{feed_refusal_number, answer_number}
-use Rattle.rounds.specs.Feeds.{Answer as AbstractAnswer, refused, broken_at, keptNow, dropped_now, entered, moved, quiet}
+use Rattle.rounds.specs.Feeds.{Answer as AbstractAnswer, refused, broken_at, kept_now, dropped_now, entered, moved, quiet}
 use Rattle.stepping.specs.Answers.{answer_of, told_number}
 
 -- the refusal with a number
@@ -26,7 +26,7 @@ feed_refusal_lem TooManyRecords = refl
 ans : AbstractAnswer → Answer
 ans (refused k) = Refused (feed_refusal k)
 ans (broken_at n k x) = Broken n k x
-ans keptNow = Kept
+ans kept_now = Kept
 ans (dropped_now x) = Dropped x
 ans entered = Entered
 ans moved = Moved

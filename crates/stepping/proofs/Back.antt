@@ -12,7 +12,7 @@ use Rattle.model.specs.Answers.{time_falls, too_many_records, most_records}
 use Rattle.base.proofs.Bools.{split}
 use Rattle.rounds.specs.Chart.{Chart}
 use Rattle.rounds.specs.Rows.{LogRecord, chart_message}
-use Rattle.rounds.specs.Feeds.{Answer as AbstractAnswer, refused, broken_at, keptNow, dropped_now, entered, moved, quiet}
+use Rattle.rounds.specs.Feeds.{Answer as AbstractAnswer, refused, broken_at, kept_now, dropped_now, entered, moved, quiet}
 use Rattle.rounds.specs.Machine.{Monitor as AbstractMonitor, Step as AbstractStep, Move, stuck, fails, rests, full}
 use Rattle.rounds.specs.Machine.{take_message, prechart_done, go_on, keep_round, drop_round, break_round, conclude, offer}
 use Rattle.rounds.specs.Machine.{missed, fits_opening, reopened, accept, feed}
@@ -22,7 +22,7 @@ use Rattle.stepping.specs.Answers.{answer_of, HandsBack}
 unfoldable pub NotRefused : AbstractAnswer → Type 0
 NotRefused (refused k) = ⊥
 NotRefused (broken_at n k x) = Unit {0}
-NotRefused keptNow = Unit {0}
+NotRefused kept_now = Unit {0}
 NotRefused (dropped_now x) = Unit {0}
 NotRefused entered = Unit {0}
 NotRefused moved = Unit {0}

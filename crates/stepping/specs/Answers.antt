@@ -6,13 +6,13 @@ use Rattle.model.specs.declared.Answer.{Answer}
 use Rattle.model.specs.declared.Answer.TheVariants.{Refused, Broken, Kept, Dropped, Entered, Moved, Quiet}
 use Rattle.model.specs.Answers.{feed_refusal_number}
 use Rattle.rounds.specs.Feeds.{Answer as AbstractAnswer, refused, broken_at}
-use Rattle.rounds.specs.Feeds.{keptNow, dropped_now, entered, moved, quiet}
+use Rattle.rounds.specs.Feeds.{kept_now, dropped_now, entered, moved, quiet}
 use Rattle.stepping.specs.declared.Step.{Step}
 
 abbrev pub answer_of : Answer → AbstractAnswer
 answer_of (Refused k) = refused (feed_refusal_number k)
 answer_of (Broken n k x) = broken_at n k x
-answer_of Kept = keptNow
+answer_of Kept = kept_now
 answer_of (Dropped x) = dropped_now x
 answer_of Entered = entered
 answer_of Moved = moved
@@ -22,7 +22,7 @@ answer_of Quiet = quiet
 abbrev pub told_number : AbstractAnswer → ℕ
 told_number (refused k) = k
 told_number (broken_at n k x) = 1
-told_number keptNow = 2
+told_number kept_now = 2
 told_number (dropped_now x) = 3
 told_number entered = 4
 told_number moved = 5

@@ -11,7 +11,7 @@ use Rattle.chart_value.proofs.Shown.{shown_of}
 use Rattle.base.specs.Lists.{Snoc, ε, ◌▸◌}
 use Rattle.rounds.specs.Chart.{Accepted}
 use Rattle.rounds.specs.Rows.{LogRecord, stands, chart_messages, Lawful, Full, LawfulButLast, first_failing}
-use Rattle.rounds.specs.Feeds.{condition_fails, is_kept, Ends, complete, fails_cold, fails_hot, keptNow, dropped_now}
+use Rattle.rounds.specs.Feeds.{condition_fails, is_kept, Ends, complete, fails_cold, fails_hot, kept_now, dropped_now}
 use Rattle.rounds.specs.Feeds.{broken_at}
 use Rattle.rounds.proofs.Endings.{unlawful}
 use Rattle.rounds.proofs.Tested.{lawful_tested, waived_tested}
@@ -90,7 +90,7 @@ round_u_shown =
       row_before = lawful_tested U accepted_u 0 s round_u.row refl refl refl;
       row_with = (L, F);
       ends = complete round_u.whole L F;
-      taken = taken_anew U accepted_u s e 3 keptNow refl refl refl refl;
+      taken = taken_anew U accepted_u s e 3 kept_now refl refl refl refl;
     }
 
 pub kept_a_shown : RoundShown kept_a
@@ -107,7 +107,7 @@ kept_a_shown =
       row_before = lawful_tested A accepted_a 0 s kept_a.row refl refl refl;
       row_with = (L, F);
       ends = complete kept_a.whole L F;
-      taken = taken_anew A accepted_a s e 3 keptNow refl refl refl refl;
+      taken = taken_anew A accepted_a s e 3 kept_now refl refl refl refl;
     }
 
 pub dropped_a_shown : RoundShown dropped_a
@@ -148,7 +148,7 @@ kept_b_shown =
       row_before = lawful_tested B accepted_b 0 s kept_b.row refl refl refl;
       row_with = (L, F);
       ends = complete kept_b.whole L F;
-      taken = taken_anew B accepted_b s e 3 keptNow refl refl refl refl;
+      taken = taken_anew B accepted_b s e 3 kept_now refl refl refl refl;
     }
 
 pub dropped_b_shown : RoundShown dropped_b

@@ -15,7 +15,7 @@ use Rattle.base.specs.Lists.{Snoc, ε, ◌▸◌}
 use Rattle.rounds.specs.Chart.{Chart as Abstract}
 use Rattle.rounds.specs.Rows.{LogRecord, Row, stands, chart_messages, Lawful, NoRow, Full, LawfulButLast, first_failing}
 use Rattle.rounds.specs.Feeds.{condition_fails, Outcome, kept, dropped, broken}
-use Rattle.rounds.specs.Feeds.{Ends, Answer, keptNow, dropped_now, broken_at}
+use Rattle.rounds.specs.Feeds.{Ends, Answer, kept_now, dropped_now, broken_at}
 use Rattle.rounds.specs.Machine.{after}
 use Rattle.paper.specs.Runs.{Config, initial}
 use Rattle.paper.specs.Taken.{Status, Taken, case_of, status_of}
@@ -119,7 +119,7 @@ round_u = record {
   failing = none;
   outcome = kept;
   case = 3;
-  ans = keptNow;
+  ans = kept_now;
   status = status_as initial 140 3 1 0 0 0 no_cause;
   verdict = verdict_from 0 1 0 3 0 0 0 0;
 }
@@ -135,7 +135,7 @@ kept_a = record {
   failing = none;
   outcome = kept;
   case = 3;
-  ans = keptNow;
+  ans = kept_now;
   status = status_as initial 40 3 1 0 0 0 no_cause;
   verdict = verdict_from 0 1 0 3 0 0 0 0;
 }
@@ -183,7 +183,7 @@ kept_b = record {
   failing = none;
   outcome = kept;
   case = 3;
-  ans = keptNow;
+  ans = kept_now;
   status = status_as initial 69 2 1 0 0 0 no_cause;
   verdict = verdict_from 0 1 0 2 0 0 0 0;
 }

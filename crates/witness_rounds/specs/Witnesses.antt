@@ -8,7 +8,7 @@ use Rattle.base.specs.Lists.{Snoc, ε, ◌▸◌}
 use Rattle.rounds.specs.Chart.{Chart}
 use Rattle.rounds.specs.Rows.{Row, plain, NoRow, LawfulButLast}
 use Rattle.rounds.specs.Feeds.{no_ready_region, Outcome, kept, dropped, broken, unended, after_break, Ends}
-use Rattle.rounds.specs.Feeds.{refused, keptNow, dropped_now, broken_at, entered, moved, quiet, Onward, Missed, Fits, Fed}
+use Rattle.rounds.specs.Feeds.{refused, kept_now, dropped_now, broken_at, entered, moved, quiet, Onward, Missed, Fits, Fed}
 use Rattle.rounds.specs.Machine.{after}
 use Rattle.paper.specs.Runs.{Config, Letter, message, silent, delay, initial, Advance, by, Prompt, Over, spelled}
 use Rattle.paper.specs.Taken.{Turn, MissedIn, Starts, status_of}
@@ -48,7 +48,7 @@ FiveFed = Fed U
 abbrev pub SharedFed : Type 0
 SharedFed = Fed A
     (logged (ε ▸ ask 10 ▸ ask 15 ▸ pass 20 ▸ answer 40))
-    (ε ▸ moved ▸ moved ▸ entered ▸ keptNow)
+    (ε ▸ moved ▸ moved ▸ entered ▸ kept_now)
     (logged (ε ▸ ask 10 ▸ ask 15 ▸ pass 20 ▸ answer 40))
     (ε ▸ record { opening = 0; records = logged (ε ▸ ask 10 ▸ ask 15); outcome = dropped no_cause }
     ▸ record { opening = 15; records = logged (ε ▸ ask 15 ▸ pass 20 ▸ answer 40); outcome = kept })
