@@ -1,4 +1,6 @@
 // V7, V8: the exported functions of whole logs. 0 is success, 12 a buffer with too few places.
+#![tactic(auto)]
+
 ghost use Rattle.std.specs.Prelude.{◌≡◌, true, ◌≤◌, length};
 ghost use Rattle.wire.specs.Writing.{starting_with};
 ghost use Rattle.model.specs.Numbers.{places};

@@ -1,4 +1,6 @@
 // V9 to V12, V17: the exported functions of live monitors. 0 is success, 12 a buffer with too few places.
+#![tactic(auto)]
+
 ghost use Rattle.std.specs.Prelude.{◌≡◌, length};
 ghost use Rattle.model.specs.declared.Record.TheVariants.{Message as MessageAt, Time as TimeAt};
 ghost use Rattle.live.specs.Live.{live_size, opened_of, bytes_opened, Holds, LiveFed, standing_in};

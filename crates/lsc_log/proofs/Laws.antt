@@ -70,9 +70,9 @@ said live kind log out z t {k} e {r} {n} F {x} {j} {u} p q w =
 
 -- one call has one result
 pub calls_tell : CallsTell
-calls_tell = record { tell = tells }
+calls_tell = record { tell = λ p q. tells p q }
   where
-    tells : {live kind log out l k o m j u : List ℕ} {x y : ℕ} → CallsLog live kind log out x l k o
+    tells : {live kind log out : List ℕ} {x y : ℕ} {l k o m j u : List ℕ} → CallsLog live kind log out x l k o
         → CallsLog live kind log out y m j u → (x ≡ y) × (l ≡ m) × (k ≡ j) × (o ≡ u)
     tells (too_few s) (too_few t) = (refl, refl, refl, refl)
     tells (too_few s) (no_kind t n) = clash s t

@@ -1,5 +1,7 @@
 // V22: the exported function that feeds the records of a log's bytes. 12 is a buffer with too few places. In an archive
 // of its own the loop over the records is the only caller of the step, which the compiler then takes in.
+#![tactic(auto)]
+
 ghost use Rattle.std.specs.Prelude.{◌≡◌, cond, [], ◌∷◌, ◌≤◌, eqb, length};
 ghost use Rattle.wire.specs.Writing.{starting_with, word_bytes};
 ghost use Rattle.model.specs.Answers.{not_a_chart, not_fit};

@@ -1,5 +1,7 @@
 // V18, V20, V21: the exported functions that read one record, that show what a live monitor would answer, and that save
 // a chart. 0 is success, 12 a buffer with too few places.
+#![tactic(auto)]
+
 ghost use Rattle.std.specs.Prelude.{◌≡◌, ◌≤◌, length};
 ghost use Rattle.log_reader.specs.Next.{next_at};
 ghost use Rattle.record_numbers.specs.Numbers.{read_number, read_out};

@@ -1,5 +1,7 @@
 // V16: the exported functions that only tests use: a monitor made and fed by its image, the check of a log, and for the
 // chart in an image whether a log breaks it, and its bytes. 12 is a buffer with too few places.
+#![tactic(auto)]
+
 ghost use Rattle.std.specs.Prelude.{◌≡◌};
 ghost use Rattle.model.specs.declared.Record.TheVariants.{Message as MessageAt, Time as TimeAt};
 ghost use Rattle.monitor.specs.Feed.{made_number};

@@ -1,0 +1,17 @@
+-- `lsc_live::lsc_feed_message_why` meets its contract: the number and the cause of the answer. Assumes nothing.
+use mathlib.Core.Path.{ap}
+use Rattle.model.specs.declared.Cause.{Cause}
+use Rattle.lsc_live.proofs.Told.{feeds_tell}
+use Rattle.lsc_live.proofs.lsc_feed_message_why.Goals as goal
+
+pub returns : goal.returns
+returns c =
+    let a = c.answer_cause-cause.ensures in
+    let f = c.feed_message-answer in record {
+      fed = record {
+        returned = record { answer = f.result; fed = f.ensures; is_number = c.answer_number.ensures };
+        is_region = ap (λ (x : Cause). x.region) a;
+        is_term_case = ap (λ (x : Cause). x.term) a;
+      };
+      only = feeds_tell;
+    }
