@@ -3,9 +3,6 @@ use native.Mathlib.Nat.{one-mul, mod-eq_of_lt}
 use Rattle.bitset.specs.Set.{inserted, single}
 use Rattle.bitset.proofs.insert.Goals as goal
 
--- NOT ASKED NOW: overflow-shl-result
--- shl-result c = search rules
-
 pub returns : goal.returns
 unfolding inserted single
 returns c = rw (one-mul, mod-eq_of_lt (pow-lt c.requires))

@@ -2,9 +2,6 @@ use mathlib.Core.Path.{refl}
 use Rattle.bitset.specs.Set.{contains}
 use Rattle.bitset.proofs.member.Goals as goal
 
--- NOT ASKED NOW: overflow-shr-result
--- shr-result c = search rules
-
 pub returns : goal.returns
 unfolding contains
 returns c = refl

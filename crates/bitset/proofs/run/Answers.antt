@@ -2,9 +2,6 @@ use native.Mathlib.Omega.{arith}
 use Rattle.bitset.proofs.Laws.{trailing_members, trailing_gap, trailing_few}
 use Rattle.bitset.proofs.run.Goals as goal
 
--- NOT ASKED NOW: overflow-add-result
--- add-result c = search rules
-
 pub returns : goal.returns
 returns c =
     let w = c.wide.ensures in record {

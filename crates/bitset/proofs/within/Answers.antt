@@ -5,9 +5,6 @@ use mathlib.Core.Path.{sym}
 use Rattle.bitset.specs.Set.{within}
 use Rattle.bitset.proofs.within.Goals as goal
 
--- NOT ASKED NOW: overflow-shl-result
--- shl-result c = search rules
-
 pub returns-then-n-lt32 : goal.returns-then-n-lt32
 unfolding within
 returns-then-n-lt32 c = rw (one-mul, mod-eq_of_lt (pow-lt c.if-n-lt32.true))

@@ -2,9 +2,6 @@
 use Rattle.condition.proofs.Table.{table_rule}
 use Rattle.condition.proofs.says.Goals as goal
 
--- NOT ASKED NOW: array-read-result
--- array-read-result c = search rules
-
 pub returns : goal.returns
 returns c = record {
   entry = rw (c.column_of.ensures.value, c.row_of.ensures.value);

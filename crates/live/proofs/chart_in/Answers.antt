@@ -13,12 +13,6 @@ returns-then-rest-n c = let e = c.word64_at-n.ensures.value in
     c.zero_chart-then-rest-n.ensures ∙ sym
     (beyond _ c.if-live-lt-HEAD_SIZE.false (omega (arith, e, c.if-rest-n.true)))
 
--- NOT ASKED NOW: slice-bounds-read-start
--- part-read-start c = search rules
-
--- NOT ASKED NOW: slice-bounds-read-end
--- part-read-end c = search rules
-
 pub returns : goal.returns
 returns c =
     ap (λ (s : Said). s.chart) c.read-read.ensures.answer

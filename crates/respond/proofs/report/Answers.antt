@@ -36,18 +36,6 @@ returns-then-input-n c = let w = c.wide-n.ensures.0 ∙ c.word16_at.ensures.valu
       lt-ltb _ _ c.if-input-n.true,
     )
 
--- NOT ASKED NOW: slice-bounds-report-parts-start
--- part-report-parts-start c = search rules
-
--- NOT ASKED NOW: slice-bounds-report-parts-end
--- part-report-parts-end c = search rules
-
--- NOT ASKED NOW: slice-bounds-report-parts-start-2
--- part-report-parts-start-2 c = search rules
-
--- NOT ASKED NOW: slice-bounds-report-parts-end-2
--- part-report-parts-end-2 c = search rules
-
 pub returns : goal.returns
 unfolding report_of
 returns c =
