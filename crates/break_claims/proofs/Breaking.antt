@@ -25,23 +25,20 @@ use Rattle.rounds.specs.Machine.{Monitor as AbstractMonitor, after}
 use Rattle.log_clock.specs.declared.Kind.{Kind}
 use Rattle.log_clock.specs.declared.Kind.TheVariants.{Unset}
 use Rattle.log_clock.specs.declared.MomentRefusal.TheVariants.{Falls}
-use Rattle.log_clock.specs.declared.Dated.{Dated}
-use Rattle.log_clock.specs.declared.Dated.TheVariants as dated
-use Rattle.log_clock.specs.Dated.{dated_at}
+use Rattle.log_clock.specs.Dated.{DatedRead, dated_at}
 use Rattle.log_clock.proofs.Records.{dated_past}
 use Rattle.log_check.specs.declared.LogRefusal.{LogRefusal}
 use Rattle.log_check.specs.declared.LogRefusal.TheVariants.{NoRecord, NoMoment, TooManyRecords}
-use Rattle.log_check.specs.declared.Checked.{Checked}
-use Rattle.log_check.specs.declared.Checked.TheVariants as checked
-use Rattle.log_check.specs.declared.CheckStep.TheVariants.{Over, Going}
-use Rattle.log_check.specs.Refusal.{log_refusal_number}
+use Rattle.std.specs.Prelude.{None, Ok, Err}
+use Rattle.log_check.specs.declared.JudgeRefusal.TheVariants.{Log}
+use Rattle.log_check.specs.Check.{Over, Going}
+use Rattle.log_check.specs.Refusal.{log_refusal_number, fault, Checked}
 use Rattle.log_check.specs.Check.{step_by, step_at, continue_by, check_from, check_log}
 use Rattle.log_check.specs.Sound.{on_taken, on_sound, sound_from, sound_records}
 use Rattle.log_check.proofs.Laws.{came_to, Went, left_step}
 use Rattle.log_check.proofs.Sound.{sound_over, sound_going}
 use Rattle.log_pass.proofs.Fed.{still}
-use Rattle.breaks.specs.declared.BreakAnswer.{BreakAnswer}
-use Rattle.breaks.specs.declared.BreakAnswer.TheVariants.{Yes, Refused}
+use Rattle.breaks.specs.Numbers.{BreakAnswer}
 use Rattle.breaks.specs.Breaks.{by_fault, answer_by, breaks_of}
 use Rattle.base.specs.Just.{Just}
 use Rattle.log_claims.specs.Logs.{ends, Walk, start, step, no_record, overflows}
@@ -101,7 +98,7 @@ module _ (c : Chart) (s : List ℕ) where
   pub unbroken_by : (es : Snoc Record) → Unbroken c es → (x : Checked) → answer_by (monitor es) x ≡ by_fault x
   unbroken_by es u x = rw (eq-eqb (monitor es).tally.broken.at 0 u)
 
-  pub broken_by : (es : Snoc Record) → Broken c es → (x : Checked) → answer_by (monitor es) x ≡ Yes
+  pub broken_by : (es : Snoc Record) → Broken c es → (x : Checked) → answer_by (monitor es) x ≡ Ok true
   broken_by es b x = rw (ne_eqb (monitor es).tally.broken.at 0 b)
 
   -- every sound record was taken: fault, break or end
@@ -111,24 +108,24 @@ module _ (c : Chart) (s : List ℕ) where
         → BreaksAs c s (answer_by (monitor (sound_from f s at k last (size es) es)) (check_from (suc f) s at k last (size es)))
     unfolding sound_from check_from step_at
     run zero es at k last W u h =
-        subst (λ (d : Dated). BreaksAs c s (answer_by (monitor es)
+        subst (λ (d : DatedRead). BreaksAs c s (answer_by (monitor es)
         (continue_by (check_from zero s) (step_by at last (size es) d)))) (sym (ended s at k last (ends (omega arith))))
-        (subst (BreaksAs c s) (sym (unbroken_by es u (checked.Fine (size es)))) (case.ends g W u (ends (omega arith))))
+        (subst (BreaksAs c s) (sym (unbroken_by es u (Ok (size es)))) (case.ends g W u (ends (omega arith))))
     run (suc f) es at k last W u h =
         by (dated_at s at k last) refl (seen s at last.0 k) (λ ds p j t X v l. run f ds p j t X v l)
       where
-        by : (d : Dated) → dated_at s at k last ≡ d → Seen s at last.0 k d
+        by : (d : DatedRead) → dated_at s at k last ≡ d → Seen s at last.0 k d
             → ((ds : Snoc Record) (q : ℕ) (j : Kind) (t : Moment) → Walk s ds j q t.0 → Unbroken c ds → length s ≤ q + f
             → BreaksAs c s (answer_by (monitor (sound_from f s q j t (size ds) ds)) (check_from (suc f) s q j t (size ds))))
             → BreaksAs c s (answer_by (monitor (on_sound (sound_from f s) es at last (size es) d))
             (continue_by (check_from (suc f) s) (step_by at last (size es) d)))
         by d q (sees_end F) i =
-            subst (BreaksAs c s) (sym (unbroken_by es u (checked.Fine (size es)))) (case.ends g W u F)
+            subst (BreaksAs c s) (sym (unbroken_by es u (Ok (size es)))) (case.ends g W u F)
         by d q (sees_none r F) i =
-            subst (BreaksAs c s) (sym (unbroken_by es u (checked.Refused (NoRecord r) at)))
+            subst (BreaksAs c s) (sym (unbroken_by es u (Err (fault (NoRecord r) at))))
             (case.refuses g W u (NoRecord r) (no_record k _ F))
         by d q (sees_fault r F) i =
-            subst (BreaksAs c s) (sym (unbroken_by es u (checked.Refused (NoMoment r) at)))
+            subst (BreaksAs c s) (sym (unbroken_by es u (Err (fault (NoMoment r) at))))
             (case.refuses g W u (NoMoment r) (F es))
         by d q (sees_record e kind p C N) i =
             tests (ltb (time_of e).0 last.0) (leb most_records (size es)) refl refl
@@ -152,16 +149,16 @@ module _ (c : Chart) (s : List ℕ) where
 
             tests : (a b : Bool) → ltb (time_of e).0 last.0 ≡ a → leb most_records (size es) ≡ b
                 → BreaksAs c s (answer_by (monitor (on_taken (λ p j t m. sound_from f s p j t m (es ▸ e)) es
-                (cond a (Over (checked.Refused (NoMoment Falls) at))
-                (cond b (Over (checked.Refused TooManyRecords at)) (Going p kind (time_of e) (size es + 1))))))
+                (cond a (Over (Err (fault (NoMoment Falls) at)))
+                (cond b (Over (Err (fault TooManyRecords at))) (Going p kind (time_of e) (size es + 1))))))
                 (continue_by (check_from (suc f) s)
-                (cond a (Over (checked.Refused (NoMoment Falls) at))
-                (cond b (Over (checked.Refused TooManyRecords at)) (Going p kind (time_of e) (size es + 1))))))
+                (cond a (Over (Err (fault (NoMoment Falls) at)))
+                (cond b (Over (Err (fault TooManyRecords at))) (Going p kind (time_of e) (size es + 1))))))
             tests true b x y =
-                subst (BreaksAs c s) (sym (unbroken_by es u (checked.Refused (NoMoment Falls) at)))
+                subst (BreaksAs c s) (sym (unbroken_by es u (Err (fault (NoMoment Falls) at))))
                 (case.refuses g W u (NoMoment Falls) (N (ltb-true _ _ x) (walked s W).first es))
             tests false true x y =
-                subst (BreaksAs c s) (sym (unbroken_by es u (checked.Refused TooManyRecords at)))
+                subst (BreaksAs c s) (sym (unbroken_by es u (Err (fault TooManyRecords at))))
                 (case.refuses g W u TooManyRecords (overflows k e kind p (C (ltb-false _ _ x)) (leb-true _ _ y)))
             tests false false x y =
                 subst (λ (n : ℕ). BreaksAs c s (answer_by (monitor (sound_from f s p kind (time_of e) n (es ▸ e)))
@@ -193,10 +190,10 @@ module _ (c : Chart) (s : List ℕ) where
     breaks_only x (case.refuses g {es} {k} {at} {last} W u f F) =
         let E = fault_ends s k (log_refusal_number f) (walked s W).first F in
         let y : f ≡ E.why = number_tells f E.why E.told in
-        let l = left_step s at k (moment last) (size es) (walked s W).left (Over (checked.Refused E.why at))
+        let l = left_step s at k (moment last) (size es) (walked s W).left (Over (Err (fault E.why at)))
         E.ends_there in
-        ap (λ (r : LogRefusal). Refused r at) y ∙ sym (unbroken_by es u (checked.Refused E.why at))
-        ∙ answered g es (all_walked s W _ E.ends_there) (checked.Refused E.why at) (sym l)
+        ap (λ (r : LogRefusal). Err (Log (fault r at))) y ∙ sym (unbroken_by es u (Err (fault E.why at)))
+        ∙ answered g es (all_walked s W _ E.ends_there) (Err (fault E.why at)) (sym l)
     breaks_only x (case.breaks g {es} e {k} {at} {last} W u b) =
         let S = sound s W in
         let w = still (chart_of c) S.more s at k (moment last) (size (es ▸ e)) (es ▸ e) b in
@@ -204,10 +201,10 @@ module _ (c : Chart) (s : List ℕ) where
         let y : Broken c (sound_records s) = λ z. b (sym (ap (λ (m : AbstractMonitor). m.tally.broken.at) v) ∙ z) in
         sym (broken_by (sound_records s) y (check_log s)) ∙ answered g (sound_records s) refl (check_log s) refl
     breaks_only x (case.ends g {es} {k} {at} {last} W u F) =
-        let q : step_at s at k (moment last) (size es) ≡ Over (checked.Fine (size es))
-        = came_to s at k (moment last) (size es) dated.End (ended s at k (moment last) F) in
-        sym (unbroken_by es u (checked.Fine (size es)))
-        ∙ answered g es (all_walked s W _ q) (checked.Fine (size es)) (walk_fine s W F)
+        let q : step_at s at k (moment last) (size es) ≡ Over (Ok (size es))
+        = came_to s at k (moment last) (size es) (Ok None) (ended s at k (moment last) F) in
+        sym (unbroken_by es u (Ok (size es)))
+        ∙ answered g es (all_walked s W _ q) (Ok (size es)) (walk_fine s W F)
 
     pub breaks_just : (r : BreakAnswer) → r ≡ breaks_of c s → Just (BreaksAs c s) r
     breaks_just r e = record { holds = subst (BreaksAs c s) (sym e) breaks_as; only = λ x J. breaks_only x J ∙ sym e }

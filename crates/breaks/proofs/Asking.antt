@@ -1,6 +1,7 @@
 -- The answer by its tests in their order. Assumes nothing.
 use mathlib.Core.Path.{◌≡◌, sym, ap, ◌∙◌}
 use mathlib.Core.Bool.{true, false}
+use Rattle.std.specs.Prelude.{Ok, Err}
 use mathlib.Core.Logic.{◌≢◌}
 use mathlib.Core.List.{List}
 use Prim.Native.Nat.{ℕ}
@@ -12,14 +13,14 @@ use Rattle.chart_value.specs.View.{chart_of}
 use Rattle.chart_value.specs.Records.{logged}
 use Rattle.rounds.specs.Machine.{Monitor as AbstractMonitor, after}
 use Rattle.stepping.specs.Monitors.{monitor_at}
-use Rattle.log_check.specs.declared.Checked.{Checked}
+use Rattle.log_check.specs.declared.JudgeRefusal.TheVariants.{NotAChart}
+use Rattle.log_check.specs.Refusal.{Checked}
 use Rattle.log_check.specs.Check.{check_log}
 use Rattle.log_check.specs.Sound.{sound_records}
-use Rattle.breaks.specs.declared.BreakAnswer.TheVariants.{Yes, NoChart}
 use Rattle.breaks.specs.Breaks.{by_fault, breaks_of}
 
 module _ (c : Chart) (s : List ℕ) where
-  pub no_chart : well_formed c ≡ false → NoChart ≡ breaks_of c s
+  pub no_chart : well_formed c ≡ false → Err NotAChart ≡ breaks_of c s
   unfolding breaks_of
   no_chart w = rw w
 
@@ -28,7 +29,7 @@ module _ (c : Chart) (s : List ℕ) where
     at : m.tally.broken.at ≡ (after (chart_of c) (logged (sound_records s))).tally.broken.at
     at = ap (λ (x : AbstractMonitor). x.tally.broken.at) a
 
-    pub yes : m.tally.broken.at ≢ 0 → Yes ≡ breaks_of c s
+    pub yes : m.tally.broken.at ≢ 0 → Ok true ≡ breaks_of c s
     unfolding breaks_of
     yes b = rw (w, ne_eqb _ 0 (λ z. b (at ∙ z)))
 

@@ -1,19 +1,21 @@
 -- What a decoded command can be. Assumes nothing.
 use mathlib.Core.Bool.{Bool, true, false, cond}
 use mathlib.Core.List.{List}
+use Rattle.std.proofs.Common.{Result, Err}
 use Prim.Native.Nat.{ℕ}
 use lib.Dec.{eqb, leb}
 use lib.ListN.{length, get_or}
 use Rattle.chart_command.specs.declared.Command.{Command}
 use Rattle.chart_command.specs.declared.Decoded.{Decoded}
-use Rattle.chart_command.specs.declared.Decoded.TheVariants.{CutShort, Unknown}
+use Rattle.chart_command.specs.declared.Undecoded.{Undecoded}
+use Rattle.chart_command.specs.declared.Undecoded.TheVariants.{CutShort, Unknown}
 use Rattle.chart_command.specs.Bytes.{heading_byte, message_byte, plain_byte, clock_term_byte, difference_term_byte}
 use Rattle.chart_command.specs.Bytes.{hot_byte, rest_byte, resets_byte, main_byte, end_byte}
 use Rattle.chart_command.specs.Command.{operands, decode_byte, decode_at}
 
-module _ (s : List ℕ) (at : ℕ) (P : Decoded → Type 0) (cut : P CutShort) (unknown : P Unknown)
+module _ (s : List ℕ) (at : ℕ) (P : Result Decoded Undecoded → Type 0) (cut : P (Err CutShort)) (unknown : P (Err Unknown))
     (taken : (n : ℕ) (c : Command) → P (operands s at n c)) where
-  pick : (t : Bool) (x y : Decoded) → P x → P y → P (cond t x y)
+  pick : (t : Bool) (x y : Result Decoded Undecoded) → P x → P y → P (cond t x y)
   pick true x y p q = p
   pick false x y p q = q
 

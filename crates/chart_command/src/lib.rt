@@ -4,7 +4,7 @@
 ghost use Rattle.std.specs.Prelude.{◌≡◌, ◌<◌, length, get_or};
 ghost use Rattle.chart_command.specs.Command.{operands, decode_byte, decode_at};
 
-#[derive(Clone, Copy)]
+#[derive(Clone, Copy, Debug, PartialEq, Eq)]
 pub enum Command {
     // lines, clocks
     Heading(u8, u8),
@@ -24,12 +24,18 @@ pub enum Command {
     End,
 }
 
-// What stands at an offset: a command with the offset just after it, or why there is no command.
-#[derive(Clone, Copy)]
-pub enum Decoded {
+// A command, and the offset just after it.
+#[derive(Clone, Copy, Debug, PartialEq, Eq)]
+pub struct Decoded {
+    pub command: Command,
+    pub next: usize,
+}
+
+// Why no command stands at an offset: too few bytes are left, or none of the ten has the byte.
+#[derive(Clone, Copy, Debug, PartialEq, Eq)]
+pub enum Undecoded {
     CutShort,
     Unknown,
-    Known(Command, usize),
 }
 
 pub const HEADING: u8 = 0x10;
@@ -53,18 +59,21 @@ pub const MAIN: u8 = 0x50;
 pub const END: u8 = 0x7f;
 
 // A command with n operand bytes, if they are there.
-fn with_operands(s: &[u8], at: usize, n: usize, c: Command) -> Decoded
+fn with_operands(s: &[u8], at: usize, n: usize, command: Command) -> Result<Decoded, Undecoded>
     requires { (at < length s.now) × (n < 8) }
-    ensures { result ≡ operands s.now at n c }
+    ensures { result ≡ operands s.now at n command }
 {
     if s.len() - at <= n {
-        return Decoded::CutShort;
+        return Err(Undecoded::CutShort);
     }
-    Decoded::Known(c, at + 1 + n)
+    Ok(Decoded {
+        command,
+        next: at + 1 + n,
+    })
 }
 
 // The command whose byte stands at an offset.
-fn decode_byte(s: &[u8], at: usize) -> Decoded
+fn decode_byte(s: &[u8], at: usize) -> Result<Decoded, Undecoded>
     requires { at < length s.now }
     ensures { result ≡ decode_byte s.now at (get_or s.now at 0) }
 {
@@ -91,17 +100,17 @@ fn decode_byte(s: &[u8], at: usize) -> Decoded
         RESETS => with_operands(s, at, 1, Command::Resets(a)),
         MAIN => with_operands(s, at, 0, Command::Main),
         END => with_operands(s, at, 0, Command::End),
-        _ => Decoded::Unknown,
+        _ => Err(Undecoded::Unknown),
     }
 }
 
 // The command at an offset.
-pub fn decode(s: &[u8], at: usize) -> Decoded
+pub fn decode(s: &[u8], at: usize) -> Result<Decoded, Undecoded>
     ensures command { result ≡ decode_at s.now at }
     ensures unchanged { s.exit.now ≡ s.entry.now }
 {
     if s.len() <= at {
-        return Decoded::CutShort;
+        return Err(Undecoded::CutShort);
     }
     decode_byte(s, at)
 }

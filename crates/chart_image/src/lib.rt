@@ -128,10 +128,8 @@ fn is_image(s: &[u8]) -> bool
         return false;
     }
     let mut ok = true;
-    let mut i: usize = 0;
-    while i < MOST_REGIONS {
-        ok = ok & region_fits(s, HEADING_SIZE + i * REGION_SIZE);
-        i += 1;
+    for i in 0..MOST_REGIONS {
+        ok &= region_fits(s, HEADING_SIZE + i * REGION_SIZE);
     }
     ok
 }
@@ -140,12 +138,9 @@ fn is_image(s: &[u8]) -> bool
 fn regions_at(s: &[u8]) -> [Region; MOST_REGIONS]
     ensures { result ≡ regions_in s.now }
 {
-    let zero = model::zero_region();
-    let mut regions = [zero; MOST_REGIONS];
-    let mut i: usize = 0;
-    while i < MOST_REGIONS {
+    let mut regions = [model::zero_region(); MOST_REGIONS];
+    for i in 0..MOST_REGIONS {
         regions[i] = region_at(s, HEADING_SIZE + i * REGION_SIZE);
-        i += 1;
     }
     regions
 }

@@ -7,19 +7,13 @@ ghost use Rattle.chart_reader.specs.Said.{accepted_as, refused_for, said};
 ghost use Rattle.chart_reader.specs.Read.{read_chart};
 
 use chart_command::Decoded;
-use chart_step::{Outcome, Reading, Refusal, Step};
+use chart_step::{Fault, Reading, Refusal, Step};
 use model::Chart;
 
-#[derive(Clone, Copy)]
-pub enum ChartAnswer {
-    Accepted,
-    Refused(Refusal, usize),
-}
-
-// A chart, or why the bytes are refused, with a chart of zeros.
+// Whether the bytes give a chart, and the chart. It stands beside the answer, since a refusal gives one too (R3): zeros.
 #[derive(Clone, Copy)]
 pub struct ChartRead {
-    pub answer: ChartAnswer,
+    pub answer: Result<(), Fault>,
     pub chart: Chart,
 }
 
@@ -39,42 +33,34 @@ fn start() -> Reading
     }
 }
 
-fn refused(refusal: Refusal, offset: usize) -> ChartRead
-    ensures { said result ≡ refused_for refusal offset }
+fn refused(fault: Fault) -> ChartRead
+    ensures { said result ≡ refused_for fault.refusal fault.offset }
 {
-    let chart = model::zero_chart();
     ChartRead {
-        answer: ChartAnswer::Refused(refusal, offset),
-        chart,
+        answer: Err(fault),
+        chart: model::zero_chart(),
     }
 }
 
-fn accepted(r: Reading) -> ChartRead
-    ensures { said result ≡ accepted_as r.chart }
+fn accepted(r: &Reading) -> ChartRead
+    ensures { said result ≡ accepted_as r.now.chart }
 {
-    let chart = r.chart;
     ChartRead {
-        answer: ChartAnswer::Accepted,
-        chart,
+        answer: Ok(()),
+        chart: r.chart,
     }
 }
 
 // One command at an offset.
-fn advance(s: &[u8], at: usize, r: Reading) -> Step
-    ensures { result ≡ advance_of s.now at r }
+#[tactic(auto, unfolding(crate::specs::Read::advance_of))]
+fn advance(s: &[u8], at: usize, r: &Reading) -> Result<Step, Fault>
+    ensures { result ≡ advance_of s.now at r.now }
 {
-    let d = chart_command::decode(s, at);
-    match d {
-        Decoded::CutShort => Step {
-            outcome: Outcome::Refused(Refusal::CutShort, at),
-            reading: r,
-        },
-        Decoded::Unknown => Step {
-            outcome: Outcome::Refused(Refusal::Unknown, at),
-            reading: r,
-        },
-        Decoded::Known(c, next) => chart_step::take(r, at, next, next < s.len(), c),
-    }
+    let Decoded { command, next } = chart_command::decode(s, at).map_err(|undecoded| Fault {
+        refusal: Refusal::from(undecoded),
+        offset: at,
+    })?;
+    chart_step::take(r, at, next, next < s.len(), command)
 }
 
 // The chart that the bytes give, or the first fault. A larger bound on the commands would give the same.
@@ -86,23 +72,20 @@ pub fn read(bytes: &[u8]) -> ChartRead
 {
     let mut r = start();
     let mut at: usize = 0;
-    let mut left = bytes.len() + 1;
-    while 0 < left {
-        let st = advance(bytes, at, r);
-        let o = st.outcome;
-        match o {
-            Outcome::Going(next) => {
-                at = next;
-                r = st.reading;
-                left -= 1;
-            }
-            Outcome::Ended => {
-                return accepted(st.reading);
-            }
-            Outcome::Refused(refusal, offset) => {
-                return refused(refusal, offset);
-            }
+    for _ in 0..bytes.len() + 1 {
+        match advance(bytes, at, &r) {
+            Ok(step) => match step.next {
+                Some(next) => {
+                    r = step.reading;
+                    at = next;
+                }
+                None => return accepted(&step.reading),
+            },
+            Err(fault) => return refused(fault),
         }
     }
-    refused(Refusal::CutShort, bytes.len())
+    refused(Fault {
+        refusal: Refusal::CutShort,
+        offset: bytes.len(),
+    })
 }

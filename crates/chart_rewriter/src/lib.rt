@@ -6,8 +6,6 @@ ghost use Rattle.chart_step.specs.Refusal.{most_refusal};
 ghost use Rattle.chart_reader.specs.Read.{read_chart};
 ghost use Rattle.chart_rewriter.specs.Write.{write_number, write_at, write_out, ReadsAgain};
 
-use chart_reader::ChartAnswer;
-
 // D1 to D6: reads a chart and writes it in the writer's form.
 pub fn rewrite(chart: &[u8], out: &mut [u8], at: &mut u64) -> u8
     ensures number { result ≡ write_number (read_chart chart.now) out.old }
@@ -18,13 +16,12 @@ pub fn rewrite(chart: &[u8], out: &mut [u8], at: &mut u64) -> u8
     ensures unchanged { chart.exit.now ≡ chart.entry.now }
 {
     let read = chart_reader::read(chart);
-    let answer = read.answer;
-    match answer {
-        ChartAnswer::Refused(refusal, offset) => {
-            *at = offset as u64;
-            chart_step::number(refusal)
+    match read.answer {
+        Err(fault) => {
+            *at = fault.offset as u64;
+            u8::from(fault.refusal)
         }
-        ChartAnswer::Accepted => {
+        Ok(()) => {
             let saved = chart_writer::write(read.chart, out);
             *at = chart_writer::size(saved) as u64;
             chart_writer::number(saved)

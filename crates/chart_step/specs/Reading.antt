@@ -1,6 +1,8 @@
 -- What the program does with one command: its checks in their order, then its effect. The crate chart_faults says
 -- the rules, and the two are proved to agree.
 use Rattle.std.specs.Prelude.{ℕ, ◌+◌, Bool, true, false, cond, not, ◌&&◌, ◌||◌, set, replicate, eqb, leb, ltb}
+use Rattle.std.specs.Prelude.{Option, Some, None, Result, Ok, Err}
+use Rattle.std.specs.Option.{option_or}
 use Rattle.std.specs.Int.Bits.{bit_and}
 use Rattle.bitset.specs.Set.{within, union}
 use Rattle.model.specs.declared.Chart.{Chart}
@@ -21,23 +23,19 @@ use Rattle.chart_step.specs.declared.Refusal.TheVariants.{HotAlone, Early, RestI
 use Rattle.chart_step.specs.declared.Refusal.TheVariants.{Mainless, Trailing}
 use Rattle.chart_step.specs.declared.Reading.{Reading}
 use Rattle.chart_step.specs.declared.Fault.{Fault}
-use Rattle.chart_step.specs.declared.Fault.TheVariants.{Nothing, Found}
-use Rattle.chart_step.specs.declared.Outcome.{Outcome}
-use Rattle.chart_step.specs.declared.Outcome.TheVariants.{Going, Ended, Refused}
 use Rattle.chart_step.specs.declared.Step.{Step}
 
 -- there are five relations
 abbrev pub relation_count : ℕ
 relation_count = 5
 
-abbrev pub when : Bool → Refusal → ℕ → Fault
-when true refusal offset = Found refusal offset
-when false refusal offset = Nothing
+abbrev pub when : Bool → Refusal → ℕ → Option Fault
+when true refusal offset = Some (record { refusal = refusal; offset = offset })
+when false refusal offset = None
 
 -- the first of two faults
-abbrev pub or_else : Fault → Fault → Fault
-or_else Nothing g = g
-or_else (Found refusal offset) g = Found refusal offset
+abbrev pub or_else : Option Fault → Option Fault → Option Fault
+or_else f g = option_or f g
 
 -- the chart with the region last started put in its place
 abbrev pub closed : Reading → Chart
@@ -66,21 +64,21 @@ is_misplaced r Main = not r.headed || r.main
 is_misplaced r End = not r.headed
 
 -- R4: 6 and 7, what the region that is closed lacks, at the offset of its own command
-abbrev pub closing_fault : Reading → Fault
+abbrev pub closing_fault : Reading → Option Fault
 closing_fault r =
     or_else (when (r.started && is_bare r.region) Bare r.start)
     (when (r.started && (r.region.hot && eqb r.region.count 0)) HotAlone r.start)
 
 -- R6: the fault of the region that the command closes
-abbrev pub closes : Reading → Command → Fault
-closes r (Heading l k) = Nothing
+abbrev pub closes : Reading → Command → Option Fault
+closes r (Heading l k) = None
 closes r (Message s d l) = closing_fault r
 closes r (Plain l) = closing_fault r
-closes r (ClockTerm k e n) = Nothing
-closes r (DifferenceTerm a b e n) = Nothing
-closes r Hot = Nothing
-closes r Rest = Nothing
-closes r (Resets k) = Nothing
+closes r (ClockTerm k e n) = None
+closes r (DifferenceTerm a b e n) = None
+closes r Hot = None
+closes r Rest = None
+closes r (Resets k) = None
 closes r Main = closing_fault r
 closes r End = closing_fault r
 
@@ -172,7 +170,7 @@ is_trailing more c = is_end c && more
 
 -- R4: the first fault that the checks of one command find. A closing fault has its own offset; 11 is at the byte after
 -- the command, every other fault at the command itself.
-abbrev pub first_fault : Bool → Fault → Bool → Bool → Bool → Bool → Bool → Bool → Bool → ℕ → ℕ → Fault
+abbrev pub first_fault : Bool → Option Fault → Bool → Bool → Bool → Bool → Bool → Bool → Bool → ℕ → ℕ → Option Fault
 first_fault misplaced closing outside excess early resting unanchored mainless trailing at next =
     or_else (when misplaced Misplaced at)
     (or_else closing
@@ -184,7 +182,7 @@ first_fault misplaced closing outside excess early resting unanchored mainless t
     (or_else (when mainless Mainless at) (when trailing Trailing next))))))))
 
 -- The fault of the command c at `at`; `next` is the offset just after it, and `more` says whether bytes follow.
-abbrev pub fault_of : Reading → ℕ → ℕ → Bool → Command → Fault
+abbrev pub fault_of : Reading → ℕ → ℕ → Bool → Command → Option Fault
 fault_of r at next more c =
     first_fault (is_misplaced r c) (closes r c) (is_outside r.chart c) (is_excess r c) (is_early r c) (is_resting r c)
     (is_unanchored r c) (is_mainless r c) (is_trailing more c) at next
@@ -333,14 +331,13 @@ applied r at Main = with_main r
 applied r at End = with_chart r r.main (closed r)
 
 -- R1: the next command is just after this one, unless it is the 7F
-abbrev pub outcome_of : ℕ → Command → Outcome
-outcome_of next c = cond (is_end c) Ended (Going next)
+abbrev pub next_of : ℕ → Command → Option ℕ
+next_of next c = cond (is_end c) None (Some next)
 
-abbrev pub decided : Fault → Reading → Step → Step
-decided Nothing r s = s
-decided (Found refusal offset) r s = record { outcome = Refused refusal offset; reading = r }
+abbrev pub decided : Option Fault → Step → Result Step Fault
+decided None s = Ok s
+decided (Some f) s = Err f
 
 -- one command: its fault, or what it does
-abbrev pub step_of : Reading → ℕ → ℕ → Bool → Command → Step
-step_of r at next more c =
-    decided (fault_of r at next more c) r (record { outcome = outcome_of next c; reading = applied r at c })
+abbrev pub step_of : Reading → ℕ → ℕ → Bool → Command → Result Step Fault
+step_of r at next more c = decided (fault_of r at next more c) (record { reading = applied r at c; next = next_of next c })

@@ -1,5 +1,7 @@
 -- R4: the numbers of the reader's refusals.
 use Rattle.std.specs.Prelude.{ℕ}
+use Rattle.chart_command.specs.declared.Undecoded.{Undecoded}
+use Rattle.chart_command.specs.declared.Undecoded.TheVariants as undecoded
 use Rattle.chart_step.specs.declared.Refusal.{Refusal}
 use Rattle.chart_step.specs.declared.Refusal.TheVariants.{CutShort, Unknown, Misplaced, Outside}
 use Rattle.chart_step.specs.declared.Refusal.TheVariants.{Excess, Bare, HotAlone, Early, RestInPrechart}
@@ -22,3 +24,8 @@ refusal_number Trailing = 11
 -- the highest of them
 abbrev pub most_refusal : ℕ
 most_refusal = 13
+
+-- R4: 1 and 2, which decoding finds
+abbrev pub refusal_of : Undecoded → Refusal
+refusal_of undecoded.CutShort = CutShort
+refusal_of undecoded.Unknown = Unknown

@@ -15,16 +15,16 @@ use Rattle.chart_command.specs.declared.Command.{Command}
 use Rattle.chart_command.specs.declared.Command.TheVariants.{Heading, Message, Plain, ClockTerm, DifferenceTerm, Hot}
 use Rattle.chart_command.specs.declared.Command.TheVariants.{Rest, Resets, Main, End}
 use Rattle.chart_command.specs.declared.Decoded.{Decoded}
-use Rattle.chart_command.specs.declared.Decoded.TheVariants as decoded
+use Rattle.chart_command.specs.declared.Undecoded.{Undecoded}
+use Rattle.chart_command.specs.declared.Undecoded.TheVariants.{CutShort}
+use Rattle.std.proofs.Common.{Option, Some, None, Result, Ok, Err}
 use Rattle.chart_command.specs.Bytes.{heading_byte, message_byte, plain_byte, clock_term_byte, difference_term_byte, hot_byte}
 use Rattle.chart_command.specs.Bytes.{rest_byte, resets_byte, main_byte, end_byte}
 use Rattle.chart_command.specs.Command.{decode_at, decode_byte, operands}
 use Rattle.chart_step.specs.declared.Fault.{Fault}
-use Rattle.chart_step.specs.declared.Fault.TheVariants.{Nothing}
 use Rattle.chart_step.specs.declared.Reading.{Reading}
-use Rattle.chart_step.specs.declared.Outcome.TheVariants.{Going, Ended}
 use Rattle.chart_step.specs.declared.Step.{Step}
-use Rattle.chart_step.specs.Reading.{fault_of, decided, applied, outcome_of, with_term}
+use Rattle.chart_step.specs.Reading.{fault_of, decided, applied, next_of, with_term}
 use Rattle.model.specs.declared.Left.TheVariants.{Clock, Difference}
 use Rattle.chart_reader.specs.Read.{read_from, continue_by, advance_of, advance_by, read_chart, start_reading}
 use Rattle.chart_reader.specs.Said.{Said, accepted_as}
@@ -44,18 +44,18 @@ module _ (s : List ℕ) (x : Said) where
 
   module _ (at : ℕ) (r : Reading) where
     pub go : (r' : Reading) (next : ℕ) → at < length s → at < next
-        → advance_of s at r ≡ record { outcome = Going next; reading = r' } → Gives next r' → Gives at r
+        → advance_of s at r ≡ Ok (record { reading = r'; next = Some next }) → Gives next r' → Gives at r
     unfolding Gives read_from
     go r' next h k e f zero l = absurd (omega arith)
     go r' next h k e f (suc n) l =
-        ap (λ (st : Step). continue_by (read_from n s) st.outcome st.reading) e ∙ f n (omega arith)
+        ap (λ (a : Result Step Fault). continue_by (read_from n s) a) e ∙ f n (omega arith)
 
-    pub stop : (r' : Reading) → at < length s → advance_of s at r ≡ record { outcome = Ended; reading = r' }
+    pub stop : (r' : Reading) → at < length s → advance_of s at r ≡ Ok (record { reading = r'; next = None })
         → accepted_as r'.chart ≡ x → Gives at r
     unfolding Gives read_from
     stop r' h e f zero l = absurd (omega arith)
     stop r' h e f (suc n) l =
-        ap (λ (st : Step). continue_by (read_from n s) st.outcome st.reading) e ∙ f
+        ap (λ (a : Result Step Fault). continue_by (read_from n s) a) e ∙ f
 
   module _ (at : ℕ) (b : ℕ) (xs : List ℕ) (here : drop at s ≡ b ∷ xs) where
     pub operand : (k : ℕ) → get_or s (at + k) 0 ≡ get_or (b ∷ xs) k 0
@@ -69,23 +69,23 @@ module _ (s : List ℕ) (x : Said) where
 
     -- the command of a byte whose operands are there
     pub decoded_here : (n : ℕ) (c : Command) → decode_byte s at b ≡ operands s at n c → n ≤ length xs
-        → decode_at s at ≡ decoded.Known c (at + 1 + n)
+        → decode_at s at ≡ Ok (record { command = c; next = at + 1 + n })
     decoded_here n c e h =
         let l = left in
         let g : get_or s at 0 ≡ b = rw add-zero at (operand 0) in
-        ap (λ (t : Bool). cond t decoded.CutShort (decode_byte s at (get_or s at 0))) (lt-leb (length s) at (omega arith))
+        ap (λ (t : Bool). cond t (Err CutShort) (decode_byte s at (get_or s at 0))) (lt-leb (length s) at (omega arith))
         ∙ ap (decode_byte s at) g ∙ e
-        ∙ ap (λ (t : Bool). cond t decoded.CutShort (decoded.Known c (at + 1 + n)))
+        ∙ ap (λ (t : Bool). cond t (Err CutShort) (Ok (record { command = c; next = at + 1 + n })))
         (lt-leb (length s - at) n (omega arith))
 
     -- the command at an offset, if nothing refuses it
     pub taken : (r : Reading) (n : ℕ) (c : Command) → decode_byte s at b ≡ operands s at n c → n ≤ length xs
-        → fault_of r at (at + 1 + n) (ltb (at + 1 + n) (length s)) c ≡ Nothing
-        → advance_of s at r ≡ record { outcome = outcome_of (at + 1 + n) c; reading = applied r at c }
+        → fault_of r at (at + 1 + n) (ltb (at + 1 + n) (length s)) c ≡ None
+        → advance_of s at r ≡ Ok (record { reading = applied r at c; next = next_of (at + 1 + n) c })
     unfolding advance_of
     taken r n c e h f =
-        ap (λ (d : Decoded). advance_by s at r d) (decoded_here n c e h)
-        ∙ ap (λ (g : Fault). decided g r (record { outcome = outcome_of (at + 1 + n) c; reading = applied r at c })) f
+        ap (λ (d : Result Decoded Undecoded). advance_by s at r d) (decoded_here n c e h)
+        ∙ ap (λ (g : Option Fault). decided g (record { reading = applied r at c; next = next_of (at + 1 + n) c })) f
 
     pub word : (k : ℕ) → word16 s (at + k) ≡ get_or (b ∷ xs) k 0 * 256 + get_or (b ∷ xs) (k + 1) 0
     word k = λ i. operand k i * 256 + (ap (λ (j : ℕ). get_or s j 0) (add_assoc at k 1) ∙ operand (k + 1)) i
@@ -98,14 +98,14 @@ module _ (s : List ℕ) (x : Said) where
     -- a command that goes on, after which the rest stands
     pub on : (r r' : Reading) (rest : List ℕ) (n : ℕ) (c c' : Command) → decode_byte s at b ≡ operands s at n c' → c' ≡ c
         → n ≤ length xs → drop n xs ≡ rest
-        → outcome_of (at + 1 + n) c ≡ Going (at + 1 + n)
-        → fault_of r at (at + 1 + n) (ltb (at + 1 + n) (length s)) c ≡ Nothing
+        → next_of (at + 1 + n) c ≡ Some (at + 1 + n)
+        → fault_of r at (at + 1 + n) (ltb (at + 1 + n) (length s)) c ≡ None
         → applied r at c ≡ r' → ((at' : ℕ) → drop at' s ≡ rest → Gives at' r') → Gives at r
     on r r' rest n c c' e k h d o f g next =
         let l = left in
         go at r r' (at + 1 + n) (omega arith) (omega arith)
         (taken r n c (e ∙ ap (λ (c : Command). operands s at n c) k) h f
-        ∙ (λ i. record { outcome = o i; reading = g i }))
+        ∙ (λ i. Ok (record { reading = g i; next = o i })))
         (next (at + 1 + n)
         (ap (λ (j : ℕ). drop j s) (add_assoc at 1 n) ∙ after (1 + n) ∙ ap (λ (j : ℕ). drop j (b ∷ xs)) (one-add n)
         ∙ d))
@@ -114,7 +114,7 @@ module _ (s : List ℕ) (x : Said) where
   module _ (at : ℕ) (r : Reading) (rest : List ℕ) where
     abbrev pub Onward : Command → Type 0
     Onward c =
-        fault_of r at at false c ≡ Nothing → ((at' : ℕ) → drop at' s ≡ rest → Gives at' (applied r at c)) → Gives at r
+        fault_of r at at false c ≡ None → ((at' : ℕ) → drop at' s ≡ rest → Gives at' (applied r at c)) → Gives at r
 
     pub on_heading : (l k : ℕ) → drop at s ≡ heading_byte ∷ l ∷ k ∷ rest → Onward (Heading l k)
     on_heading l k h f =
@@ -138,7 +138,7 @@ module _ (s : List ℕ) (x : Said) where
         (omega arith) refl refl f refl
 
     pub on_clock_term : (k e n : ℕ) → drop at s ≡ clock_term_byte ∷ k ∷ e ∷ four n rest
-        → fault_of r at at false (ClockTerm k e n) ≡ Nothing
+        → fault_of r at at false (ClockTerm k e n) ≡ None
         → (r' : Reading) → with_term r (Clock k) e n ≡ r' → ((at' : ℕ) → drop at' s ≡ rest → Gives at' r') → Gives at r
     on_clock_term k e n h f r' g =
         let xs = k ∷ e ∷ four n rest in
@@ -148,7 +148,7 @@ module _ (s : List ℕ) (x : Said) where
         (omega arith) refl refl f g
 
     pub on_difference_term : (a b e n : ℕ) → drop at s ≡ difference_term_byte ∷ a ∷ b ∷ e ∷ four n rest
-        → fault_of r at at false (DifferenceTerm a b e n) ≡ Nothing
+        → fault_of r at at false (DifferenceTerm a b e n) ≡ None
         → (r' : Reading) → with_term r (Difference a b) e n ≡ r' → ((at' : ℕ) → drop at' s ≡ rest → Gives at' r')
         → Gives at r
     on_difference_term a b e n h f r' g =
@@ -173,7 +173,7 @@ module _ (s : List ℕ) (x : Said) where
     pub on_main : drop at s ≡ main_byte ∷ rest → Onward Main
     on_main h f = on at main_byte rest h r _ rest 0 Main Main refl refl (omega arith) refl refl f refl
 
-  pub on_end : (at : ℕ) (r : Reading) → drop at s ≡ end_byte ∷ [] → fault_of r at (at + 1 + 0) false End ≡ Nothing
+  pub on_end : (at : ℕ) (r : Reading) → drop at s ≡ end_byte ∷ [] → fault_of r at (at + 1 + 0) false End ≡ None
       → accepted_as (applied r at End).chart ≡ x → Gives at r
   on_end at r h f g =
       let l = left at end_byte [] h in

@@ -82,7 +82,7 @@ zero_event : (e : Event) → is_zero_event e ≡ true → e ≡ Plain 0
 zero_event (Message m) h = cc
 zero_event (Plain l) h = ap Plain (eqb-true l 0 h)
 
-zero_term_lem : (t : Term) → is_zero_term t ≡ true → t ≡ zero_term
+pub zero_term_lem : (t : Term) → is_zero_term t ≡ true → t ≡ zero_term
 unfolding is_zero_term
 zero_term_lem t e =
     let a = both _ _ e in

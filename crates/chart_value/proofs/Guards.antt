@@ -13,23 +13,23 @@ use Rattle.base.proofs.Bools.{neither}
 use Rattle.model.specs.declared.Chart.{Chart}
 use Rattle.model.specs.Chart.{most_lines, most_regions, most_terms}
 use Rattle.chart_command.specs.declared.Command.TheVariants.{Message, ClockTerm, DifferenceTerm}
-use Rattle.chart_step.specs.declared.Fault.TheVariants.{Nothing}
+use Rattle.std.proofs.Common.{Option, Some, None, Result, Ok, Err}
+use Rattle.chart_step.specs.declared.Fault.{Fault}
+use Rattle.chart_step.specs.declared.Step.{Step}
 use Rattle.chart_step.specs.declared.Refusal.TheVariants.{CutShort, Misplaced, Outside, Excess}
 use Rattle.chart_step.specs.declared.Reading.{Reading}
-use Rattle.chart_step.specs.declared.Outcome.{Outcome}
-use Rattle.chart_step.specs.declared.Outcome.TheVariants.{Going, Ended, Refused}
 use Rattle.chart_step.specs.Reading.{fault_of, is_outside, closing_fault}
-use Rattle.chart_reader.specs.Read.{read_chart, read_from, continue_by, advance_of, start_reading}
+use Rattle.chart_reader.specs.Read.{read_chart, read_from, continue_at, continue_by, advance_of, start_reading}
 use Rattle.chart_reader.specs.Said.{Said, accepted_as}
 use Rattle.chart_reader.proofs.Count.{any_count}
 use Rattle.chart_value.specs.Guards.{Reached, start, next, EndsAs, NeverFire}
-use Rattle.chart_value.proofs.Sound.{AfterBy, Ready, State, idle, busy, first_clear, clear, advance_keeps, never}
+use Rattle.chart_value.proofs.Sound.{AfterBy, After, Ready, State, idle, busy, first_clear, clear, advance_keeps, never}
 
 reached_ready : {s : List ℕ} {at : ℕ} {r : Reading} → Reached s at r → Ready r
 unfolding Ready AfterBy
 reached_ready start = inl refl
-reached_ready {s} (next {at} {r} m q e) =
-    inr (subst (λ (o : Outcome). AfterBy o (advance_of s at r).reading) e (advance_keeps s at r (reached_ready q)))
+reached_ready {s} (next {at} {r} m x q e) =
+    inr (subst (λ (a : Result Step Fault). After a) e (advance_keeps s at r (reached_ready q)))
 
 room : (r : Reading) → Ready r → r.started ≡ true → r.chart.count < most_regions
 unfolding Ready
@@ -49,7 +49,7 @@ high r (inr v) h = by v.state
     by (idle s c t) = c.high
     by (busy s c w t) = c.high
 
-lines : (r : Reading) → Ready r → (at n a b l : ℕ) (more : Bool) → fault_of r at n more (Message a b l) ≡ Nothing
+lines : (r : Reading) → Ready r → (at n a b l : ℕ) (more : Bool) → fault_of r at n more (Message a b l) ≡ None
     → (a < most_lines) × (b < most_lines)
 lines r v at n a b l more e =
     let p = clear (not r.headed) Misplaced at _ e in
@@ -71,16 +71,26 @@ passes : (n : ℕ) {s : List ℕ} {at : ℕ} {r : Reading} (c : Chart) → Reach
     → EndsAs s c
 unfolding read_from
 passes zero {s} c q e = never CutShort (length s) c e
-passes (suc n) {s} {at} {r} c q e = by (advance_of s at r).outcome refl e (λ m x. passes n c x)
+passes (suc n) {s} {at} {r} c q e = by (advance_of s at r) refl e (λ m x y. passes n c y)
   where
-    x : Reading
-    x = (advance_of s at r).reading
+    on : (x : Reading) (o : Option ℕ) → advance_of s at r ≡ Ok (record { reading = x; next = o })
+        → continue_at (read_from n s) o x ≡ accepted_as c
+        → ((m : ℕ) (x : Reading) → Reached s m x → read_from n s m x ≡ accepted_as c → EndsAs s c) → EndsAs s c
+    on x (Some m) g e k = k m x (next m x q g) e
+    on x None g e k =
+        record {
+          offset = at;
+          reading = r;
+          reached = q;
+          end = x;
+          last = g;
+          chart = ap (λ (x : Said). x.chart) e;
+        }
 
-    by : (o : Outcome) → (advance_of s at r).outcome ≡ o → continue_by (read_from n s) o x ≡ accepted_as c
-        → ((m : ℕ) → Reached s m x → read_from n s m x ≡ accepted_as c → EndsAs s c) → EndsAs s c
-    by (Going m) g e k = k m (next m q g) e
-    by Ended g e k = record { offset = at; reading = r; reached = q; last = g; chart = ap (λ (x : Said). x.chart) e }
-    by (Refused refusal offset) g e k = never refusal offset c e
+    by : (a : Result Step Fault) → advance_of s at r ≡ a → continue_by (read_from n s) a ≡ accepted_as c
+        → ((m : ℕ) (x : Reading) → Reached s m x → read_from n s m x ≡ accepted_as c → EndsAs s c) → EndsAs s c
+    by (Ok st) g e k = on st.reading st.next g e k
+    by (Err f) g e k = never f.refusal f.offset c e
 
 -- some commands lead from the start to a reached state, whatever count is left for the rest
 record Led (s : List ℕ) (at : ℕ) (r : Reading) : Type 0 where
@@ -93,22 +103,20 @@ led {s} start = record {
   taken = 0;
   same = λ m n h. let e : m ≡ n = omega arith in ap (λ (k : ℕ). read_from k s 0 start_reading) e;
 }
-led {s} (next {at} {r} m q e) =
+led {s} (next {at} {r} m x q e) =
     let l = led q in record {
       taken = suc l.taken;
       same = λ k n h.
-          l.same k (suc n) (omega arith)
-          ∙ ap (λ (o : Outcome). continue_by (read_from n s) o (advance_of s at r).reading) e;
+          l.same k (suc n) (omega arith) ∙ ap (λ (a : Result Step Fault). continue_by (read_from n s) a) e;
     }
 
 accepted : (s : List ℕ) (c : Chart) → EndsAs s c → read_chart s ≡ accepted_as c
 unfolding read_from
 accepted s c x =
     let l = led x.reached in
-    let q = (advance_of s x.offset x.reading).reading in
     any_count s (read_chart s) refl (suc (length s) + l.taken) (omega arith)
     ∙ l.same (suc (length s) + l.taken) (suc (length s)) refl
-    ∙ ap (λ (o : Outcome). continue_by (read_from (length s) s) o q) x.last
+    ∙ ap (λ (a : Result Step Fault). continue_by (read_from (length s) s) a) x.last
     ∙ ap accepted_as x.chart
 
 pub never_fire : NeverFire

@@ -9,3 +9,4 @@ pub mod Order
 pub mod Shown
 pub mod Guards
 pub mod Marks
+pub mod Equal

@@ -25,7 +25,7 @@ use Rattle.model.specs.declared.Relation.{Relation}
 use Rattle.model.specs.declared.Relation.TheVariants.{Less, AtMost, Equal, AtLeast, More}
 use Rattle.model.specs.Chart.{zero_term, zero_region, absent_region, region_at, term_at, touched}
 use Rattle.chart_command.specs.Bytes.{hot_byte, rest_byte, resets_byte, main_byte, end_byte}
-use Rattle.chart_step.specs.declared.Fault.TheVariants.{Nothing}
+use Rattle.std.proofs.Common.{None}
 use Rattle.chart_step.specs.declared.Refusal.TheVariants.{Bare, HotAlone}
 use Rattle.chart_step.specs.declared.Reading.{Reading}
 use Rattle.chart_step.specs.Reading.{first_fault, closing_fault, closed, or_else, when, with_term, relation_of}
@@ -160,7 +160,7 @@ module _ (s : List ℕ) (x : Said) (clocks : ℕ) (r : Reading) (start l : ℕ) 
       let range = or_neither (in_range k f) (relation_small (term_at g j).relation) in
       on_clock_term s x at (busy r start l (partly g j false 0 false)) rest k (relation_byte (term_at g j).relation)
       (term_at g j).n d
-      (λ i. first_fault false Nothing (range i) (lt-leb 4 j h i) false false false false false at at) _ (added j h (Clock k) e)
+      (λ i. first_fault false None (range i) (lt-leb 4 j h i) false false false false false at at) _ (added j h (Clock k) e)
   term_read rest j h (Difference a b) e f at d =
       let p = both _ _ f in
       let q = both _ _ p.1 in
@@ -170,7 +170,7 @@ module _ (s : List ℕ) (x : Said) (clocks : ℕ) (r : Reading) (start l : ℕ) 
       (or_neither (not-true (eqb a b) q.1) (relation_small (term_at g j).relation))) in
       on_difference_term s x at (busy r start l (partly g j false 0 false)) rest a b (relation_byte (term_at g j).relation)
       (term_at g j).n d
-      (λ i. first_fault false Nothing (range i) (lt-leb 4 j h i) false false false false false at at) _
+      (λ i. first_fault false None (range i) (lt-leb 4 j h i) false false false false false at at) _
       (added j h (Difference a b) e)
 
   -- n terms from term j on
@@ -195,7 +195,7 @@ module _ (s : List ℕ) (x : Said) (clocks : ℕ) (r : Reading) (start l : ℕ) 
       → Gives s x at (busy r start l (partly g n false 0 false))
   hot_read main m rest n true e at d =
       on_hot s x at (busy r start l (partly g n false 0 false)) rest d
-      (λ i. first_fault false Nothing false false
+      (λ i. first_fault false None false false
       (ap not (m ∙ (both main (not (eqb n 0)) e).0) i) false false false false at at)
   hot_read main m rest n false e at d = λ next. next at d
 
@@ -209,7 +209,7 @@ module _ (s : List ℕ) (x : Said) (clocks : ℕ) (r : Reading) (start l : ℕ) 
   resets_read rest n hot k h false e at d =
       let range = or_neither e (ap (λ (m : ℕ). not (within m k)) same ∙ ap not (lt_within clocks k h)) in
       on_resets s x at (busy r start l (partly g n hot 0 false)) rest k d
-      (λ i. first_fault false Nothing (range i) false false false false false false at at)
+      (λ i. first_fault false None (range i) false false false false false false at at)
 
   -- the mark, if there is one
   rest_read : (main : Bool) → r.main ≡ main → (rest : List ℕ) (n : ℕ) (hot : Bool) (k : ℕ) (mark : Bool)
@@ -219,7 +219,7 @@ module _ (s : List ℕ) (x : Said) (clocks : ℕ) (r : Reading) (start l : ℕ) 
       → Gives s x at (busy r start l (partly g n hot k false))
   rest_read main m rest n hot k true e at d =
       on_rest s x at (busy r start l (partly g n hot k false)) rest d
-      (λ i. first_fault false Nothing false false false (ap not (m ∙ e) i) false false false at at)
+      (λ i. first_fault false None false false false (ap not (m ∙ e) i) false false false at at)
   rest_read main m rest n hot k false e at d = λ next. next at d
 
 -- a region that fits, with all its terms read, is the region itself
@@ -265,7 +265,7 @@ module _ (c : Chart) where
     lines : r.chart.lines ≡ c.lines
     prechart : r.chart.prechart ≡ cond main c.prechart 0
     touched : r.touched ≡ touched_before c.regions i
-    fine : closing_fault r ≡ Nothing
+    fine : closing_fault r ≡ None
     chart : closed r ≡ so_far main i
 
   module _ (s : List ℕ) (x : Said) (main : Bool) (i : ℕ) (r : Reading) (b : Before r main i) (small : i < 32)
@@ -451,7 +451,7 @@ unfolding chart_bytes first_of touched_before
 round_trip c shape e =
     gives_chart (chart_bytes c) (accepted_as c)
     (on_heading (chart_bytes c) _ 0 start_reading (regions_bytes c c.count 0 (end_byte ∷ [])) c.lines c.clocks refl
-    (λ i. first_fault false Nothing (not (range i)) false false false false false false 0 0)
+    (λ i. first_fault false None (not (range i)) false false false false false false 0 0)
     (λ at d. regions_read c w shape (chart_bytes c) c.count 0 (omega arith)
     (with_heading start_reading c.lines c.clocks) first at d))
   where

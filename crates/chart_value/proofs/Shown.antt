@@ -95,7 +95,7 @@ module _ (c : Chart) (w : WellFormed c) where
           let z : false ≡ true = sym (contains_empty k) ∙ ap (λ (g : Region). contains g.resets k) (sym o) ∙ e in
           absurd (let z : ◌≡◌ {A = ℕ} 0 1 = cc in omega arith)
 
-  accepted : Accepted (chart_of c)
+  pub accepted : Accepted (chart_of c)
   accepted =
       record {
         downward = λ a b e. above_lt (touched_at c) c.prechart ((order a b).0 e).1;

@@ -28,22 +28,20 @@ use Rattle.chart_command.specs.declared.Command.{Command}
 use Rattle.chart_command.specs.declared.Command.TheVariants.{Heading, Message, Plain, ClockTerm, DifferenceTerm, Hot}
 use Rattle.chart_command.specs.declared.Command.TheVariants.{Rest, Resets, Main, End}
 use Rattle.chart_command.specs.declared.Decoded.{Decoded}
-use Rattle.chart_command.specs.declared.Decoded.TheVariants as decoded
+use Rattle.chart_command.specs.declared.Undecoded.{Undecoded}
+use Rattle.std.proofs.Common.{Option, Some, None, Result, Ok, Err}
 use Rattle.chart_command.specs.Command.{decode_at}
 use Rattle.chart_step.specs.declared.Fault.{Fault}
-use Rattle.chart_step.specs.declared.Fault.TheVariants.{Nothing, Found}
 use Rattle.chart_step.specs.declared.Refusal.{Refusal}
 use Rattle.chart_step.specs.declared.Refusal.TheVariants.{CutShort, Misplaced, Outside, Excess, Bare, HotAlone, Early}
 use Rattle.chart_step.specs.declared.Refusal.TheVariants.{RestInPrechart, Unanchored, Mainless}
 use Rattle.chart_step.proofs.Numbers.{refusal_nonzero}
 use Rattle.chart_step.specs.declared.Reading.{Reading}
-use Rattle.chart_step.specs.declared.Outcome.{Outcome}
-use Rattle.chart_step.specs.declared.Outcome.TheVariants.{Going, Ended, Refused}
 use Rattle.chart_step.specs.declared.Step.{Step}
-use Rattle.chart_step.specs.Reading.{step_of, fault_of, decided, applied, outcome_of, closing_fault, closed, or_else, when}
+use Rattle.chart_step.specs.Reading.{step_of, fault_of, decided, applied, next_of, closing_fault, closed, or_else, when}
 use Rattle.chart_step.specs.Reading.{with_term, relation_of, begun_with, with_region, with_main, with_heading, is_outside}
 use Rattle.chart_step.specs.Reading.{is_unanchored, is_mainless}
-use Rattle.chart_reader.specs.Read.{read_chart, read_from, continue_by, advance_of, advance_by, start_reading}
+use Rattle.chart_reader.specs.Read.{read_chart, read_from, continue_at, continue_by, advance_of, advance_by, start_reading}
 use Rattle.chart_reader.specs.Said.{Said, accepted_as, refused_for}
 use Rattle.chart_value.specs.WellFormed.{well_formed, used_region_fits, region_fits, event_fits, left_fits, touched_before}
 use Rattle.chart_value.specs.WellFormed.{is_zero_region}
@@ -84,15 +82,15 @@ pub data State (r : Reading) : Type 0 where
       → r.touched ≡ union (touched_before r.chart.regions r.chart.count) (touched r.region.event) → State r
 
 -- faults that were not found
-pub first_clear : (f g : Fault) → or_else f g ≡ Nothing → (f ≡ Nothing) × (g ≡ Nothing)
-first_clear Nothing g e = (refl, e)
-first_clear (Found k o) g e = absurd (let z : ◌≡◌ {A = ℕ} 0 1 = cc in omega arith)
+pub first_clear : (f g : Option Fault) → or_else f g ≡ None → (f ≡ None) × (g ≡ None)
+first_clear None g e = (refl, e)
+first_clear (Some x) g e = absurd (let z : ◌≡◌ {A = ℕ} 0 1 = cc in omega arith)
 
-quiet : (b : Bool) (k : Refusal) (o : ℕ) → when b k o ≡ Nothing → b ≡ false
+quiet : (b : Bool) (k : Refusal) (o : ℕ) → when b k o ≡ None → b ≡ false
 quiet true k o e = absurd (let z : ◌≡◌ {A = ℕ} 0 1 = cc in omega arith)
 quiet false k o e = refl
 
-pub clear : (b : Bool) (k : Refusal) (o : ℕ) (g : Fault) → or_else (when b k o) g ≡ Nothing → (b ≡ false) × (g ≡ Nothing)
+pub clear : (b : Bool) (k : Refusal) (o : ℕ) (g : Option Fault) → or_else (when b k o) g ≡ None → (b ≡ false) × (g ≡ None)
 clear true k o g e = absurd (let z : ◌≡◌ {A = ℕ} 0 1 = cc in omega arith)
 clear false k o g e = (refl, e)
 
@@ -205,7 +203,7 @@ record Closed (r : Reading) : Type 0 where
   touched : r.touched ≡ touched_before (closed r).regions (closed r).count
 
 -- closing without 6 and 7 puts the region last started among the closed ones
-close : (r : Reading) → State r → closing_fault r ≡ Nothing → Closed r
+close : (r : Reading) → State r → closing_fault r ≡ None → Closed r
 close r (idle e s t) f =
     let q : closed r ≡ r.chart =
     ap (λ (b : Bool). cond (b && ltb r.chart.count 32)
@@ -244,18 +242,18 @@ pub record Inv (r : Reading) : Type 0 where
   pub headed : r.headed ≡ true
   pub state : State r
 
-unfoldable pub AfterBy : Outcome → Reading → Type 0
-AfterBy (Going next) r = Inv r
-AfterBy Ended r = Whole r.chart
-AfterBy (Refused code offset) r = Unit {0}
+unfoldable pub AfterBy : Option ℕ → Reading → Type 0
+AfterBy (Some next) r = Inv r
+AfterBy None r = Whole r.chart
 
-abbrev After : Step → Type 0
-After st = AfterBy st.outcome st.reading
+abbrev pub After : Result Step Fault → Type 0
+After (Ok st) = AfterBy st.next st.reading
+After (Err f) = Unit {0}
 
-decided_after : (f : Fault) (r : Reading) (st : Step) → (f ≡ Nothing → After st) → After (decided f r st)
+decided_after : (f : Option Fault) (st : Step) → (f ≡ None → AfterBy st.next st.reading) → After (decided f st)
 unfolding AfterBy
-decided_after Nothing r st k = k refl
-decided_after (Found code offset) r st k = tt
+decided_after None st k = k refl
+decided_after (Some f) st k = tt
 
 -- a region begins
 begin : (r : Reading) → r.headed ≡ true → Closed r → (at : ℕ) (e : Event) → leb 32 (closed r).count ≡ false
@@ -432,7 +430,7 @@ nand false y e = refl
 
 -- each command after the heading, by what its checks say
 module _ (r : Reading) (h : r.headed ≡ true) (s : State r) (at next : ℕ) (more : Bool) where
-  kept : (c : Command) → fault_of r at next more c ≡ Nothing → AfterBy (outcome_of next c) (applied r at c)
+  kept : (c : Command) → fault_of r at next more c ≡ None → AfterBy (next_of next c) (applied r at c)
   unfolding AfterBy
   kept (Heading l k) e = absurd (true≢false (sym h ∙ (clear r.headed Misplaced at _ e).0))
   kept (Message a b l) e =
@@ -500,9 +498,9 @@ module _ (r : Reading) (h : r.headed ≡ true) (s : State r) (at next : ℕ) (mo
 started : (at next : ℕ) (more : Bool) (c : Command) → After (step_of start_reading at next more c)
 unfolding AfterBy touched_before
 started at next more (Heading l k) =
-    decided_after (fault_of start_reading at next more (Heading l k)) start_reading
-    (record { outcome = Going next; reading = with_heading start_reading l k })
-    (λ e. by (clear (not (leb 2 l && (leb l 16 && leb k 8))) Outside at Nothing e).0)
+    decided_after (fault_of start_reading at next more (Heading l k))
+    (record { reading = with_heading start_reading l k; next = Some next })
+    (λ e. by (clear (not (leb 2 l && (leb l 16 && leb k 8))) Outside at None e).0)
   where
     by : not (leb 2 l && (leb l 16 && leb k 8)) ≡ false → Inv (with_heading start_reading l k)
     by e =
@@ -545,17 +543,16 @@ unfolding Ready
 command_keeps r (inl e) at next more c =
     subst (λ (r : Reading). After (step_of r at next more c)) (sym e) (started at next more c)
 command_keeps r (inr v) at next more c =
-    decided_after (fault_of r at next more c) r (record { outcome = outcome_of next c; reading = applied r at c })
+    decided_after (fault_of r at next more c) (record { reading = applied r at c; next = next_of next c })
     (λ e. kept r v.headed v.state at next more c e)
 
 pub advance_keeps : (s : List ℕ) (at : ℕ) (r : Reading) → Ready r → After (advance_of s at r)
 unfolding advance_of AfterBy
 advance_keeps s at r v = by (decode_at s at)
   where
-    by : (d : Decoded) → After (advance_by s at r d)
-    by decoded.CutShort = tt
-    by decoded.Unknown = tt
-    by (decoded.Known c next) = command_keeps r v at next (ltb next (length s)) c
+    by : (d : Result Decoded Undecoded) → After (advance_by s at r d)
+    by (Ok d) = command_keeps r v at d.next (ltb d.next (length s)) d.command
+    by (Err why) = tt
 
 -- the whole reading, by the count of commands
 pub never : {A : Type 0} (f : Refusal) (o : ℕ) (c : Chart) → refused_for f o ≡ accepted_as c → A
@@ -566,14 +563,17 @@ from_here : (n : ℕ) (s : List ℕ) (at : ℕ) (r : Reading) (c : Chart) → Re
 unfolding read_from AfterBy Ready
 from_here zero s at r c v e = never CutShort (length s) c e
 from_here (suc n) s at r c v e =
-    by (advance_of s at r).outcome (advance_of s at r).reading (advance_keeps s at r v) e
-    (λ at r v. from_here n s at r c v)
+    by (advance_of s at r) (advance_keeps s at r v) e (λ at r v. from_here n s at r c v)
   where
-    by : (o : Outcome) (x : Reading) → AfterBy o x → continue_by (read_from n s) o x ≡ accepted_as c
+    on : (o : Option ℕ) (x : Reading) → AfterBy o x → continue_at (read_from n s) o x ≡ accepted_as c
         → ((at : ℕ) (r : Reading) → Ready r → read_from n s at r ≡ accepted_as c → Whole c) → Whole c
-    by (Going next) x v e k = k next x (inr v) e
-    by Ended x w e k = subst Whole (ap (λ (y : Said). y.chart) e) w
-    by (Refused refusal offset) x v e k = never refusal offset c e
+    on (Some next) x v e k = k next x (inr v) e
+    on None x w e k = subst Whole (ap (λ (y : Said). y.chart) e) w
+
+    by : (a : Result Step Fault) → After a → continue_by (read_from n s) a ≡ accepted_as c
+        → ((at : ℕ) (r : Reading) → Ready r → read_from n s at r ≡ accepted_as c → Whole c) → Whole c
+    by (Ok st) v e k = on st.next st.reading v e k
+    by (Err f) v e k = never f.refusal f.offset c e
 
 pub sound : (s : List ℕ) (c : Chart) → read_chart s ≡ accepted_as c → Whole c
 unfolding read_chart Ready

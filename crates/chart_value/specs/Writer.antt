@@ -10,7 +10,7 @@ use Rattle.model.specs.declared.Term.{Term}
 use Rattle.model.specs.declared.Left.{Left}
 use Rattle.model.specs.declared.Left.TheVariants.{Clock, Difference}
 use Rattle.model.specs.declared.Relation.{Relation}
-use Rattle.model.specs.declared.Relation.TheVariants.{Less, AtMost, Equal, AtLeast, More}
+use Rattle.model.specs.Numbers.{relation_number}
 use Rattle.model.specs.Chart.{region_at, term_at}
 use Rattle.chart_command.specs.Bytes.{heading_byte, message_byte, plain_byte, clock_term_byte, difference_term_byte, hot_byte}
 use Rattle.chart_command.specs.Bytes.{rest_byte, resets_byte, main_byte, end_byte}
@@ -23,11 +23,7 @@ abbrev pub four : ℕ → List ℕ → List ℕ
 four n rest = two (n / 65536) (two (n % 65536) rest)
 
 abbrev pub relation_byte : Relation → ℕ
-relation_byte Less = 0
-relation_byte AtMost = 1
-relation_byte Equal = 2
-relation_byte AtLeast = 3
-relation_byte More = 4
+relation_byte e = relation_number e
 
 abbrev pub left_bytes : Left → List ℕ → List ℕ
 left_bytes (Clock k) rest = clock_term_byte ∷ k ∷ rest

@@ -2,12 +2,10 @@
 #![tactic(auto)]
 
 ghost use Rattle.std.specs.Prelude.{◌≡◌, true, ◌↔◌};
-ghost use Rattle.base.specs.Lists.{all_below};
-ghost use Rattle.model.specs.Chart.{most_terms, term_at};
 ghost use Rattle.chart_reader.specs.Read.{read_chart};
 ghost use Rattle.chart_reader.specs.Said.{accepted_as};
-ghost use Rattle.chart_value.specs.WellFormed.{is_zero_left, is_less, is_zero_term, left_fits, term_placed};
-ghost use Rattle.chart_value.specs.WellFormed.{terms_fit, event_fits, region_fits, is_zero_event, is_zero_region};
+ghost use Rattle.chart_value.specs.WellFormed.{left_fits, term_placed};
+ghost use Rattle.chart_value.specs.WellFormed.{terms_fit, event_fits, region_fits};
 ghost use Rattle.chart_value.specs.WellFormed.{region_placed, heading_fits, region_counts_fit, well_formed};
 ghost use Rattle.chart_value.specs.Writer.{chart_bytes};
 ghost use Rattle.chart_value.specs.Given.{Given};
@@ -15,39 +13,13 @@ ghost use Rattle.chart_value.specs.Guards.{NeverFire};
 ghost use Rattle.chart_value.specs.View.{Shown, CodesTell};
 ghost use Rattle.chart_value.specs.Marks.{MarksApart};
 
+mod accepted;
+
+pub use accepted::{AcceptedChart, NotAChart};
 use model::{
     Chart, Event, LEAST_LINES, Left, MOST_CLOCKS, MOST_LINES, MOST_REGIONS, MOST_TERMS, Region,
-    Relation, Term,
+    Term,
 };
-
-fn is_zero_left(l: Left) -> bool
-    ensures { result ≡ is_zero_left l }
-{
-    match l {
-        Left::Clock(k) => k == 0,
-        Left::Difference(_, _) => false,
-    }
-}
-
-fn is_less(e: Relation) -> bool
-    ensures { result ≡ is_less e }
-{
-    match e {
-        Relation::Less => true,
-        Relation::AtMost => false,
-        Relation::Equal => false,
-        Relation::AtLeast => false,
-        Relation::More => false,
-    }
-}
-
-fn is_zero_term(t: Term) -> bool
-    ensures { result ≡ is_zero_term t }
-{
-    let l = t.left;
-    let e = t.relation;
-    is_zero_left(l) & (is_less(e) & (t.n == 0))
-}
 
 fn left_fits(clocks: u8, l: Left) -> bool
     ensures { result ≡ left_fits clocks l }
@@ -58,27 +30,24 @@ fn left_fits(clocks: u8, l: Left) -> bool
     }
 }
 
+// Term t at place j: its clocks are the chart's, or it is zeros.
 fn term_placed(clocks: u8, count: usize, j: usize, t: Term) -> bool
     ensures { result ≡ term_placed clocks count j t }
 {
-    let l = t.left;
     if j < count {
-        left_fits(clocks, l)
+        left_fits(clocks, t.left)
     } else {
-        is_zero_term(t)
+        t == model::zero_term()
     }
 }
 
-fn terms_fit(clocks: u8, g: Region) -> bool
-    ensures { result ≡ terms_fit clocks g }
+fn terms_fit(clocks: u8, g: &Region) -> bool
+    ensures { result ≡ terms_fit clocks g.now }
 {
-    let count = g.count as usize;
+    let count = usize::from(g.count);
     let mut ok = true;
-    let mut j: usize = 0;
-    while j < MOST_TERMS {
-        let t = g.terms[j];
-        ok = ok & term_placed(clocks, count, j, t);
-        j += 1;
+    for (j, t) in g.terms.iter().enumerate() {
+        ok &= term_placed(clocks, count, j, *t);
     }
     (count <= MOST_TERMS) & ok
 }
@@ -92,86 +61,45 @@ fn event_fits(lines: u8, opening: bool, before: u16, e: Event) -> bool
         }
         Event::Plain(l) => {
             let shares = (l & before) != 0;
-            (l != 0) & (bitset::within(lines as u32, l as u32) & (!opening | shares))
+            (l != 0) & (bitset::within(u32::from(lines), u32::from(l)) & (!opening | shares))
         }
     }
 }
 
-fn region_fits(lines: u8, clocks: u8, main: bool, opening: bool, before: u16, g: Region) -> bool
-    ensures { result ≡ region_fits lines clocks main opening before g }
+fn region_fits(c: &Chart, main: bool, opening: bool, before: u16, g: &Region) -> bool
+    ensures { result ≡ region_fits c.now.lines c.now.clocks main opening before g.now }
 {
-    let e = g.event;
-    let event = event_fits(lines, opening, before, e);
-    let terms = terms_fit(clocks, g);
-    let resets = bitset::within(clocks as u32, g.resets as u32);
-    let bare = model::is_bare(g);
+    let event = event_fits(c.lines, opening, before, g.event);
+    let terms = terms_fit(c.clocks, g);
+    let resets = bitset::within(u32::from(c.clocks), u32::from(g.resets));
+    let bare = model::is_bare(*g);
     let hot = !g.hot | (main & (g.count != 0));
     let rest = !g.rest | main;
     event & (terms & (resets & (!bare & (hot & rest))))
 }
 
-// Each place for a term holds zeros.
-fn terms_zero(g: Region) -> bool
-    ensures { result ≡ all_below most_terms (λ j. is_zero_term (term_at g j)) }
-{
-    let mut ok = true;
-    let mut j: usize = 0;
-    while j < MOST_TERMS {
-        let t = g.terms[j];
-        ok = ok & is_zero_term(t);
-        j += 1;
-    }
-    ok
-}
-
-fn is_zero_event(e: Event) -> bool
-    ensures { result ≡ is_zero_event e }
-{
-    match e {
-        Event::Message(_) => false,
-        Event::Plain(l) => l == 0,
-    }
-}
-
-fn is_zero_region(g: Region) -> bool
-    ensures { result ≡ is_zero_region g }
-{
-    let e = g.event;
-    let event = is_zero_event(e);
-    let terms = terms_zero(g);
-    event & ((g.count == 0) & (!g.hot & ((g.resets == 0) & (!g.rest & terms))))
-}
-
 // Region g at place i, with the lines touched before it: used and fitting, or zeros.
-fn region_placed(
-    lines: u8,
-    clocks: u8,
-    prechart: usize,
-    count: usize,
-    i: usize,
-    before: u16,
-    g: Region,
-) -> bool
-    ensures { result ≡ region_placed lines clocks prechart count i before g }
+fn region_placed(c: &Chart, i: usize, before: u16, g: Region) -> bool
+    ensures { result ≡ region_placed c.now.lines c.now.clocks c.now.prechart c.now.count i before g }
 {
-    if i < count {
-        let main = prechart <= i;
-        region_fits(lines, clocks, main, !main | (prechart == 0), before, g)
+    if i < usize::from(c.count) {
+        let main = usize::from(c.prechart) <= i;
+        region_fits(c, main, !main | (c.prechart == 0), before, &g)
     } else {
-        is_zero_region(g)
+        g == model::zero_region()
     }
 }
 
-fn heading_fits(c: Chart) -> bool
-    ensures { result ≡ heading_fits c }
+fn heading_fits(c: &Chart) -> bool
+    ensures { result ≡ heading_fits c.now }
 {
     (LEAST_LINES <= c.lines) & ((c.lines <= MOST_LINES) & (c.clocks <= MOST_CLOCKS))
 }
 
-fn region_counts_fit(c: Chart) -> bool
-    ensures { result ≡ region_counts_fit c }
+fn region_counts_fit(c: &Chart) -> bool
+    ensures { result ≡ region_counts_fit c.now }
 {
-    (c.prechart < c.count) & (c.count as usize <= MOST_REGIONS)
+    (c.prechart < c.count) & (usize::from(c.count) <= MOST_REGIONS)
 }
 
 // Whether some accepted bytes are read as the chart: then those that the writer lays out are, too.
@@ -180,19 +108,13 @@ pub fn well_formed(c: Chart) -> bool
         × ((result ≡ true) ↔ Given c)
         × ((result ≡ true) ↔ (read_chart (chart_bytes c) ≡ accepted_as c)) }
 {
-    let prechart = c.prechart as usize;
-    let count = c.count as usize;
     let mut ok = true;
-    let mut before: u16 = 0;
-    let mut i: usize = 0;
-    while i < MOST_REGIONS {
-        let g = c.regions[i];
-        let e = g.event;
-        ok = ok & region_placed(c.lines, c.clocks, prechart, count, i, before, g);
-        before = before | model::touched(e);
-        i += 1;
+    let mut before = 0;
+    for (i, g) in c.regions.iter().enumerate() {
+        ok &= region_placed(&c, i, before, *g);
+        before |= model::touched(g.event);
     }
-    heading_fits(c) & (region_counts_fit(c) & ok)
+    heading_fits(&c) & (region_counts_fit(&c) & ok)
 }
 
 // What is true of every chart that accepted bytes are read as.

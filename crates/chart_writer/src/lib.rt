@@ -1,112 +1,96 @@
 // Saves a chart (D): puts a chart value in bytes that are read as that chart.
 #![tactic(auto)]
 
-ghost use Rattle.std.specs.Prelude.{◌≡◌, true, cond, [], ◌∷◌, ◌+◌, ◌≤◌, length};
-ghost use Rattle.wire.specs.Writing.{Wrote};
-ghost use Rattle.chart_command.specs.Bytes.{main_byte};
+ghost use Rattle.std.specs.Prelude.{◌≡◌, true, [], ◌++◌, ◌+◌, ◌≤◌, length};
+ghost use Rattle.arrayvec.specs.ArrayVec.{array_vec_len};
 ghost use Rattle.chart_reader.specs.Read.{read_chart};
 ghost use Rattle.chart_reader.specs.Said.{accepted_as};
 ghost use Rattle.chart_value.specs.WellFormed.{well_formed};
 ghost use Rattle.chart_value.specs.Writer.{regions_bytes, chart_bytes};
 ghost use Rattle.chart_writer.specs.Save.{most_bytes, saved_answer, saved_buffer, saved_number, saved_size};
 
+use arrayvec::ArrayVec;
 use chart_command::{END, HEADING, MAIN};
+use chart_value::AcceptedChart;
 use model::{Chart, NOT_A_CHART, TOO_SHORT};
 
 // D6: no chart has more bytes.
 pub const MOST_BYTES: usize = 1_317;
 
-// How many bytes were written, or why none were: no chart, or a buffer with fewer bytes than the number needed.
+// Why nothing was written: no chart, or a buffer with fewer bytes than the number needed.
 #[derive(Clone, Copy)]
-pub enum ChartWritten {
-    Written(usize),
+pub enum SaveRefusal {
     NotAChart,
     TooShort(usize),
 }
 
-// 0, 20 or 12.
-pub fn number(a: ChartWritten) -> u8
-    ensures { result ≡ saved_number a }
+// 0, 20 or 12. A function and no From, here and below: Result and u8 are both the library's.
+pub fn number(saved: Result<usize, SaveRefusal>) -> u8
+    ensures { result ≡ saved_number saved }
 {
-    match a {
-        ChartWritten::Written(_) => 0,
-        ChartWritten::NotAChart => NOT_A_CHART,
-        ChartWritten::TooShort(_) => TOO_SHORT,
+    match saved {
+        Ok(_) => 0,
+        Err(SaveRefusal::NotAChart) => NOT_A_CHART,
+        Err(SaveRefusal::TooShort(_)) => TOO_SHORT,
     }
 }
 
 // The length written or needed; 0 for no chart.
-pub fn size(a: ChartWritten) -> usize
-    ensures { result ≡ saved_size a }
+pub fn size(saved: Result<usize, SaveRefusal>) -> usize
+    ensures { result ≡ saved_size saved }
 {
-    match a {
-        ChartWritten::Written(n) => n,
-        ChartWritten::NotAChart => 0,
-        ChartWritten::TooShort(n) => n,
+    match saved {
+        Ok(n) => n,
+        Err(SaveRefusal::NotAChart) => 0,
+        Err(SaveRefusal::TooShort(n)) => n,
     }
 }
 
-// D2: the byte between the halves, before the first region of the main chart.
-fn put_main(out: &mut [u8], at: usize, first: bool) -> usize
-    requires { at + 1 ≤ length out.old }
-    ensures bytes { Wrote out.old at (cond first (main_byte ∷ []) []) out.new result }
-    ensures short { result ≤ at + 1 }
+// The bytes of a chart, made aside.
+type Bytes = ArrayVec<u8, MOST_BYTES>;
+
+// D2: the regions in their order, and the byte between the halves before the first one of the main chart.
+#[tactic(auto, using(crate::proofs::Laws::regions_fit))]
+fn put_regions(out: &mut Bytes, accepted: &AcceptedChart)
+    requires { array_vec_len out.old + 1313 ≤ most_bytes }
+    ensures items { out.new.items
+        ≡ out.old.items ++ regions_bytes accepted.now.chart accepted.now.chart.count 0 [] }
+    ensures short { array_vec_len out.new ≤ array_vec_len out.old + 1313 }
 {
-    if first {
-        return wire::put_byte(out, at, MAIN);
+    let c = &accepted.chart;
+    let prechart = usize::from(c.prechart);
+    for (i, g) in c.regions[..usize::from(c.count)].iter().enumerate() {
+        region_writer::put_flag(out, MAIN, i == prechart);
+        region_writer::append_region(out, g);
     }
-    at
 }
 
-// D2: the regions in their order.
-fn put_regions(out: &mut [u8], at: usize, c: Chart) -> usize
-    requires c_value { well_formed c ≡ true }
-    requires at_in_bounds { at + 1313 ≤ length out.old }
-    ensures bytes { Wrote out.old at (regions_bytes c c.count 0 []) out.new result }
-    ensures short { result ≤ at + 1313 }
+// D2: the whole chart.
+fn bytes_of(accepted: &AcceptedChart) -> Bytes
+    ensures { result.items ≡ chart_bytes accepted.now.chart }
 {
-    let prechart = c.prechart as usize;
-    let count = c.count as usize;
-    let mut next = at;
-    let mut i: usize = 0;
-    while i < count {
-        let g = c.regions[i];
-        let start = put_main(out, next, i == prechart);
-        next = region_writer::put_region(out, start, g);
-        i += 1;
-    }
-    next
-}
-
-// D2: the whole chart, at the start of the buffer.
-fn put_chart(out: &mut [u8], c: Chart) -> usize
-    requires c_value { well_formed c ≡ true }
-    requires most_bytes_in_bounds { most_bytes ≤ length out.old }
-    ensures bytes { Wrote out.old 0 (chart_bytes c) out.new result }
-    ensures short { result ≤ most_bytes }
-{
-    let second = wire::put_byte(out, 0, HEADING);
-    let third = wire::put_byte(out, second, c.lines);
-    let fourth = wire::put_byte(out, third, c.clocks);
-    let last = put_regions(out, fourth, c);
-    wire::put_byte(out, last, END)
+    let mut bytes = ArrayVec::new();
+    bytes.push(HEADING);
+    bytes.push(accepted.chart.lines);
+    bytes.push(accepted.chart.clocks);
+    put_regions(&mut bytes, accepted);
+    bytes.push(END);
+    bytes
 }
 
 // D1 to D6: the bytes are made aside, and go into the buffer whole or not at all.
-pub fn write(chart: Chart, out: &mut [u8]) -> ChartWritten
+pub fn write(chart: Chart, out: &mut [u8]) -> Result<usize, SaveRefusal>
     ensures answer { result ≡ saved_answer chart out.old }
     ensures buffer { out.new ≡ saved_buffer chart out.old }
     ensures reads { well_formed chart ≡ true → read_chart (chart_bytes chart) ≡ accepted_as chart }
     ensures short { well_formed chart ≡ true → length (chart_bytes chart) ≤ most_bytes }
 {
-    if !chart_value::well_formed(chart) {
-        return ChartWritten::NotAChart;
+    let Ok(accepted) = AcceptedChart::try_from(chart) else {
+        return Err(SaveRefusal::NotAChart);
+    };
+    let bytes = bytes_of(&accepted);
+    if !wire::put_whole(out, bytes.as_slice()) {
+        return Err(SaveRefusal::TooShort(bytes.len()));
     }
-    let mut bytes = [0u8; MOST_BYTES];
-    let n = put_chart(&mut bytes, chart);
-    if wire::put_whole(out, &bytes[..n]) {
-        ChartWritten::Written(n)
-    } else {
-        ChartWritten::TooShort(n)
-    }
+    Ok(bytes.len())
 }

@@ -17,9 +17,9 @@ use Rattle.rounds.specs.Machine.{after}
 use Rattle.verdict.specs.Verdict.{verdict_of}
 use Rattle.judge.specs.Said as judge
 use Rattle.judge.specs.Judge.{by_check, judge_of}
-use Rattle.log_check.specs.declared.Checked.{Checked}
-use Rattle.log_check.specs.declared.Checked.TheVariants as checked
-use Rattle.log_check.specs.declared.CheckStep.TheVariants.{Over}
+use Rattle.std.specs.Prelude.{Ok, Err}
+use Rattle.log_check.specs.Refusal.{fault, Checked}
+use Rattle.log_check.specs.Check.{Over}
 use Rattle.log_check.specs.Check.{check_log}
 use Rattle.log_check.proofs.Laws.{left_step}
 use Rattle.log_claims.proofs.Logs.{moment, walked, walk_records, walk_fine, fault_ends, Checks, fine, bad, log_checks}
@@ -50,8 +50,8 @@ module _ (c : Chart) (G : (well_formed c ≡ true) ↔ Given c) (s : List ℕ) w
       let S = walked s W in
       let E = fault_ends s k f S.first F in
       rw E.told
-      (judged_by g (checked.Refused E.why at)
-      (left_step s at k (moment last) (size es) S.left (Over (checked.Refused E.why at)) E.ends_there))
+      (judged_by g (Err (fault E.why at))
+      (left_step s at k (moment last) (size es) S.left (Over (Err (fault E.why at))) E.ends_there))
   judges_only x (judges g {es} W F) =
       ap {B = judge.Said}
       (λ (l : Snoc Record). record {
@@ -59,7 +59,7 @@ module _ (c : Chart) (G : (well_formed c ≡ true) ↔ Given c) (s : List ℕ) w
         offset = 0;
         verdict = verdict_of c (after (chart_of c) (logged l));
       }) (sym (walk_records s W F))
-      ∙ judged_by g (checked.Fine (size es)) (sym (walk_fine s W F))
+      ∙ judged_by g (Ok (size es)) (sym (walk_fine s W F))
 
   pub judges_just : (r : judge.Said) → r ≡ judge_of c s → Just (JudgesAs c s) r
   judges_just r e = record { holds = subst (JudgesAs c s) (sym e) judges_as; only = λ x J. judges_only x J ∙ sym e }

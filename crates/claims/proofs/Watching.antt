@@ -1,8 +1,10 @@
 -- A log's records fed one after the other. Assumes nothing.
-use mathlib.Core.Path.{◌≡◌, refl, sym, ap, subst, ◌∙◌}
+use mathlib.Core.Path.{◌≡◌, sym, ap, ap₂, subst, ◌∙◌}
+use native.Mathlib.Omega.{arith}
 use mathlib.Core.Logic.{◌≢◌}
 use mathlib.Core.List.{List}
-use Prim.Native.Nat.{ℕ, ◌-◌, ◌<◌}
+use Rattle.std.specs.Prelude.{None, Ok, Err}
+use Prim.Native.Nat.{ℕ, ◌+◌, ◌-◌, ◌<◌, ◌≤◌}
 use lib.ListN.{length}
 use Rattle.model.specs.declared.Chart.{Chart}
 use Rattle.model.specs.declared.Moment.{Moment}
@@ -15,12 +17,10 @@ use Rattle.chart_reader.specs.Read.{read_chart}
 use Rattle.chart_reader.specs.Said.{Said, said, accepted_as, number_of, offset_of}
 use Rattle.chart_value.proofs.Shown.{shown_of, shown}
 use Rattle.chart_value.proofs.Sound.{sound}
-use Rattle.log_reader.specs.declared.RecordRefusal.{RecordRefusal}
 use Rattle.log_clock.specs.declared.Kind.{Kind}
 use Rattle.log_clock.specs.declared.Kind.TheVariants.{Unset}
-use Rattle.log_clock.specs.declared.MomentRefusal.{MomentRefusal}
-use Rattle.log_clock.specs.declared.Dated.TheVariants.{End, NoRecord, NoMoment, At}
-use Rattle.log_clock.specs.Dated.{dated_at}
+use Rattle.log_clock.specs.declared.Undated.{Undated}
+use Rattle.log_clock.specs.Dated.{dated_record, dated_at}
 use Rattle.base.specs.Lists.{Snoc, ε, ◌▸◌}
 use Rattle.rounds.specs.Feeds.{Answer as AbstractAnswer}
 use Rattle.rounds.specs.Machine.{Monitor as AbstractMonitor}
@@ -56,48 +56,56 @@ demands_read bytes c e =
       feeding = feeding c (sound bytes c e).fine A;
     }
 
--- the records fed before an offset, of a kind, the last at the moment `last`; they and those left are the log's
-pub record SoFar (c : Chart) (s : List ℕ) (m : Monitor) (at left : ℕ) (k : Kind) (last : Moment) : Type 0 where
+-- n records fed before an offset, of a kind, the last at the moment `last`; they and those left are the log's
+pub record SoFar (c : Chart) (s : List ℕ) (m : Monitor) (at n : ℕ) (k : Kind) (last : Moment) : Type 0 where
   pub before : Snoc Record
   pub ans : Snoc AbstractAnswer
   pub history : History c before ans m
-  pub rest : records_from left s at k last before ≡ records_in s
+  pub rest : records_from (length s - n) s at k last before ≡ records_in s
 
 pub at_start : {c : Chart} {s : List ℕ} (m : Monitor) → m ≡ zero_monitor
-    → SoFar c s m 0 (length s) Unset (record { 0 = 0 })
+    → SoFar c s m 0 0 Unset (record { 0 = 0 })
 unfolding records_in
-at_start {c} m e =
-    record { before = ε; ans = ε; history = subst (λ (x : Monitor). History c ε ε x) (sym e) none_yet; rest = refl }
+at_start {c} {s} m e =
+    let z : length s - 0 ≡ length s = omega arith in
+    record {
+      before = ε;
+      ans = ε;
+      history = subst (λ (x : Monitor). History c ε ε x) (sym e) none_yet;
+      rest = ap (λ (f : ℕ). records_from f s 0 Unset (record { 0 = 0 }) ε) z;
+    }
 
-module _ {c : Chart} {s : List ℕ} {m : Monitor} {at left : ℕ} {k : Kind} {last : Moment}
-    (S : SoFar c s m at left k last) where
-  pub fed_one : 0 < left → (e : Record) (kind : Kind) (past : ℕ) → dated_at s at k last ≡ At e kind past → (r : Step)
-      → step_of r ≡ feed_of c m e → (t : Moment) → t ≡ time_of e → SoFar c s r.next past (left - 1) kind t
-  fed_one h e kind past q r f t z = record {
+module _ {c : Chart} {s : List ℕ} {m : Monitor} {at n : ℕ} {k : Kind} {last : Moment}
+    (S : SoFar c s m at n k last) (h : n < length s) where
+  some_left : 0 < length s - n
+  some_left = omega (arith, h)
+
+  pub fed_one : (e : Record) (kind : Kind) (past : ℕ) → dated_at s at k last ≡ dated_record e kind past → (r : Step)
+      → step_of r ≡ feed_of c m e → (t : Moment) → t ≡ time_of e → SoFar c s r.next past (n + 1) kind t
+  fed_one e kind past q r f t z = record {
     before = S.before ▸ e;
     ans = _;
     history = one_more e r S.history f;
     rest =
-        ap (λ (x : Moment). records_from (left - 1) s past kind x (S.before ▸ e)) z
-        ∙ sym (one_record s at left h k last S.before (At e kind past) q) ∙ S.rest;
+        let w : length s - (n + 1) ≡ length s - n - 1 = omega arith in
+        ap₂ (λ (f : ℕ) (x : Moment). records_from f s past kind x (S.before ▸ e)) w z
+        ∙ sym (one_record s at (length s - n) some_left k last S.before (dated_record e kind past) q) ∙ S.rest;
   }
 
+module _ {c : Chart} {s : List ℕ} {m : Monitor} {at n : ℕ} {k : Kind} {last : Moment} (S : SoFar c s m at n k last) where
   done : S.before ≡ records_in s → FedAll c (records_in s) m
   done e = record { ans = S.ans; history = subst (λ (es : Snoc Record). History c es S.ans m) e S.history }
 
   -- no record with a moment stands at the offset
-  pub fed_none : 0 < left → dated_at s at k last ≡ End → FedAll c (records_in s) m
-  fed_none h q = done (sym (one_record s at left h k last S.before End q) ∙ S.rest)
+  pub fed_none : n < length s → dated_at s at k last ≡ Ok None → FedAll c (records_in s) m
+  fed_none h q = done (sym (one_record s at (length s - n) (some_left S h) k last S.before (Ok None) q) ∙ S.rest)
 
-  pub fed_bad : 0 < left → (f : RecordRefusal) → dated_at s at k last ≡ NoRecord f → FedAll c (records_in s) m
-  fed_bad h f q = done (sym (one_record s at left h k last S.before (NoRecord f) q) ∙ S.rest)
+  pub fed_bad : n < length s → (f : Undated) → dated_at s at k last ≡ Err f → FedAll c (records_in s) m
+  fed_bad h f q = done (sym (one_record s at (length s - n) (some_left S h) k last S.before (Err f) q) ∙ S.rest)
 
-  pub fed_untimed : 0 < left → (f : MomentRefusal) → dated_at s at k last ≡ NoMoment f → FedAll c (records_in s) m
-  fed_untimed h f q = done (sym (one_record s at left h k last S.before (NoMoment f) q) ∙ S.rest)
-
-  pub fed_end : left ≡ 0 → FedAll c (records_in s) m
+  pub fed_end : length s ≤ n → FedAll c (records_in s) m
   unfolding records_from
-  fed_end z = done (sym (ap (λ (j : ℕ). records_from j s at k last S.before) z) ∙ S.rest)
+  fed_end h = let z : length s - n ≡ 0 = omega (arith, h) in done (sym (ap (λ (j : ℕ). records_from j s at k last S.before) z) ∙ S.rest)
 
 -- what `watch` promises of a chart that is read
 pub watched : (chart log : List ℕ) (x : ChartRead) (r : Watched) → said x ≡ read_chart chart → r.answer ≡ x.answer

@@ -5,8 +5,7 @@ use Rattle.model.specs.declared.Chart.{Chart}
 use Rattle.model.specs.declared.Cause.{Cause}
 use Rattle.model.specs.declared.Monitor.{Monitor}
 use Rattle.model.specs.declared.Record.{Record}
-use Rattle.model.specs.declared.Answer.{Answer}
-use Rattle.model.specs.Answers.{most_records}
+use Rattle.model.specs.Answers.{Fed, most_records}
 use Rattle.condition.specs.Condition.{Tells}
 use Rattle.condition.specs.Table.{TableRule}
 use Rattle.chart_reader.specs.declared.ChartRead.{ChartRead}
@@ -24,10 +23,10 @@ use Rattle.rounds.specs.Feeds.{unended, after_break}
 use Rattle.rounds.specs.Machine.{Monitor as AbstractMonitor}
 use Rattle.rounds.specs.Demand3.{Demand3, Meaning, Agrees}
 use Rattle.paper.specs.Demand2.{Demand2}
-use Rattle.stepping.specs.Answers.{answer_of}
+use Rattle.stepping.specs.Answers.{fed_answer}
 use Rattle.stepping.specs.declared.Step.{Step}
 use Rattle.stepping.specs.Monitors.{monitor_at, step_of}
-use Rattle.log_reader.specs.declared.Next.{Next}
+use Rattle.log_reader.specs.Record.{RecordRead}
 use Rattle.log_reader.specs.Record as found
 use Rattle.log_clock.specs.declared.Kind.{Kind}
 use Rattle.log_clock.specs.declared.Kind.TheVariants.{Raw}
@@ -47,8 +46,8 @@ use Rattle.examples.specs.Examples.{examples, AllSaid}
 pub record AnswersTell : Type 0 where
   pub charts : (x y : ChartRead) → read.said x ≡ read.said y → x ≡ y
   pub judgements : (x y : Judgement) → judge.said x ≡ judge.said y → x ≡ y
-  pub records : (at : ℕ) (x y : Next) → found.said at x ≡ found.said at y → x ≡ y
-  pub feeds : (x y : Answer) → answer_of x ≡ answer_of y → x ≡ y
+  pub records : (at : ℕ) (x y : RecordRead) → found.said at x ≡ found.said at y → x ≡ y
+  pub feeds : (x y : Fed) → fed_answer x ≡ fed_answer y → x ≡ y
 
 -- the view of a stored monitor shows each field as it is stored
 pub record Views (m : Monitor) : Type 0 where
@@ -118,7 +117,7 @@ pub record Claims : Type 0 where
   -- the view in which feeding's contract is stated shows every field of a monitor, and fixes the monitor; a step's
   -- answer and monitor are shown likewise
   pub views : (m : Monitor) → Views m
-  pub steps : (r : Step) → ((step_of r).answer ≡ answer_of r.answer) × ((step_of r).next ≡ monitor_at r.next)
+  pub steps : (r : Step) → ((step_of r).answer ≡ fed_answer r.answer) × ((step_of r).next ≡ monitor_at r.next)
   pub view_tells : ViewTells
   -- the examples X3 to X11, X13 and X14
   pub examples_said : AllSaid examples

@@ -13,9 +13,10 @@ ghost use Rattle.claims.specs.Demand1.{ReadsAs, JudgesAs};
 ghost use Rattle.log_clock.specs.Records.{records_in};
 ghost use Rattle.claims.specs.Watch.{FedAll, Watches};
 
-use chart_reader::{ChartAnswer, ChartRead};
+use chart_reader::ChartRead;
+use chart_step::Fault;
 use judge::Judgement;
-use log_clock::{Dated, Kind};
+use log_clock::Kind;
 use model::{Chart, Moment, Monitor};
 
 // Reading a chart: every byte string.
@@ -37,7 +38,7 @@ pub fn judge_log(chart: Chart, log: &[u8]) -> Judgement
 // What reading the chart said, and the monitor after the log's records.
 #[derive(Clone, Copy)]
 pub struct Watched {
-    pub answer: ChartAnswer,
+    pub answer: Result<(), Fault>,
     pub monitor: Monitor,
 }
 
@@ -50,28 +51,14 @@ fn feed_all(chart: Chart, log: &[u8], fresh: Monitor) -> Monitor
     let mut at: usize = 0;
     let mut kind = Kind::Unset;
     let mut last = Moment(0);
-    let mut left = log.len();
-    while 0 < left {
-        let d = log_clock::record_at(log, at, kind, last);
-        match d {
-            Dated::End => {
-                return m;
-            }
-            Dated::NoRecord(_) => {
-                return m;
-            }
-            Dated::NoMoment(_) => {
-                return m;
-            }
-            Dated::At(e, then, past) => {
-                let s = monitor::feed(chart, m, e);
-                m = s.next;
-                at = past;
-                kind = then;
-                last = model::time_of(e);
-                left -= 1;
-            }
-        }
+    for _ in 0..log.len() {
+        let Ok(Some(d)) = log_clock::record_at(log, at, kind, last) else {
+            return m;
+        };
+        m = monitor::feed(chart, m, d.item).next;
+        at = d.past;
+        kind = d.kind;
+        last = model::time_of(d.item);
     }
     m
 }
@@ -87,12 +74,12 @@ pub fn watch(chart: &[u8], log: &[u8]) -> Watched
     let fresh = made.monitor;
     let answer = read.answer;
     match answer {
-        ChartAnswer::Accepted => {
+        Ok(()) => {
             let monitor = feed_all(c, log, fresh);
             Watched { answer, monitor }
         }
-        ChartAnswer::Refused(refusal, offset) => Watched {
-            answer: ChartAnswer::Refused(refusal, offset),
+        Err(fault) => Watched {
+            answer: Err(fault),
             monitor: fresh,
         },
     }

@@ -4,7 +4,6 @@ use mathlib.Core.Path.{◌≡◌, refl, sym, ap, ap₂, ◌∙◌}
 use mathlib.Core.Bool.{Bool, true, false}
 use Prim.Native.Nat.{ℕ, ◌+◌, ◌*◌, ◌/◌, ◌%◌, ◌<◌}
 use native.Mathlib.Omega.{arith}
-use borrow.Author.Tests.{lt-ltb, le-ltb, eq-eqb, ne_eqb, eqb-true, eqb-false}
 use lib.Dec.{eqb}
 use lib.IntN.{ℤ, pos, sub_ℕ, ◌-ℤ◌}
 use Rattle.model.specs.declared.Relation.{Relation}
@@ -14,7 +13,7 @@ use Rattle.condition.specs.Condition.{related}
 use Rattle.condition.specs.Table.{sign_of, table_says, TableRule}
 use Rattle.condition.specs.Rows.{bit, row_bits, row_says, bias, biased, compared, TestsExactly}
 use Rattle.condition.proofs.Signed.{minus, sub_sub, signed_is}
-use Rattle.condition.proofs.Table.{sign_by, sub_sign, table_rule}
+use Rattle.condition.proofs.Table.{table_rule}
 
 bit_is : (b : Bool) → eqb (bit b) 1 ≡ b
 bit_is true = refl
@@ -57,31 +56,6 @@ tests_exactly =
       exact = λ e row a b n h. row_related table_rule e row h (pos a -ℤ pos b) (pos (biased n) -ℤ pos bias)
           ∙ ap (related e (pos a -ℤ pos b)) (sym (signed_is n));
     }
-
--- the entry by the order of two numbers
-module _ (row a b : ℕ) where
-  sign_of_lem : sign_of (pos a -ℤ pos b) ≡ sign_by a b
-  sign_of_lem = ap sign_of (minus a b) ∙ sub_sign a b
-
-  pub at_below : a < b → row_says row (sign_of (pos a -ℤ pos b)) ≡ eqb (row % 2) 1
-  at_below l = let q : sign_by a b ≡ Below = rw (lt-ltb a b l) in ap (row_says row) (sign_of_lem ∙ q)
-
-  pub at_above : b < a → row_says row (sign_of (pos a -ℤ pos b)) ≡ eqb (row / 4 % 2) 1
-  at_above l =
-      let q : sign_by a b ≡ Above = rw (le-ltb a b (omega arith), lt-ltb b a l) in ap (row_says row) (sign_of_lem ∙ q)
-
-  pub at_same : a ≡ b → row_says row (sign_of (pos a -ℤ pos b)) ≡ eqb (row / 2 % 2) 1
-  at_same e =
-      let q : sign_by a b ≡ Same = rw (le-ltb a b (omega arith), le-ltb b a (omega arith)) in
-      ap (row_says row) (sign_of_lem ∙ q)
-
--- a bit that is not 0 is 1
-module _ (k : ℕ) where
-  pub bit_off : eqb (k % 2) 0 ≡ true → eqb (k % 2) 1 ≡ false
-  bit_off e = let z : k % 2 ≡ 0 = eqb-true (k % 2) 0 e in ne_eqb (k % 2) 1 (λ q. omega arith)
-
-  pub bit_on : eqb (k % 2) 0 ≡ false → eqb (k % 2) 1 ≡ true
-  bit_on e = let z : ¬ (k % 2 ≡ 0) = eqb-false (k % 2) 0 e in eq-eqb (k % 2) 1 (omega (arith, z))
 
 -- the sums whose difference is the exact one
 pub exact_sums : (row a b n : ℕ) → row_says row (sign_of (pos (bias + a) -ℤ pos (n + b))) ≡ compared row a b n

@@ -1,7 +1,7 @@
 -- The table that decides terms (C18): a row for each relation, an entry for each sign of the exact difference.
 use Rattle.std.specs.Prelude.{◌≡◌, Bool, true, false, List, [], ◌∷◌, ℕ, zero, suc, ◌+◌, ◌*◌, ℤ, pos, negsuc, ◌-ℤ◌, get_or}
 use Rattle.model.specs.declared.Relation.{Relation}
-use Rattle.model.specs.declared.Relation.TheVariants.{Less, AtMost, Equal, AtLeast, More}
+use Rattle.model.specs.Numbers.{relation_number}
 use Rattle.condition.specs.declared.Sign.{Sign}
 use Rattle.condition.specs.declared.Sign.TheVariants.{Below, Same, Above}
 use Rattle.condition.specs.Condition.{related}
@@ -20,11 +20,7 @@ table = true ∷ false ∷ false
     ∷ false ∷ false ∷ true ∷ []
 
 abbrev pub row_of : Relation → ℕ
-row_of Less = 0
-row_of AtMost = 1
-row_of Equal = 2
-row_of AtLeast = 3
-row_of More = 4
+row_of e = relation_number e
 
 abbrev pub column_of : Sign → ℕ
 column_of Below = 0

@@ -3,11 +3,12 @@
 
 ghost use Rattle.std.specs.Prelude.{◌≡◌, ◌<◌, pos, ◌-ℤ◌};
 ghost use Rattle.condition.specs.Table.{row_of, column_of, sign_of, table_says, TableRule};
-ghost use Rattle.condition.specs.Rows.{bit, row_bits, row_says, biased, compared, TestsExactly};
+ghost use Rattle.condition.specs.Rows.{row_bits, row_says, biased, compared, TestsExactly};
 
 use model::{Length, Relation};
 
-// The sign of a difference: it is below zero, zero, or above zero.
+// The sign of a difference: it is below zero, zero, or above zero. An enum of its own, not std's `Ordering`: that is no
+// plainer, because no sign is computed when it runs, and `Less` and `Equal` are names of relations here.
 #[derive(Clone, Copy)]
 pub enum Sign {
     Below,
@@ -45,13 +46,7 @@ fn row_of(e: Relation) -> usize
     ensures value { result ≡ row_of e }
     ensures bound { result < 5 }
 {
-    match e {
-        Relation::Less => 0,
-        Relation::AtMost => 1,
-        Relation::Equal => 2,
-        Relation::AtLeast => 3,
-        Relation::More => 4,
-    }
+    usize::from(u8::from(e))
 }
 
 // The sign's place in a row.
@@ -59,11 +54,7 @@ fn column_of(s: Sign) -> usize
     ensures value { result ≡ column_of s }
     ensures bound { result < 3 }
 {
-    match s {
-        Sign::Below => 0,
-        Sign::Same => 1,
-        Sign::Above => 2,
-    }
+    s as usize
 }
 
 // The table's entry: whether the relation holds for differences of this sign.
@@ -74,23 +65,14 @@ pub fn says(e: Relation, s: Sign) -> bool
     SAYS[row_of(e) * 3 + column_of(s)]
 }
 
-// 1 for yes.
-fn bit(b: bool) -> u64
-    ensures value { result ≡ bit b }
-    ensures bound { result < 2 }
-{
-    if b {
-        return 1;
-    }
-    0
-}
-
 // The relation's row, an entry a bit.
 fn look_up_row(e: Relation) -> u64
     ensures value { result ≡ row_bits e }
     ensures bound { result < 8 }
 {
-    bit(says(e, Sign::Below)) + bit(says(e, Sign::Same)) * 2 + bit(says(e, Sign::Above)) * 4
+    u64::from(says(e, Sign::Below))
+        + u64::from(says(e, Sign::Same)) * 2
+        + u64::from(says(e, Sign::Above)) * 4
 }
 
 // The same. An arm knows its relation, so that the compiler looks its row up.
@@ -113,9 +95,9 @@ pub fn biased(n: u32) -> u64
     ensures bound { result < 0x1_0000_0000 }
 {
     if n < SIGN {
-        return BIAS + wire::wide64(n);
+        return BIAS + u64::from(n);
     }
-    wire::wide64(n) - BIAS
+    u64::from(n) - BIAS
 }
 
 // The row's entry at the sign of a less b: below zero, above zero, zero. Unequal numbers that reach the last line are
@@ -139,7 +121,7 @@ pub fn compares(row: u64, first: Length, second: Length, n: u64) -> bool
     ensures value { result ≡ compared row first.0 second.0 n }
     ensures exact { TestsExactly }
 {
-    let x = BIAS + wire::wide64(first.0);
-    let y = n + wire::wide64(second.0);
+    let x = BIAS + u64::from(first.0);
+    let y = n + u64::from(second.0);
     row_says(row, x, y)
 }

@@ -1,9 +1,8 @@
 -- The examples X3 to X11, X13 and X14, as one list: a chart's bytes, a log's bytes, and what is said of them.
-use Rattle.std.specs.Prelude.{◌≡◌, List, [], ◌∷◌, ℕ}
+use Rattle.std.specs.Prelude.{◌≡◌, List, [], ◌∷◌, ℕ, Ok}
 use Rattle.model.specs.Answers.{verdict_from}
 use Rattle.listing.specs.declared.Part.TheVariants.{Chart, Log}
-use Rattle.listing.specs.declared.Report.{Report}
-use Rattle.listing.specs.declared.Report.TheVariants.{Judged, Refused}
+use Rattle.listing.specs.Listing.{Report, refused}
 use Rattle.respond.specs.Respond.{parts_report}
 
 pub record Example : Type 0 where
@@ -40,12 +39,12 @@ judged chart log standing kept dropped records break reason region term =
     record {
       chart = chart;
       log = log;
-      report = Judged (verdict_from standing kept dropped records break reason region term);
+      report = Ok (verdict_from standing kept dropped records break reason region term);
     }
 
 -- a chart that is refused, with an empty log
 abbrev pub refused_chart : List ℕ → ℕ → ℕ → Example
-refused_chart chart number offset = record { chart = chart; log = []; report = Refused Chart number offset }
+refused_chart chart number offset = record { chart = chart; log = []; report = refused Chart number offset }
 
 abbrev pub examples : List Example
 examples =
@@ -64,7 +63,7 @@ examples =
     -- X10
     ∷ judged chart_u [] 0 0 0 0 0 0 0 0
     -- X11
-    ∷ record { chart = chart_u; log = undo 100 (headings 99 []); report = Refused Log 22 9 }
+    ∷ record { chart = chart_u; log = undo 100 (headings 99 []); report = refused Log 22 9 }
     -- X13 (two charts) and X14
     ∷ refused_chart [] 1 0
     ∷ refused_chart (0x10 ∷ 0x01 ∷ 0x00 ∷ []) 4 0

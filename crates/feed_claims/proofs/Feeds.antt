@@ -8,15 +8,15 @@ use native.Mathlib.Omega.{arith}
 use borrow.Author.Tests.{ltb-true, ltb-false, leb-true, leb-false, lt-ltb, le-ltb, le-leb, eq-eqb, ne_eqb, eqb-true}
 use borrow.Author.Tests.{eqb-false}
 use lib.Dec.{eqb, leb, ltb}
+use Rattle.std.specs.Prelude.{Result, Ok, Err}
 use lib.ListN.{length}
 use Rattle.model.specs.declared.Chart.{Chart}
 use Rattle.model.specs.declared.Monitor.{Monitor}
 use Rattle.model.specs.declared.Record.{Record}
 use Rattle.model.specs.Chart.{most_clocks}
 use Rattle.model.specs.declared.FeedRefusal.{FeedRefusal}
-use Rattle.model.specs.declared.Answer.{Answer}
-use Rattle.model.specs.declared.Answer.TheVariants.{Refused, Broken, Kept, Dropped, Entered, Moved, Quiet}
-use Rattle.model.specs.Answers.{most_records}
+use Rattle.model.specs.declared.Answer.TheVariants.{Broken, Kept, Dropped, Entered, Moved, Quiet}
+use Rattle.model.specs.Answers.{Fed, most_records}
 use Rattle.chart_value.specs.Given.{Given}
 use Rattle.chart_value.specs.View.{chart_of}
 use Rattle.chart_value.specs.WellFormed.{well_formed}
@@ -29,10 +29,9 @@ use Rattle.paper.specs.Taken.{Taken, status_of, Acceptable}
 use Rattle.paper.specs.Demand2.{Demand2}
 use Rattle.paper.proofs.Demand2.{demand_2}
 use Rattle.stepping.specs.declared.Step.{Step}
-use Rattle.stepping.specs.Answers.{answer_of, HandsBack}
+use Rattle.stepping.specs.Answers.{fed_answer, HandsBack}
 use Rattle.stepping.specs.Monitors.{monitor_at, step_of}
-use Rattle.monitor.specs.declared.MadeAnswer.{MadeAnswer}
-use Rattle.monitor.specs.declared.MadeAnswer.TheVariants.{Fresh, NoChart}
+use Rattle.chart_value.specs.declared.accepted.NotAChart.{NotAChart}
 use Rattle.monitor.specs.declared.Made.{Made}
 use Rattle.monitor.specs.Feed.{made_number, MadeOf, feed_of}
 use Rattle.monitor.specs.Stored.{Stored}
@@ -44,20 +43,20 @@ use Rattle.base.specs.Just.{Just}
 use Rattle.feed_claims.specs.Feeds.{MakesAs, makes, no_chart, FeedsAs, not_a_chart_case}
 use Rattle.feed_claims.specs.Feeds.{unfit, broken_again, time_falls_case, too_many, takes, FeedsJust}
 
-same_made : (a b : MadeAnswer) → made_number a ≡ made_number b → a ≡ b
-same_made Fresh Fresh e = refl
-same_made Fresh NoChart e = absurd (omega arith)
-same_made NoChart Fresh e = absurd (omega arith)
-same_made NoChart NoChart e = refl
+same_made : (a b : Result (Unit {0}) NotAChart) → made_number a ≡ made_number b → a ≡ b
+same_made (Ok x) (Ok y) e = refl
+same_made (Ok x) (Err y) e = absurd (omega arith)
+same_made (Err x) (Ok y) e = absurd (omega arith)
+same_made (Err x) (Err y) e = refl
 
-is_refused_lem : (a : Answer) (k : ℕ) → answer_of a ≡ refused k → (f : FeedRefusal) × (a ≡ Refused f)
-is_refused_lem (Refused f) k e = (f, refl)
-is_refused_lem (Broken n f x) k e = let z : ◌≡◌ {A = ℕ} 0 1 = cc in absurd (omega arith)
-is_refused_lem Kept k e = let z : ◌≡◌ {A = ℕ} 0 1 = cc in absurd (omega arith)
-is_refused_lem (Dropped x) k e = let z : ◌≡◌ {A = ℕ} 0 1 = cc in absurd (omega arith)
-is_refused_lem Entered k e = let z : ◌≡◌ {A = ℕ} 0 1 = cc in absurd (omega arith)
-is_refused_lem Moved k e = let z : ◌≡◌ {A = ℕ} 0 1 = cc in absurd (omega arith)
-is_refused_lem Quiet k e = let z : ◌≡◌ {A = ℕ} 0 1 = cc in absurd (omega arith)
+is_refused_lem : (a : Fed) (k : ℕ) → fed_answer a ≡ refused k → (f : FeedRefusal) × (a ≡ Err f)
+is_refused_lem (Err f) k e = (f, refl)
+is_refused_lem (Ok (Broken n f x)) k e = let z : ◌≡◌ {A = ℕ} 0 1 = cc in absurd (omega arith)
+is_refused_lem (Ok Kept) k e = let z : ◌≡◌ {A = ℕ} 0 1 = cc in absurd (omega arith)
+is_refused_lem (Ok (Dropped x)) k e = let z : ◌≡◌ {A = ℕ} 0 1 = cc in absurd (omega arith)
+is_refused_lem (Ok Entered) k e = let z : ◌≡◌ {A = ℕ} 0 1 = cc in absurd (omega arith)
+is_refused_lem (Ok Moved) k e = let z : ◌≡◌ {A = ℕ} 0 1 = cc in absurd (omega arith)
+is_refused_lem (Ok Quiet) k e = let z : ◌≡◌ {A = ℕ} 0 1 = cc in absurd (omega arith)
 
 -- of a chart value for which the test of refusal 20 is exact
 module _ (c : Chart) (G : (well_formed c ≡ true) ↔ Given c) where
@@ -67,10 +66,10 @@ module _ (c : Chart) (G : (well_formed c ≡ true) ↔ Given c) where
   makes_as : (r : Made) → MadeOf c r → MakesAs c r
   makes_as r M = elim (split (well_formed c)) [
     | inl w ↦
-        let a = same_made Fresh r.answer (sym (M.number ∙ rw w)) in
+        let a = same_made (Ok tt) r.answer (sym (M.number ∙ rw w)) in
         subst (λ (x : Made). MakesAs c x) (λ i. record { answer = a i; monitor = sym M.monitor i }) (makes (G.0 w))
     | inr w ↦
-        let a = same_made NoChart r.answer (sym (M.number ∙ rw w)) in
+        let a = same_made (Err (record {})) r.answer (sym (M.number ∙ rw w)) in
         subst (λ (x : Made). MakesAs c x) (λ i. record { answer = a i; monitor = sym M.monitor i })
         (no_chart (given_not w))
   ]
@@ -86,17 +85,17 @@ module _ (c : Chart) (G : (well_formed c ≡ true) ↔ Given c) where
 
   module _ (m : Monitor) (e : Record) (r : Step) (places : length m.place.resets ≡ most_clocks)
       (q : step_of r ≡ feed_of c m e) (B : HandsBack m r) where
-    answered_as : (a : AbstractAnswer) → answer_of r.answer ≡ a → r.next ≡ m → FeedsAs c m e a m
-        → FeedsAs c m e (answer_of r.answer) r.next
+    answered_as : (a : AbstractAnswer) → fed_answer r.answer ≡ a → r.next ≡ m → FeedsAs c m e a m
+        → FeedsAs c m e (fed_answer r.answer) r.next
     answered_as a h n F =
-        subst (λ (x : Monitor). FeedsAs c m e (answer_of r.answer) x) (sym n)
+        subst (λ (x : Monitor). FeedsAs c m e (fed_answer r.answer) x) (sym n)
         (subst (λ (x : AbstractAnswer). FeedsAs c m e x m) (sym h) F)
 
-    next_back : (k : ℕ) → answer_of r.answer ≡ refused k → r.next ≡ m
+    next_back : (k : ℕ) → fed_answer r.answer ≡ refused k → r.next ≡ m
     next_back k a = let t = is_refused_lem r.answer k a in B.refused t.0 t.1
 
     as_refused : (k : ℕ) → (feed_of c m e).answer ≡ refused k → FeedsAs c m e (refused k) m
-        → FeedsAs c m e (answer_of r.answer) r.next
+        → FeedsAs c m e (fed_answer r.answer) r.next
     as_refused k h F = let a = ap (λ (x : machine.Step). x.answer) q ∙ h in answered_as (refused k) a (next_back k a) F
 
     -- a record that is taken, by the steps of S20
@@ -108,7 +107,7 @@ module _ (c : Chart) (G : (well_formed c ≡ true) ↔ Given c) where
       as_machine = q ∙ (feeding c (G.1 g) (shown c g).accepted).one m e P.fit
 
       taken : Taken (chart_of c) (status_of (chart_of c) (monitor_at m)) (log_record e)
-          (status_of (chart_of c) (monitor_at r.next)) (answer_of r.answer)
+          (status_of (chart_of c) (monitor_at r.next)) (fed_answer r.answer)
       taken =
           subst (λ (x : machine.Step). Taken (chart_of c) (status_of (chart_of c) (monitor_at m)) (log_record e)
           (status_of (chart_of c) x.next) x.answer)
@@ -121,7 +120,7 @@ module _ (c : Chart) (G : (well_formed c ≡ true) ↔ Given c) where
 
       taken_only : (b : AbstractAnswer) (n : Monitor) → Fit (chart_of c) (monitor_at n)
           → Taken (chart_of c) (status_of (chart_of c) (monitor_at m)) (log_record e) (status_of (chart_of c) (monitor_at n)) b
-          → (b ≡ answer_of r.answer) × (monitor_at n ≡ monitor_at r.next)
+          → (b ≡ fed_answer r.answer) × (monitor_at n ≡ monitor_at r.next)
       taken_only b n F T =
           let o = steps.only (monitor_at m) (log_record e) P _ b T in
           let x = ap (λ (s : machine.Step). s.next) as_machine in (
@@ -129,7 +128,7 @@ module _ (c : Chart) (G : (well_formed c ≡ true) ↔ Given c) where
             steps.faithful (monitor_at n) (monitor_at r.next) F fit_again (o.0 ∙ ap (status_of (chart_of c)) (sym x)),
           )
 
-    feeds_as : FeedsAs c m e (answer_of r.answer) r.next
+    feeds_as : FeedsAs c m e (fed_answer r.answer) r.next
     unfolding feed_of feed
     feeds_as = elim (split (well_formed c)) [
       | inr w ↦ as_refused _ (rw w) (not_a_chart_case (given_not w))
@@ -166,18 +165,18 @@ module _ (c : Chart) (G : (well_formed c ≡ true) ↔ Given c) where
           ]
     ]
 
-    answered : (a : AbstractAnswer) → (feed_of c m e).answer ≡ a → a ≡ answer_of r.answer
+    answered : (a : AbstractAnswer) → (feed_of c m e).answer ≡ a → a ≡ fed_answer r.answer
     answered a h = sym (ap (λ (x : machine.Step). x.answer) q ∙ h)
 
     -- a refusal hands back the monitor
-    back : (k : ℕ) → (feed_of c m e).answer ≡ refused k → (refused k ≡ answer_of r.answer) × (m ≡ r.next)
+    back : (k : ℕ) → (feed_of c m e).answer ≡ refused k → (refused k ≡ fed_answer r.answer) × (m ≡ r.next)
     back k h = let a = answered (refused k) h in (a, sym (next_back k (sym a)))
 
     fit_of : (g : Given c) → Fit (chart_of c) (monitor_at m) → fits (chart_of c) m ≡ true
     fit_of g F = of_fit (chart_of c) (shown c g).accepted m F
 
     feeds_only : Stored r.next → (a : AbstractAnswer) (n : Monitor) → Stored n → FeedsAs c m e a n
-        → (a ≡ answer_of r.answer) × (n ≡ r.next)
+        → (a ≡ fed_answer r.answer) × (n ≡ r.next)
     unfolding feed_of feed
     feeds_only S a n N (not_a_chart_case g) =
         elim (split (well_formed c)) [ inl w ↦ absurd (g (G.0 w)) | inr w ↦ back _ (rw w) ]
@@ -190,5 +189,5 @@ module _ (c : Chart) (G : (well_formed c ≡ true) ↔ Given c) where
     feeds_only S a n N (too_many g F b t k) = back _ (rw (G.1 g, fit_of g F, eq-eqb _ _ b, le-ltb _ _ t, le-leb _ _ k))
     feeds_only S a n N (takes g P b k T F) = let o = taken_only g P b n F T in (o.0, view_tells n r.next N S o.1)
 
-    pub feeds_just : Stored r.next → FeedsJust c m e (answer_of r.answer) r.next
+    pub feeds_just : Stored r.next → FeedsJust c m e (fed_answer r.answer) r.next
     feeds_just S = record { holds = feeds_as; only = feeds_only S }

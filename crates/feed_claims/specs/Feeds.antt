@@ -1,6 +1,6 @@
 -- The first demand, of monitors: what making one and feeding it answers, or refuses and in which order, case by case. A
 -- case says when it applies.
-use Rattle.std.specs.Prelude.{◌≡◌, ◌≢◌, ◌≤◌, ◌<◌}
+use Rattle.std.specs.Prelude.{◌≡◌, ◌≢◌, ◌≤◌, ◌<◌, Ok, Err}
 use Rattle.model.specs.declared.Chart.{Chart}
 use Rattle.model.specs.declared.Monitor.{Monitor}
 use Rattle.model.specs.declared.Record.{Record}
@@ -13,14 +13,13 @@ use Rattle.rounds.specs.Feeds.{Answer as AbstractAnswer, refused, broken_at}
 use Rattle.rounds.specs.Machine.{Fit}
 use Rattle.paper.specs.Taken.{Taken, status_of, Acceptable}
 use Rattle.stepping.specs.Monitors.{monitor_at}
-use Rattle.monitor.specs.declared.MadeAnswer.TheVariants.{Fresh, NoChart}
 use Rattle.monitor.specs.declared.Made.{Made}
 use Rattle.monitor.specs.Stored.{Stored}
 
 -- Making a monitor (M8): a fresh one; or 20, where no accepted bytes give the chart value. Zeros in both cases.
 pub data MakesAs (c : Chart) : Made → Type 0 where
-  makes : Given c → MakesAs c (record { answer = Fresh; monitor = zero_monitor })
-  no_chart : ¬ Given c → MakesAs c (record { answer = NoChart; monitor = zero_monitor })
+  makes : Given c → MakesAs c (record { answer = Ok tt; monitor = zero_monitor })
+  no_chart : ¬ Given c → MakesAs c (record { answer = Err (record {}); monitor = zero_monitor })
 
 -- Feeding a record (M12 to M14): 20, 21, the broken answer again, 22, 23, in this order, each with the monitor that
 -- came; any other record is taken, by the steps of S20, and leaves a fit monitor.

@@ -2,7 +2,7 @@
 #![tactic(auto)]
 
 ghost use Rattle.base.specs.Just.{Just};
-ghost use Rattle.stepping.specs.Answers.{answer_of};
+ghost use Rattle.stepping.specs.Answers.{fed_answer};
 ghost use Rattle.feed_claims.specs.Feeds.{MakesAs, FeedsJust};
 
 use model::{Chart, Monitor, Record};
@@ -18,7 +18,7 @@ pub fn make_monitor(chart: Chart) -> Made
 
 // Feeding a record: every chart value, monitor and record.
 pub fn feed_record(chart: Chart, m: Monitor, e: Record) -> Step
-    ensures { FeedsJust chart m e (answer_of result.answer) result.next }
+    ensures { FeedsJust chart m e (fed_answer result.answer) result.next }
 {
     monitor::feed(chart, m, e)
 }

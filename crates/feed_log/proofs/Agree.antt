@@ -13,26 +13,23 @@ use Rattle.model.specs.declared.Moment.{Moment}
 use Rattle.model.specs.declared.Stamp.{Stamp}
 use Rattle.model.specs.declared.RawRecord.{RawRecord}
 use Rattle.model.specs.Monitor.{stamp_of}
-use Rattle.log_reader.specs.declared.Next.{Next}
+use Rattle.log_reader.specs.Record.{RecordRead}
 use Rattle.log_reader.specs.declared.Next.TheVariants as next
 use Rattle.log_reader.specs.Next.{next_at}
 use Rattle.log_clock.specs.declared.Kind.{Kind}
 use Rattle.log_clock.specs.declared.Kind.TheVariants.{Unset, Plain, Raw}
 use Rattle.log_clock.specs.declared.MomentRefusal.TheVariants.{Falls, TooLate}
-use Rattle.log_clock.specs.declared.Timed.{Timed}
-use Rattle.log_clock.specs.declared.Timed.TheVariants as timed
-use Rattle.log_clock.specs.Clock.{range, half_range, gap_of, later_moment}
+use Rattle.log_clock.specs.Clock.{Timed, range, half_range, gap_of, later_moment}
 use Rattle.log_clock.specs.Dated.{raw_by, dated_by, dated_at}
 use Rattle.log_clock.proofs.Times.{time_at_lem, gap_leads}
 use Rattle.log_check.specs.declared.LogRefusal.TheVariants.{NoMoment}
-use Rattle.log_check.specs.declared.Checked.{Checked}
-use Rattle.log_check.specs.declared.Checked.TheVariants.{Refused}
-use Rattle.log_check.specs.declared.CheckStep.{CheckStep}
-use Rattle.log_check.specs.declared.CheckStep.TheVariants.{Over, Going}
-use Rattle.log_check.specs.declared.Pace.{Pace}
+use Rattle.std.specs.Prelude.{Ok, Err}
+use Rattle.log_check.specs.Refusal.{fault, Checked}
+use Rattle.log_check.specs.Check.{CheckStep}
+use Rattle.log_check.specs.Check.{Over, Going}
+use Rattle.log_check.specs.declared.pace.Pace.{Pace}
 use Rattle.log_check.specs.Check.{take_record, step_by, step_at}
-use Rattle.log_check.specs.Met.{raw_pace, pace_of, Paced, plainly, rawly, kind_in}
-use Rattle.log_check.proofs.Meets.{paced}
+use Rattle.log_check.specs.Met.{raw_pace, pace_of, kind_in}
 use Rattle.feed_log.specs.Run.{InRange, pace_from}
 
 -- the check is over
@@ -66,19 +63,19 @@ module _ (e : RawRecord) (past at : ℕ) (last : Moment) (n : ℕ) (small : last
   as_paced = step_by at last n (raw_by e past (later_moment last (gap_of from (stamp_of e))))
 
   abbrev as_first : CheckStep
-  as_first = step_by at last n (raw_by e past (timed.At (record { 0 = 0 })))
+  as_first = step_by at last n (raw_by e past (Ok (record { 0 = 0 })))
 
   raw_start : last.0 ≡ 0 → as_first ≡ as_paced
   raw_start z =
       let g : gap_of from (stamp_of e) ≡ 0 = omega arith in
-      let m : later_moment last 0 ≡ timed.At (record { 0 = 0 }) = rw (z) in
+      let m : later_moment last 0 ≡ Ok (record { 0 = 0 }) = rw (z) in
       ap (λ (x : Timed). step_by at last n (raw_by e past x)) (sym (ap (later_moment last) g ∙ m))
 
   raw_late : 0 < last.0 → ((c : Checked) × (as_paced ≡ Over c)) × ((c : Checked) × (as_first ≡ Over c))
   raw_late h = (
     by (leb half_range (gap_of from (stamp_of e))) refl,
     (
-      Refused (NoMoment Falls) at,
+      Err (fault (NoMoment Falls) at),
       ap (λ (t : Moment). take_record (Raw (stamp_of e)) t past at last n) (time_at_lem e (record { 0 = 0 }))
           ∙ rw (lt-ltb 0 last.0 h),
     ),
@@ -88,21 +85,21 @@ module _ (e : RawRecord) (past at : ℕ) (last : Moment) (n : ℕ) (small : last
       sum = omega arith
 
       by : (a : Bool) → leb half_range (gap_of from (stamp_of e)) ≡ a → (c : Checked) × (as_paced ≡ Over c)
-      by true x = (Refused (NoMoment Falls) at, rw x)
-      by false x = (Refused (NoMoment TooLate) at, rw (x, le-leb _ _ sum))
+      by true x = (Err (fault (NoMoment Falls) at), rw x)
+      by false x = (Err (fault (NoMoment TooLate) at), rw (x, le-leb _ _ sum))
 
 module _ (s : List ℕ) (last : Moment) (n : ℕ) (small : last.0 < range) where
   -- by what stands there
-  abbrev AgreesBy : Pace → Kind → Next → Type 0
+  abbrev AgreesBy : Pace → Kind → RecordRead → Type 0
   AgreesBy p k x = (step_by 0 last n (dated_by k last x) ≡ step_by 0 last n (dated_by (kind_in p last) last x))
       ⊎ (((c : Checked) × (step_by 0 last n (dated_by (kind_in p last) last x) ≡ Over c))
       × ((c : Checked) × (step_by 0 last n (dated_by k last x) ≡ Over c)))
 
-  unset : (x : Next) → AgreesBy (pace_of x) Unset x
-  unset next.End = inl refl
-  unset (next.Refused f) = inl refl
-  unset (next.Handed e past) = inl refl
-  unset (next.Raw e past) = elim (split (ltb 0 last.0)) [
+  unset : (x : RecordRead) → AgreesBy (pace_of x) Unset x
+  unset (Ok next.End) = inl refl
+  unset (Err f) = inl refl
+  unset (Ok (next.Handed e past)) = inl refl
+  unset (Ok (next.Raw e past)) = elim (split (ltb 0 last.0)) [
     | inl h ↦ inr (raw_late e past 0 last n small (ltb-true 0 last.0 h))
     | inr h ↦ let z = ltb-false 0 last.0 h in inl (raw_start e past 0 last n small (omega (arith, z)))
   ]
@@ -119,9 +116,3 @@ module _ (s : List ℕ) (last : Moment) (n : ℕ) (small : last.0 < range) where
   agrees_first Unset h = unset (next_at s 0)
   agrees_first Plain h = inl refl
   agrees_first (Raw from) h = inl (ap (λ (k : Kind). step_at s 0 k last n) (raw_again from h))
-
--- the records to come have a pace
-pub paced_from : (k : Kind) (last : Moment) (first : Next) → Paced (pace_from k last first)
-paced_from Unset last first = paced first
-paced_from Plain last first = plainly
-paced_from (Raw from) last first = rawly (gap_of (record { 0 = last.0 }) from)

@@ -1,6 +1,6 @@
 -- Answers counted by their numbers. Assumes nothing.
-use mathlib.Core.Path.{◌≡◌, refl}
-use mathlib.Core.Bool.{Bool, true, false, cond, true≢false}
+use mathlib.Core.Path.{◌≡◌}
+use mathlib.Core.Bool.{Bool, true, false, cond}
 use mathlib.Core.List.{[], ◌∷◌}
 use Prim.Native.Nat.{ℕ, zero, suc, ◌+◌, ◌-◌, ◌≤◌}
 use native.Mathlib.Omega.{arith}
@@ -8,32 +8,18 @@ use lib.Dec.{eqb}
 use lib.ListN.{get_or, set}
 use Rattle.base.specs.Lists.{Snoc, ε, ◌▸◌, size, keep}
 use Rattle.model.specs.declared.Answer.{Answer}
-use Rattle.model.specs.declared.Answer.TheVariants.{Refused, Broken, Kept, Dropped, Entered, Moved, Quiet}
+use Rattle.model.specs.declared.Answer.TheVariants.{Broken, Kept, Dropped, Entered, Moved, Quiet}
 use Rattle.model.specs.Answers.{answer_number}
-use Rattle.stepping.specs.Answers.{answer_of}
-use Rattle.stepping.proofs.Back.{NotRefused}
-use Rattle.live.specs.Live.{is_refused}
 use Rattle.feed_log.specs.Feeds.{count_of, counts_of}
 
--- an answer that is no refusal has a number from 1 to 6
-pub in_counts : (a : Answer) → is_refused a ≡ false → (1 ≤ answer_number a) × (answer_number a ≤ 6)
-in_counts (Refused k) e = absurd (true≢false e)
-in_counts (Broken n k x) e = (omega arith, omega arith)
-in_counts Kept e = (omega arith, omega arith)
-in_counts (Dropped x) e = (omega arith, omega arith)
-in_counts Entered e = (omega arith, omega arith)
-in_counts Moved e = (omega arith, omega arith)
-in_counts Quiet e = (omega arith, omega arith)
-
-pub not_refused : (a : Answer) → NotRefused (answer_of a) → is_refused a ≡ false
-unfolding NotRefused
-not_refused (Refused k) n = absurd n
-not_refused (Broken n k x) t = refl
-not_refused Kept n = refl
-not_refused (Dropped x) n = refl
-not_refused Entered n = refl
-not_refused Moved n = refl
-not_refused Quiet n = refl
+-- an answer has a number from 1 to 6
+pub in_counts : (a : Answer) → (1 ≤ answer_number a) × (answer_number a ≤ 6)
+in_counts (Broken n k x) = (omega arith, omega arith)
+in_counts Kept = (omega arith, omega arith)
+in_counts (Dropped x) = (omega arith, omega arith)
+in_counts Entered = (omega arith, omega arith)
+in_counts Moved = (omega arith, omega arith)
+in_counts Quiet = (omega arith, omega arith)
 
 -- no count is above the number of answers
 pub count_most : (t : Answer → Bool) (ans : Snoc Answer) → size (keep t ans) ≤ size ans
@@ -58,12 +44,11 @@ more : (n : ℕ) → n + 1 ≡ suc n
 more n = omega arith
 
 -- one more answer is one more at its place
-pub counted : (ans : Snoc Answer) (a : Answer) → is_refused a ≡ false
+pub counted : (ans : Snoc Answer) (a : Answer)
     → set (counts_of ans) (answer_number a - 1) (get_or (counts_of ans) (answer_number a - 1) 0 + 1) ≡ counts_of (ans ▸ a)
-counted ans (Refused k) e = absurd (true≢false e)
-counted ans (Broken n k x) e = let z = more (count_of 1 ans) in λ i. z i ∷ count_of 2 ans ∷ count_of 3 ans ∷ count_of 4 ans ∷ count_of 5 ans ∷ count_of 6 ans ∷ []
-counted ans Kept e = let z = more (count_of 2 ans) in λ i. count_of 1 ans ∷ z i ∷ count_of 3 ans ∷ count_of 4 ans ∷ count_of 5 ans ∷ count_of 6 ans ∷ []
-counted ans (Dropped x) e = let z = more (count_of 3 ans) in λ i. count_of 1 ans ∷ count_of 2 ans ∷ z i ∷ count_of 4 ans ∷ count_of 5 ans ∷ count_of 6 ans ∷ []
-counted ans Entered e = let z = more (count_of 4 ans) in λ i. count_of 1 ans ∷ count_of 2 ans ∷ count_of 3 ans ∷ z i ∷ count_of 5 ans ∷ count_of 6 ans ∷ []
-counted ans Moved e = let z = more (count_of 5 ans) in λ i. count_of 1 ans ∷ count_of 2 ans ∷ count_of 3 ans ∷ count_of 4 ans ∷ z i ∷ count_of 6 ans ∷ []
-counted ans Quiet e = let z = more (count_of 6 ans) in λ i. count_of 1 ans ∷ count_of 2 ans ∷ count_of 3 ans ∷ count_of 4 ans ∷ count_of 5 ans ∷ z i ∷ []
+counted ans (Broken n k x) = let z = more (count_of 1 ans) in λ i. z i ∷ count_of 2 ans ∷ count_of 3 ans ∷ count_of 4 ans ∷ count_of 5 ans ∷ count_of 6 ans ∷ []
+counted ans Kept = let z = more (count_of 2 ans) in λ i. count_of 1 ans ∷ z i ∷ count_of 3 ans ∷ count_of 4 ans ∷ count_of 5 ans ∷ count_of 6 ans ∷ []
+counted ans (Dropped x) = let z = more (count_of 3 ans) in λ i. count_of 1 ans ∷ count_of 2 ans ∷ z i ∷ count_of 4 ans ∷ count_of 5 ans ∷ count_of 6 ans ∷ []
+counted ans Entered = let z = more (count_of 4 ans) in λ i. count_of 1 ans ∷ count_of 2 ans ∷ count_of 3 ans ∷ z i ∷ count_of 5 ans ∷ count_of 6 ans ∷ []
+counted ans Moved = let z = more (count_of 5 ans) in λ i. count_of 1 ans ∷ count_of 2 ans ∷ count_of 3 ans ∷ count_of 4 ans ∷ z i ∷ count_of 6 ans ∷ []
+counted ans Quiet = let z = more (count_of 6 ans) in λ i. count_of 1 ans ∷ count_of 2 ans ∷ count_of 3 ans ∷ count_of 4 ans ∷ count_of 5 ans ∷ z i ∷ []

@@ -1,6 +1,5 @@
 -- The records taken so far, and one more. Assumes nothing.
 use mathlib.Core.Path.{◌≡◌, refl, sym, ap, subst, ◌∙◌}
-use mathlib.Core.Bool.{false}
 use mathlib.Core.Logic.{inl, inr}
 use mathlib.Core.List.{List}
 use Prim.Native.Nat.{ℕ, ◌+◌, ◌-◌, ◌≤◌, ◌<◌}
@@ -16,14 +15,13 @@ use Rattle.model.specs.Monitor.{time_of}
 use Rattle.rounds.specs.Chart.{Chart as Abstract, Accepted}
 use Rattle.rounds.specs.Machine.{Monitor as AbstractMonitor, Step as AbstractStep, Fit, accept, feed}
 use Rattle.rounds.proofs.Fitness.{feed_fit}
-use Rattle.stepping.specs.declared.Step.{Step}
-use Rattle.stepping.specs.Monitors.{monitor_at, step_of, record_of}
-use Rattle.stepping.proofs.Back.{NotRefused, accept_taken}
+use Rattle.stepping.specs.declared.Answered.{Answered}
+use Rattle.stepping.specs.Monitors.{monitor_at, answered_of, record_of}
 use Rattle.chart_value.specs.Records.{record_code, log_record}
 use Rattle.log_clock.specs.declared.Kind.{Kind}
-use Rattle.log_check.specs.declared.CheckStep.TheVariants.{Going}
-use Rattle.log_check.specs.declared.Pace.{Pace}
-use Rattle.log_check.specs.declared.Met.TheVariants.{Other}
+use Rattle.log_check.specs.Check.{Going}
+use Rattle.log_check.specs.declared.pace.Pace.{Pace}
+use Rattle.std.specs.Prelude.{None}
 use Rattle.log_check.specs.Check.{step_at}
 use Rattle.log_check.specs.Met.{kind_in, met_at}
 use Rattle.log_check.proofs.Laws.{Went, went, going_past, end_over}
@@ -31,12 +29,11 @@ use Rattle.log_check.proofs.Meets.{Goes, over_there}
 use Rattle.log_pass.proofs.Codes.{code_of}
 use Rattle.log_pass.proofs.Fed.{accept_counted, accept_fed}
 use Rattle.monitor_image.proofs.Laws.{Small, monitor_read}
-use Rattle.live.specs.Live.{is_refused}
 use Rattle.feed_log.specs.declared.Run.{Run}
 use Rattle.feed_log.specs.Feeds.{last_number, counts_of}
 use Rattle.feed_log.specs.Run.{kind_now, reached_as, Takes, none_yet, one_more, Stops, Ran}
 use Rattle.feed_log.proofs.Agree.{Agrees, agrees_going, agrees_ending}
-use Rattle.feed_log.proofs.Counts.{not_refused, in_counts, counted, count_there}
+use Rattle.feed_log.proofs.Counts.{in_counts, counted, count_there}
 
 -- records were taken up to an offset
 pub record Reached (C : Abstract) (s : List ℕ) (k : Kind) (p : Pace) (first m : Monitor) (at last : ℕ)
@@ -90,7 +87,7 @@ module _ {C : Abstract} {s : List ℕ} {k : Kind} {p : Pace} {first m : Monitor}
   pub stops_end : length s ≤ at → Stops s at kind m
   stops_end h = inr (_, end_over s at kind now m.tally.records h)
 
-  pub stops_other : Other ≡ met_at s at p now m.tally.records → Stops s at kind m
+  pub stops_other : None ≡ met_at s at p now m.tally.records → Stops s at kind m
   stops_other e =
       inr (agrees_ending s at p kind now m.tally.records G.agrees (over_there s at p now m.tally.records e))
 
@@ -121,13 +118,7 @@ module _ {C : Abstract} {s : List ℕ} {k : Kind} {p : Pace} {first m : Monitor}
     pub met_past : (at < past) × (past ≤ length s)
     met_past = going_past s at kind now m.tally.records past (kind_in p t) t (m.tally.records + 1) step
 
-    module _ (r : Step) (a : step_of r ≡ accept C (monitor_at m) (record_of code t.0)) where
-      pub answered : is_refused r.answer ≡ false
-      answered =
-          not_refused r.answer
-          (subst NotRefused (sym (ap (λ (y : AbstractStep). y.answer) a))
-          (accept_taken C (monitor_at m) (record_of code t.0)))
-
+    module _ (r : Answered) (a : answered_of r ≡ accept C (monitor_at m) (record_of code t.0)) where
       next_now : r.next.tally.now ≡ t
       next_now =
           let z : r.next.tally.now.0 ≡ t.0 =
@@ -147,7 +138,7 @@ module _ {C : Abstract} {s : List ℕ} {k : Kind} {p : Pace} {first m : Monitor}
           let u : t.0 ≡ (time_of met.e).0 = ap (λ (x : Moment). x.0) (sym met.is_time) in
           λ i. record { time = u i; code = c i }
 
-      fed : step_of r ≡ feed C (monitor_at m) (log_record met.e)
+      fed : answered_of r ≡ feed C (monitor_at m) (log_record met.e)
       fed =
           a ∙ accept_fed C (monitor_at m) (record_of code t.0) G.whole met.later met.few
           ∙ ap (feed C (monitor_at m)) one
@@ -155,7 +146,7 @@ module _ {C : Abstract} {s : List ℕ} {k : Kind} {p : Pace} {first m : Monitor}
       -- the kind with it
       kind_now_lem : (j : ℕ) → j ≡ answer_number r.answer → kind_now k p r.next.tally.now j ≡ kind_in p t
       kind_now_lem j e =
-          let b = in_counts r.answer answered in
+          let b = in_counts r.answer in
           rw (ne_eqb j 0 (λ z. omega (arith, z, e, b))) (ap (kind_in p) next_now)
 
       pub took : Small r.next → (j : ℕ) → j ≡ answer_number r.answer → (cs : List ℕ)
@@ -169,12 +160,12 @@ module _ {C : Abstract} {s : List ℕ} {k : Kind} {p : Pace} {first m : Monitor}
                 subst (λ (x : Kind). Takes C s k first past x r.next (R.answers ▸ r.answer))
                 (sym (kind_now_lem j e))
                 (one_more met.e (kind_in p t) past r R.takes (rw (eq-eqb m.tally.broken.at 0 G.whole))
-                met.found fed answered (λ rest. monitor_read r.next rest S));
+                met.found fed (λ rest. monitor_read r.next rest S));
             is_taken = let c = next_count in let t = R.is_taken in omega (arith, c, t);
             is_last = e;
             is_counts =
                 q ∙ (λ i. set (R.is_counts i) (e i - 1) (get_or (R.is_counts i) (e i - 1) 0 + 1))
-                ∙ counted R.answers r.answer answered;
+                ∙ counted R.answers r.answer;
           }
 
       -- after it the run goes on

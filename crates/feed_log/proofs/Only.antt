@@ -1,8 +1,12 @@
 -- Live bytes, kind and log fix what a call says and the bytes after it. Assumes nothing.
 use mathlib.Core.Path.{◌≡◌, refl, sym, ap, subst, ◌∙◌}
-use mathlib.Core.Bool.{true, false, ◌||◌}
+use mathlib.Core.Bool.{true, false, cond, ◌||◌}
+use lib.Dec.{eqb}
 use mathlib.Core.Logic.{◌≢◌, inl, inr}
 use mathlib.Core.List.{List, ◌++◌}
+use Rattle.std.specs.Prelude.{Some, None, Ok, Err}
+use Rattle.log_clock.specs.declared.Dated.{Dated}
+use Rattle.log_clock.specs.Dated.{DatedRead, dated_record}
 use Prim.Native.Nat.{ℕ, ◌+◌, ◌*◌, ◌/◌, ◌%◌, ◌^◌, ◌<◌}
 use native.Mathlib.Omega.{arith}
 use lib.ListN.{length, drop}
@@ -12,7 +16,8 @@ use Rattle.model.specs.Chart.{most_regions, most_clocks}
 use Rattle.model.specs.declared.Monitor.{Monitor}
 use Rattle.model.specs.declared.Record.{Record}
 use Rattle.model.specs.declared.Answer.{Answer}
-use Rattle.model.specs.Answers.{answer_number}
+use Rattle.model.specs.declared.FeedRefusal.{FeedRefusal}
+use Rattle.model.specs.Answers.{Fed, feed_refusal_number}
 use Rattle.rounds.specs.Machine.{Step as AbstractStep}
 use Rattle.stepping.specs.declared.Step.{Step}
 use Rattle.monitor.specs.Stored.{Stored}
@@ -22,12 +27,19 @@ use Rattle.log_reader.specs.Record.{record_refusal_number}
 use Rattle.log_clock.specs.declared.Kind.{Kind}
 use Rattle.log_clock.specs.declared.MomentRefusal.{MomentRefusal}
 use Rattle.log_clock.specs.Clock.{moment_refusal_number}
-use Rattle.log_clock.specs.declared.Dated.{Dated}
-use Rattle.log_clock.specs.declared.Dated.TheVariants as dated
+use Rattle.log_clock.specs.declared.Undated.TheVariants as undated
 use Rattle.monitor_image.specs.MonitorImage.{monitor_size, monitor_bytes, monitor_in}
 use Rattle.live.specs.Live.{is_refused, is_broken, bytes_fed, LiveFed}
 use Rattle.live.proofs.History.{one_answer}
-use Rattle.feed_log.specs.Feeds.{Outcome, Feeds, at_break, at_end, at_no_record, at_no_moment, at_refused, taken}
+use Rattle.log_reader.specs.declared.RecordRefusal.TheVariants.{CutShort, UnknownByte}
+use Rattle.log_reader.specs.Record.{cut_short, unknown_byte}
+use Rattle.log_clock.specs.declared.MomentRefusal.TheVariants.{Mixed, Falls, TooLate}
+use Rattle.log_clock.specs.Clock.{two_kinds, too_late}
+use Rattle.model.specs.Answers.{not_a_chart, not_fit, time_falls}
+use Rattle.log_check.specs.declared.LogRefusal.TheVariants.{NoRecord, NoMoment, TooManyRecords}
+use Rattle.feed_log.specs.declared.Stop.{Stop}
+use Rattle.feed_log.specs.declared.Stop.TheVariants as stop
+use Rattle.feed_log.specs.Feeds.{number_of, Outcome, Feeds, at_break, at_end, at_no_record, at_no_moment, at_refused, taken}
 use Rattle.feed_log.specs.Feeds.{FeedsLog, refuses, feeds, counts_of, last_number, FeedsTell}
 
 -- four bytes are 32 bits
@@ -44,7 +56,7 @@ stored_image m rest e = record {
 }
 
 -- one feed has one result
-module _ {l n m : List ℕ} {e : Record} {a b : Answer} (F : LiveFed l e a n) (G : LiveFed l e b m) where
+module _ {l n m : List ℕ} {e : Record} {a b : Fed} (F : LiveFed l e a n) (G : LiveFed l e b m) where
   abbrev s : Step
   s = F.by_chart.taken
 
@@ -58,7 +70,7 @@ module _ {l n m : List ℕ} {e : Record} {a b : Answer} (F : LiveFed l e a n) (G
   unfolding bytes_fed
   same_next z =
       let y : (is_refused t.answer || is_broken (monitor_in l)) ≡ false =
-      ap (λ (x : Answer). is_refused x || is_broken (monitor_in l)) (sym same_answer) ∙ z in
+      ap (λ (x : Fed). is_refused x || is_broken (monitor_in l)) (sym same_answer) ∙ z in
       let p : n ≡ monitor_bytes s.next ++ drop monitor_size l = F.by_chart.bytes ∙ rw z in
       let q : m ≡ monitor_bytes t.next ++ drop monitor_size l = G.by_chart.bytes ∙ rw y in
       view_tells s.next t.next
@@ -71,43 +83,52 @@ module _ {l n m : List ℕ} {e : Record} {a b : Answer} (F : LiveFed l e a n) (G
   one_next = F.by_chart.bytes ∙ elim (split (is_refused s.answer || is_broken (monitor_in l))) [
     | inl z ↦
         let y : (is_refused t.answer || is_broken (monitor_in l)) ≡ true =
-        ap (λ (x : Answer). is_refused x || is_broken (monitor_in l)) (sym same_answer) ∙ z in
+        ap (λ (x : Fed). is_refused x || is_broken (monitor_in l)) (sym same_answer) ∙ z in
         rw (z, y)
     | inr z ↦
         let y : (is_refused t.answer || is_broken (monitor_in l)) ≡ false =
-        ap (λ (x : Answer). is_refused x || is_broken (monitor_in l)) (sym same_answer) ∙ z in
+        ap (λ (x : Fed). is_refused x || is_broken (monitor_in l)) (sym same_answer) ∙ z in
         rw (z, y) (ap (λ (x : Monitor). monitor_bytes x ++ drop monitor_size l) (same_next z))
   ] ∙ sym G.by_chart.bytes
 
 -- what stands at an offset is one thing
-abbrev sort : Dated → ℕ
-sort dated.End = 0
-sort (dated.NoRecord f) = 1
-sort (dated.NoMoment f) = 2
-sort (dated.At e k past) = 3
+abbrev sort : DatedRead → ℕ
+sort (Ok None) = 0
+sort (Err (undated.NoRecord f)) = 1
+sort (Err (undated.NoMoment f)) = 2
+sort (Ok (Some d)) = 3
 
-apart : {X : Type 0} {d x y : Dated} → d ≡ x → d ≡ y → sort x ≢ sort y → X
+apart : {X : Type 0} {d x y : DatedRead} → d ≡ x → d ≡ y → sort x ≢ sort y → X
 apart p q n = absurd (n (ap sort (sym p ∙ q)))
 
 -- and the same thing has the same parts
-same_fault : {f g : RecordRefusal} → dated.NoRecord f ≡ dated.NoRecord g → f ≡ g
+same_fault : {f g : RecordRefusal} → ◌≡◌ {A = DatedRead} (Err (undated.NoRecord f)) (Err (undated.NoRecord g)) → f ≡ g
 same_fault e = cc
 
-same_moment : {f g : MomentRefusal} → dated.NoMoment f ≡ dated.NoMoment g → f ≡ g
+same_moment : {f g : MomentRefusal} → ◌≡◌ {A = DatedRead} (Err (undated.NoMoment f)) (Err (undated.NoMoment g)) → f ≡ g
 same_moment e = cc
 
-module _ {e f : Record} {j i : Kind} {past end : ℕ} (q : dated.At e j past ≡ dated.At f i end) where
+module _ {e f : Record} {j i : Kind} {past end : ℕ} (q : dated_record e j past ≡ dated_record f i end) where
+  same_parts : ◌≡◌ {A = Dated} (record { item = e; kind = j; past = past }) (record { item = f; kind = i; past = end })
+  same_parts = cc
+
   same_record : e ≡ f
-  same_record = cc
+  same_record = ap (λ (d : Dated). d.item) same_parts
 
   same_kind : j ≡ i
-  same_kind = cc
+  same_kind = ap (λ (d : Dated). d.kind) same_parts
 
   same_past : past ≡ end
-  same_past = cc
+  same_past = ap (λ (d : Dated). d.past) same_parts
 
-  fed_same : {l n : List ℕ} {a : Answer} → LiveFed l e a n → LiveFed l f a n
+  fed_same : {l n : List ℕ} {a : Fed} → LiveFed l e a n → LiveFed l f a n
   fed_same {l} {n} {a} F = subst (λ (x : Record). LiveFed l x a n) same_record F
+
+same_refusal : {h x : FeedRefusal} → ◌≡◌ {A = Fed} (Err h) (Err x) → h ≡ x
+same_refusal e = cc
+
+same_taken : {a b : Answer} → ◌≡◌ {A = Fed} (Ok a) (Ok b) → a ≡ b
+same_taken e = cc
 
 onward : {s : List ℕ} {past end : ℕ} {j i : Kind} {n m : List ℕ} {ans : Snoc Answer} {a b : Answer} {o : Outcome}
     → past ≡ end → j ≡ i → n ≡ m → a ≡ b → Feeds s past j n (ans ▸ a) o → Feeds s end i m (ans ▸ b) o
@@ -124,49 +145,49 @@ one_outcome (at_break b) (at_break c) = refl
 one_outcome (at_break b) (at_end c d) = clash b c
 one_outcome (at_break b) (at_no_record f c d) = clash b c
 one_outcome (at_break b) (at_no_moment f c d) = clash b c
-one_outcome (at_break b) (at_refused e j past a n c d F r) = clash b c
-one_outcome (at_break b) (taken e j past a n c d F r G) = clash b c
+one_outcome (at_break b) (at_refused e j past h n c d F) = clash b c
+one_outcome (at_break b) (taken e j past a n c d F G) = clash b c
 one_outcome (at_end b q) (at_break c) = clash c b
 one_outcome (at_end b q) (at_end c d) = refl
 one_outcome (at_end b q) (at_no_record f c d) = apart q d (λ z. omega (arith, z))
 one_outcome (at_end b q) (at_no_moment f c d) = apart q d (λ z. omega (arith, z))
-one_outcome (at_end b q) (at_refused e j past a n c d F r) = apart q d (λ z. omega (arith, z))
-one_outcome (at_end b q) (taken e j past a n c d F r G) = apart q d (λ z. omega (arith, z))
+one_outcome (at_end b q) (at_refused e j past h n c d F) = apart q d (λ z. omega (arith, z))
+one_outcome (at_end b q) (taken e j past a n c d F G) = apart q d (λ z. omega (arith, z))
 one_outcome (at_no_record g b q) (at_break c) = clash c b
 one_outcome (at_no_record g b q) (at_end c d) = apart q d (λ z. omega (arith, z))
 one_outcome {at = at} {k} {l} {ans} (at_no_record g b q) (at_no_record f c d) =
     let z : g ≡ f = same_fault (sym q ∙ d) in
     λ i. record { number = record_refusal_number (z i); answers = ans; place = at; kind = k; bytes = l }
 one_outcome (at_no_record g b q) (at_no_moment f c d) = apart q d (λ z. omega (arith, z))
-one_outcome (at_no_record g b q) (at_refused e j past a n c d F r) = apart q d (λ z. omega (arith, z))
-one_outcome (at_no_record g b q) (taken e j past a n c d F r G) = apart q d (λ z. omega (arith, z))
+one_outcome (at_no_record g b q) (at_refused e j past h n c d F) = apart q d (λ z. omega (arith, z))
+one_outcome (at_no_record g b q) (taken e j past a n c d F G) = apart q d (λ z. omega (arith, z))
 one_outcome (at_no_moment g b q) (at_break c) = clash c b
 one_outcome (at_no_moment g b q) (at_end c d) = apart q d (λ z. omega (arith, z))
 one_outcome (at_no_moment g b q) (at_no_record f c d) = apart q d (λ z. omega (arith, z))
 one_outcome {at = at} {k} {l} {ans} (at_no_moment g b q) (at_no_moment f c d) =
     let z : g ≡ f = same_moment (sym q ∙ d) in
     λ i. record { number = moment_refusal_number (z i); answers = ans; place = at; kind = k; bytes = l }
-one_outcome (at_no_moment g b q) (at_refused e j past a n c d F r) = apart q d (λ z. omega (arith, z))
-one_outcome (at_no_moment g b q) (taken e j past a n c d F r G) = apart q d (λ z. omega (arith, z))
-one_outcome (at_refused e j past a n b q F r) (at_break c) = clash c b
-one_outcome (at_refused e j past a n b q F r) (at_end c d) = apart q d (λ z. omega (arith, z))
-one_outcome (at_refused e j past a n b q F r) (at_no_record f c d) = apart q d (λ z. omega (arith, z))
-one_outcome (at_refused e j past a n b q F r) (at_no_moment f c d) = apart q d (λ z. omega (arith, z))
-one_outcome {at = at} {k} {l} {ans} (at_refused e j past a n b q F r) (at_refused f i end x m c d G u) =
-    let z : a ≡ x = one_answer (fed_same (sym q ∙ d) F) G in
-    λ i. record { number = answer_number (z i); answers = ans; place = at; kind = k; bytes = l }
-one_outcome (at_refused e j past a n b q F r) (taken f i end x m c d G u H) =
-    clash r (ap is_refused (one_answer (fed_same (sym q ∙ d) F) G) ∙ u)
-one_outcome (taken e j past a n b q F r H) (at_break c) = clash c b
-one_outcome (taken e j past a n b q F r H) (at_end c d) = apart q d (λ z. omega (arith, z))
-one_outcome (taken e j past a n b q F r H) (at_no_record f c d) = apart q d (λ z. omega (arith, z))
-one_outcome (taken e j past a n b q F r H) (at_no_moment f c d) = apart q d (λ z. omega (arith, z))
-one_outcome (taken e j past a n b q F r H) (at_refused f i end x m c d G u) =
-    clash u (ap is_refused (sym (one_answer (fed_same (sym q ∙ d) F) G)) ∙ r)
-one_outcome {s} {ans = ans} {o} (taken e j past a n b q F r H) (taken f i end x m c d G u K) =
+one_outcome (at_no_moment g b q) (at_refused e j past h n c d F) = apart q d (λ z. omega (arith, z))
+one_outcome (at_no_moment g b q) (taken e j past a n c d F G) = apart q d (λ z. omega (arith, z))
+one_outcome (at_refused e j past h n b q F) (at_break c) = clash c b
+one_outcome (at_refused e j past h n b q F) (at_end c d) = apart q d (λ z. omega (arith, z))
+one_outcome (at_refused e j past h n b q F) (at_no_record f c d) = apart q d (λ z. omega (arith, z))
+one_outcome (at_refused e j past h n b q F) (at_no_moment f c d) = apart q d (λ z. omega (arith, z))
+one_outcome {at = at} {k} {l} {ans} (at_refused e j past h n b q F) (at_refused f i end x m c d G) =
+    let z : h ≡ x = same_refusal (one_answer (fed_same (sym q ∙ d) F) G) in
+    λ i. record { number = feed_refusal_number (z i); answers = ans; place = at; kind = k; bytes = l }
+one_outcome (at_refused e j past h n b q F) (taken f i end x m c d G H) =
+    clash refl (ap is_refused (one_answer (fed_same (sym q ∙ d) F) G))
+one_outcome (taken e j past a n b q F H) (at_break c) = clash c b
+one_outcome (taken e j past a n b q F H) (at_end c d) = apart q d (λ z. omega (arith, z))
+one_outcome (taken e j past a n b q F H) (at_no_record f c d) = apart q d (λ z. omega (arith, z))
+one_outcome (taken e j past a n b q F H) (at_no_moment f c d) = apart q d (λ z. omega (arith, z))
+one_outcome (taken e j past a n b q F H) (at_refused f i end x m c d G) =
+    clash refl (ap is_refused (sym (one_answer (fed_same (sym q ∙ d) F) G)))
+one_outcome {s} {ans = ans} {o} (taken e j past a n b q F H) (taken f i end x m c d G K) =
     let E = fed_same (sym q ∙ d) F in
     one_outcome
-    (onward (same_past (sym q ∙ d)) (same_kind (sym q ∙ d)) (one_next E G) (one_answer E G) H) K
+    (onward (same_past (sym q ∙ d)) (same_kind (sym q ∙ d)) (one_next E G) (same_taken (one_answer E G)) H) K
 
 -- the whole call
 one_call : {l s : List ℕ} {k : Kind} {o p : Outcome} → FeedsLog l k s o → FeedsLog l k s p → o ≡ p
@@ -175,13 +196,42 @@ one_call (refuses n) (feeds z F) = absurd (n z)
 one_call (feeds z F) (refuses n) = absurd (n z)
 one_call (feeds z F) (feeds y G) = one_outcome F G
 
+-- why a call stopped, by its number
+stop_by : ℕ → Stop
+stop_by n =
+    cond (eqb n 0) stop.End
+    (cond (eqb n 1) stop.Broken
+    (cond (eqb n not_a_chart) stop.NotAChart
+    (cond (eqb n not_fit) stop.Unfit
+    (cond (eqb n cut_short) (stop.Log (NoRecord CutShort))
+    (cond (eqb n unknown_byte) (stop.Log (NoRecord UnknownByte))
+    (cond (eqb n two_kinds) (stop.Log (NoMoment Mixed))
+    (cond (eqb n time_falls) (stop.Log (NoMoment Falls))
+    (cond (eqb n too_late) (stop.Log (NoMoment TooLate)) (stop.Log TooManyRecords)))))))))
+
+stop_back : (x : Stop) → stop_by (number_of x) ≡ x
+unfolding stop_by
+stop_back stop.End = refl
+stop_back stop.Broken = refl
+stop_back stop.NotAChart = refl
+stop_back stop.Unfit = refl
+stop_back (stop.Log (NoRecord CutShort)) = refl
+stop_back (stop.Log (NoRecord UnknownByte)) = refl
+stop_back (stop.Log (NoMoment Mixed)) = refl
+stop_back (stop.Log (NoMoment Falls)) = refl
+stop_back (stop.Log (NoMoment TooLate)) = refl
+stop_back (stop.Log TooManyRecords) = refl
+
+same_stop : (x y : Stop) → number_of x ≡ number_of y → x ≡ y
+same_stop x y e = sym (stop_back x) ∙ ap stop_by e ∙ stop_back y
+
 pub feeds_tell : FeedsTell
 feeds_tell = record {
-  tell = λ F G.
+  tell = λ {l} {s} {n} {m} {k} {r} {q} F G.
       let e = one_call F.one_by_one G.one_by_one in
       let a : F.answers ≡ G.answers = ap (λ (o : Outcome). o.answers) e in (
         λ i. record {
-          number = (e i).number;
+          stop = same_stop r.stop q.stop (ap (λ (o : Outcome). o.number) e) i;
           kind = (e i).kind;
           place = (e i).place;
           taken = (F.is_taken ∙ ap size a ∙ sym G.is_taken) i;

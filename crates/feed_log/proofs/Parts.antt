@@ -8,8 +8,8 @@ use borrow.Author.Tests.{eq-eqb, ne_eqb}
 use lib.ListN.{length}
 use Rattle.model.specs.declared.Monitor.{Monitor}
 use Rattle.log_clock.specs.declared.Kind.{Kind}
-use Rattle.log_check.specs.declared.Checked.{Checked}
-use Rattle.log_check.specs.declared.Pace.{Pace}
+use Rattle.log_check.specs.Refusal.{Checked}
+use Rattle.log_check.specs.declared.pace.Pace.{Pace}
 use Rattle.log_check.specs.Check.{step_at}
 use Rattle.log_check.specs.Met.{kind_in, ended_by}
 use Rattle.wire.specs.Writing.{Wrote}

@@ -1,5 +1,5 @@
 -- The loop over the records, for the functions that make up the call.
-use Rattle.std.specs.Prelude.{◌≡◌, ◌⊎◌, ◌≢◌, false, cond, List, ◌++◌, ℕ, ◌+◌, ◌-◌, ◌<◌, eqb, drop}
+use Rattle.std.specs.Prelude.{◌≡◌, ◌⊎◌, ◌≢◌, false, cond, List, ◌++◌, ℕ, ◌+◌, ◌-◌, ◌<◌, eqb, drop, Ok, Err}
 use Rattle.base.specs.Lists.{Snoc, ε, ◌▸◌, size}
 use Rattle.model.specs.declared.Moment.{Moment}
 use Rattle.model.specs.declared.Monitor.{Monitor}
@@ -8,30 +8,28 @@ use Rattle.model.specs.declared.Answer.{Answer}
 use Rattle.rounds.specs.Chart.{Chart as Abstract}
 use Rattle.rounds.specs.Machine.{feed}
 use Rattle.chart_value.specs.Records.{log_record}
-use Rattle.stepping.specs.declared.Step.{Step}
-use Rattle.stepping.specs.Monitors.{monitor_at, step_of}
-use Rattle.log_reader.specs.declared.Next.{Next}
+use Rattle.stepping.specs.declared.Answered.{Answered}
+use Rattle.stepping.specs.Monitors.{monitor_at, answered_of}
+use Rattle.log_reader.specs.Record.{RecordRead}
 use Rattle.log_clock.specs.declared.Kind.{Kind}
 use Rattle.log_clock.specs.declared.Kind.TheVariants.{Unset, Plain, Raw}
-use Rattle.log_clock.specs.declared.Dated.TheVariants.{At}
 use Rattle.log_clock.specs.Clock.{range, gap_of}
-use Rattle.log_clock.specs.Dated.{dated_at}
-use Rattle.log_check.specs.declared.Checked.{Checked}
-use Rattle.log_check.specs.declared.Checked.TheVariants.{Fine, Refused}
-use Rattle.log_check.specs.declared.CheckStep.TheVariants.{Over}
-use Rattle.log_check.specs.declared.Pace.{Pace}
-use Rattle.log_check.specs.Refusal.{log_refusal_number}
+use Rattle.log_clock.specs.Dated.{dated_record, dated_at}
+use Rattle.log_check.specs.Check.{Over}
+use Rattle.log_check.specs.declared.pace.Pace.{Pace}
+use Rattle.log_check.specs.Refusal.{log_refusal_number, Checked}
 use Rattle.log_check.specs.Check.{step_at}
 use Rattle.log_check.specs.Met.{plain_pace, raw_pace, pace_of, kind_in, ended_by}
 use Rattle.monitor_image.specs.MonitorImage.{monitor_size, monitor_bytes, monitor_in}
-use Rattle.live.specs.Live.{is_refused, is_broken}
+use Rattle.live.specs.Live.{is_broken}
 use Rattle.feed_log.specs.declared.LogFed.{LogFed}
 use Rattle.feed_log.specs.declared.Run.{Run}
+use Rattle.feed_log.specs.declared.Stop.{Stop}
 use Rattle.feed_log.specs.Feeds.{counts_of, last_number}
 
 -- the pace of records after those of a kind, the last of them at the moment `last`; the first one decides if there were
 -- none
-abbrev pub pace_from : Kind → Moment → Next → Pace
+abbrev pub pace_from : Kind → Moment → RecordRead → Pace
 pace_from Unset last first = pace_of first
 pace_from Plain last first = plain_pace
 pace_from (Raw from) last first = raw_pace (gap_of (record { 0 = last.0 }) from)
@@ -51,12 +49,12 @@ InRange Unset = Unit {0}
 InRange Plain = Unit {0}
 InRange (Raw from) = from.0 < range
 
--- records taken one by one, from the start of s to an offset: each is fed to the machine, which does not refuse it
+-- records taken one by one, from the start of s to an offset: each is fed to the machine, which answers it
 pub data Takes (C : Abstract) (s : List ℕ) (k : Kind) (m : Monitor) : ℕ → Kind → Monitor → Snoc Answer → Type 0 where
   none_yet : Takes C s k m 0 k m ε
-  one_more : {at : ℕ} {j : Kind} {n : Monitor} {ans : Snoc Answer} (e : Record) (i : Kind) (past : ℕ) (r : Step)
-      → Takes C s k m at j n ans → is_broken n ≡ false → dated_at s at j n.tally.now ≡ At e i past
-      → step_of r ≡ feed C (monitor_at n) (log_record e) → is_refused r.answer ≡ false
+  one_more : {at : ℕ} {j : Kind} {n : Monitor} {ans : Snoc Answer} (e : Record) (i : Kind) (past : ℕ) (r : Answered)
+      → Takes C s k m at j n ans → is_broken n ≡ false → dated_at s at j n.tally.now ≡ dated_record e i past
+      → answered_of r ≡ feed C (monitor_at n) (log_record e)
       → ((rest : List ℕ) → monitor_in (monitor_bytes r.next ++ rest) ≡ r.next)
       → Takes C s k m past i r.next (ans ▸ r.answer)
 
@@ -75,8 +73,8 @@ pub record Ran (C : Abstract) (s : List ℕ) (k : Kind) (m : Monitor) (r : Run) 
 
 -- why it stopped
 abbrev pub checked_number : Checked → ℕ
-checked_number (Fine n) = 0
-checked_number (Refused f at) = log_refusal_number f
+checked_number (Ok n) = 0
+checked_number (Err f) = log_refusal_number f.why
 
 abbrev pub stop_number : List ℕ → ℕ → Kind → Monitor → ℕ
 stop_number s at k m = cond (is_broken m) 1
@@ -87,9 +85,9 @@ abbrev pub bytes_after : List ℕ → ℕ → Monitor → List ℕ
 bytes_after l taken m = cond (eqb taken 0) l (monitor_bytes m ++ drop monitor_size l)
 
 -- what the call says after a run, and if nothing is taken
-abbrev pub finished_as : List ℕ → ℕ → Run → LogFed
-finished_as s before r = record {
-  number = stop_number s r.at r.kind r.monitor;
+abbrev pub finished_as : Stop → ℕ → Run → LogFed
+finished_as stop before r = record {
+  stop = stop;
   kind = r.kind;
   place = r.at;
   taken = r.monitor.tally.records - before;
@@ -97,6 +95,6 @@ finished_as s before r = record {
   counts = r.counts;
 }
 
-abbrev pub stopped_as : ℕ → Kind → LogFed
-stopped_as number k =
-    record { number = number; kind = k; place = 0; taken = 0; last = 0; counts = counts_of ε }
+abbrev pub stopped_as : Stop → Kind → LogFed
+stopped_as stop k =
+    record { stop = stop; kind = k; place = 0; taken = 0; last = 0; counts = counts_of ε }

@@ -3,30 +3,57 @@
 
 ghost use Rattle.std.specs.Prelude.{◌≡◌, ◌-◌, ◌≤◌, ◌<◌, length};
 ghost use Rattle.rounds.specs.Machine.{Fit};
-ghost use Rattle.layout.specs.View.{plan_chart, Compiled};
+ghost use Rattle.layout.specs.Plans.{chart_of_plan};
 ghost use Rattle.stepping.specs.Monitors.{monitor_at};
 ghost use Rattle.monitor_image.specs.MonitorImage.{monitor_size};
-ghost use Rattle.feed_log.specs.Feeds.{FedLog, FeedsTell};
+ghost use Rattle.feed_log.specs.Feeds.{number_of, FedLog, FeedsTell};
 ghost use Rattle.feed_log.specs.Run.{pace_from, InRange, reached_as, Ran, stop_number, bytes_after};
 ghost use Rattle.feed_log.specs.Run.{finished_as, stopped_as};
 ghost use Rattle.log_clock.specs.Clock.{range};
 
-use layout::{Head, TERM_PLACES};
-use log_check::{Checked, Met, Pace};
+use chart_value::AcceptedChart;
+use layout::Plan;
+use log_check::{LogRefusal, Pace};
 use log_clock::Kind;
-use log_reader::Next;
-use model::{MOST_REGIONS, Moment, Monitor, NOT_A_CHART, NOT_FIT, Stamp};
+use log_reader::{Next, RecordRefusal};
+use model::{Moment, Monitor, NOT_A_CHART, NOT_FIT, Stamp};
 
 // One count for each answer: broken, kept, dropped, entered, moved, quiet.
 pub const ANSWERS: usize = 6;
 
-const BROKEN: u8 = 1;
+// Why a call stopped: the log has no more bytes, or the monitor is broken; the bytes hold no live monitor, or an unfit
+// one; or a record of the log is refused.
+#[derive(Clone, Copy)]
+pub enum Stop {
+    End,
+    Broken,
+    NotAChart,
+    Unfit,
+    Log(LogRefusal),
+}
+
+impl From<Stop> for u8 {
+    ghost use Rattle.feed_log.specs.Feeds.{number_of};
+
+    ghost from_gives = { λ stop n. n ≡ number_of stop };
+
+    fn from(stop: Stop) -> u8 {
+        match stop {
+            Stop::End => 0,
+            Stop::Broken => 1,
+            Stop::NotAChart => NOT_A_CHART,
+            Stop::Unfit => NOT_FIT,
+            Stop::Log(why) => u8::from(why),
+        }
+    }
+}
 
 // V22: why the call stopped, the log's kind after it and the offset just after the records taken; how many were taken,
-// the number of the last answer, and how many answers there were of each number.
+// the number of the last answer, and how many answers there were of each number. `last` is a number, 0 for none, since
+// the counts go by it and the C interface gives it.
 #[derive(Clone, Copy)]
 pub struct LogFed {
-    pub number: u8,
+    pub stop: Stop,
     pub kind: Kind,
     pub place: usize,
     pub taken: u32,
@@ -45,7 +72,7 @@ pub struct Run {
 }
 
 // What the records still to come have in common.
-fn pace_from(kind: Kind, last: Moment, first: Next) -> Pace
+fn pace_from(kind: Kind, last: Moment, first: Result<Next, RecordRefusal>) -> Pace
     ensures pace { result ≡ pace_from kind last first }
     ensures range { InRange kind × (last.0 < range) }
 {
@@ -56,7 +83,8 @@ fn pace_from(kind: Kind, last: Moment, first: Next) -> Pace
     }
 }
 
-// Where the run stands: the kind is that of the records taken, or the one that came if there are none.
+// Where the run stands: the kind is that of the records taken, or the one that came if there are none. Six values and no
+// Run: the loop has them apart, and at each of its three ends a Run would be seven lines more.
 fn reached(
     kind: Kind,
     pace: Pace,
@@ -86,59 +114,47 @@ fn reached(
 }
 
 // Records are taken where they lie, up to a break, a fault or the end.
-fn take_records<'a>(
-    h: Head,
-    keys: &'a [u64; MOST_REGIONS],
-    above: &'a [u32; MOST_REGIONS],
-    resets: &'a [u32; MOST_REGIONS],
-    terms: &'a [u64; TERM_PLACES],
-    kind: Kind,
-    first: Monitor,
-    log: &[u8],
-) -> Run
-    requires compiled { Compiled h keys.now above.now resets.now terms.now }
-    requires fit { Fit (plan_chart h keys.now above.now resets.now terms.now) (monitor_at first) }
+fn take_records(plan: &Plan, kind: Kind, first: Monitor, log: &[u8]) -> Run
+    requires fit { Fit (chart_of_plan plan.now) (monitor_at first) }
     requires at_value { first.tally.broken.at ≡ 0 }
-    ensures { Ran (plan_chart h keys.now above.now resets.now
-        terms.now) log.now kind first result }
+    ensures { Ran (chart_of_plan plan.now) log.now kind first result }
 {
-    let slots = plan::slots_of(h.count, keys);
+    let slots = plan::slots_of(plan);
     let pace = pace_from(kind, first.tally.now, log_reader::read_record(log, 0));
     let mut m = first;
     let mut at: usize = 0;
     let mut last: u8 = 0;
     let mut counts = [0u32; ANSWERS];
+    // A loop by hand: it moves by each record's length.
     while at < log.len() {
-        let met = log_check::met_at(log, at, pace, m.tally.now, m.tally.records);
-        let Met::Sound(code, t, past) = met else {
+        let Some(met) = log_check::met_at(log, at, pace, m.tally.now, m.tally.records) else {
             return reached(kind, pace, m, at, last, counts);
         };
-        let among = slots[plan::slot_of(code)];
-        let s = stepping::accept(h, keys, above, among, resets, terms, m, code, t);
+        let among = slots[plan::slot_of(met.code)];
+        let s = stepping::accept(plan, among, m, met.code, met.time);
         let answer = s.answer;
-        last = model::answer_number(answer);
-        let i = last as usize - 1;
+        last = u8::from(answer);
+        let i = usize::from(last) - 1;
         counts[i] = counts[i] + 1;
         m = s.next;
         if m.tally.broken.at != 0 {
-            return reached(kind, pace, m, past, last, counts);
+            return reached(kind, pace, m, met.past, last, counts);
         }
-        at = past;
+        at = met.past;
     }
     reached(kind, pace, m, at, last, counts)
 }
 
 // Why the run stopped.
-fn stop_number(log: &[u8], at: usize, kind: Kind, m: Monitor) -> u8
-    ensures { result ≡ stop_number log.now at kind m }
+fn stop_at(log: &[u8], at: usize, kind: Kind, m: Monitor) -> Stop
+    ensures { number_of result ≡ stop_number log.now at kind m }
 {
     if m.tally.broken.at != 0 {
-        return BROKEN;
+        return Stop::Broken;
     }
-    let checked = log_check::ended_at(log, at, kind, m.tally.now, m.tally.records);
-    match checked {
-        Checked::Fine(_) => 0,
-        Checked::Refused(why, _) => log_check::refusal_number(why),
+    match log_check::ended_at(log, at, kind, m.tally.now, m.tally.records) {
+        Ok(_) => Stop::End,
+        Err(fault) => Stop::Log(fault.why),
     }
 }
 
@@ -146,20 +162,21 @@ fn stop_number(log: &[u8], at: usize, kind: Kind, m: Monitor) -> u8
 fn finish(live: &mut [u8], log: &[u8], before: u32, r: Run) -> LogFed
     requires monitor_size_in_bounds { monitor_size ≤ length live.old }
     requires before_le_records { before ≤ r.monitor.tally.records }
-    ensures said { result ≡ finished_as log.now before r }
+    ensures said { result ≡ finished_as result.stop before r }
+    ensures stop { number_of result.stop ≡ stop_number log.now r.at r.kind r.monitor }
     ensures bytes { live.new
         ≡ bytes_after live.old (r.monitor.tally.records - before) r.monitor }
 {
     let m = r.monitor;
     let kind = r.kind;
     let counts = r.counts;
-    let number = stop_number(log, r.at, kind, m);
+    let stop = stop_at(log, r.at, kind, m);
     let taken = m.tally.records - before;
     if taken != 0 {
         monitor_image::put_monitor(live, m);
     }
     LogFed {
-        number,
+        stop,
         kind,
         place: r.at,
         taken,
@@ -169,11 +186,11 @@ fn finish(live: &mut [u8], log: &[u8], before: u32, r: Run) -> LogFed
 }
 
 // Nothing is taken.
-fn stopped(number: u8, kind: Kind) -> LogFed
-    ensures { result ≡ stopped_as number kind }
+fn stopped(stop: Stop, kind: Kind) -> LogFed
+    ensures { result ≡ stopped_as stop kind }
 {
     LogFed {
-        number,
+        stop,
         kind,
         place: 0,
         taken: 0,
@@ -188,19 +205,18 @@ pub fn feed_log(live: &mut [u8], kind: Kind, log: &[u8]) -> LogFed
     ensures only { FeedsTell }
     ensures unchanged { log.exit.now ≡ log.entry.now }
 {
-    let chart = live::chart_in(live);
-    if chart.count == 0 {
-        return stopped(NOT_A_CHART, kind);
-    }
+    let Some(chart) = live::chart_if_live(live) else {
+        return stopped(Stop::NotAChart, kind);
+    };
     let m = monitor_image::monitor_at(live);
-    let p = plan::compile(chart);
-    let h = p.head;
-    if !monitor::is_fit(h, &p.keys, &p.above, &p.resets, &p.terms, m) {
-        return stopped(NOT_FIT, kind);
+    let accepted = AcceptedChart { chart };
+    let plan = plan::compile(&accepted);
+    if !monitor::is_fit(&plan, m) {
+        return stopped(Stop::Unfit, kind);
     }
     if m.tally.broken.at != 0 {
-        return stopped(BROKEN, kind);
+        return stopped(Stop::Broken, kind);
     }
-    let r = take_records(h, &p.keys, &p.above, &p.resets, &p.terms, kind, m, log);
+    let r = take_records(&plan, kind, m, log);
     finish(live, log, m.tally.records, r)
 }

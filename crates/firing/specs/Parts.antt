@@ -1,6 +1,6 @@
 -- What the functions of this crate give, by the numbers of a compiled chart.
-use Rattle.std.specs.Prelude.{Bool, cond, not, ◌&&◌, ◌||◌, List, ℕ, ◌-◌, ◌≤◌, eqb, ltb, get_or}
-use Rattle.std.proofs.Math.Option.{Option, none, some}
+use Rattle.std.specs.Prelude.{Option, Some, None, Bool, cond, not, ◌&&◌, ◌||◌, List, ℕ, ◌-◌, ◌≤◌, eqb, ltb, get_or}
+use Rattle.std.proofs.Math.Option.{Option as AbstractOption, none, some}
 use Rattle.bitset.specs.Set.{contains, is_subset}
 use Rattle.model.specs.declared.Moment.{Moment}
 use Rattle.model.specs.declared.Place.{Place}
@@ -8,11 +8,8 @@ use Rattle.model.specs.Chart.{most_clocks}
 use Rattle.base.specs.Lists.{some_below, first, on_found}
 use Rattle.rounds.specs.Chart.{Chart}
 use Rattle.rounds.specs.Machine.{Place as AbstractPlace, Move, fails, rests, fire, try_region, settle, unfired}
-use Rattle.firing.specs.declared.Rest.{Rest}
-use Rattle.firing.specs.declared.Rest.TheVariants.{Rests, Fails}
-use Rattle.firing.specs.declared.Settled.{Settled}
-use Rattle.firing.specs.declared.Found.{Found}
-use Rattle.firing.specs.declared.Found.TheVariants.{At, Nothing}
+use Rattle.firing.specs.declared.settled.Failure.{Failure}
+use Rattle.firing.specs.declared.settled.Settled.{Settled}
 use Rattle.firing.specs.declared.Sought.{Sought}
 use Rattle.firing.specs.declared.Sought.TheVariants.{Ready, Unready, Foreign}
 use Rattle.firing.specs.Places.{moments_of, place_at}
@@ -22,10 +19,10 @@ use Rattle.layout.specs.View.{Words}
 abbrev pub ready_by : List ℕ → ℕ → ℕ → Bool
 ready_by above fired i = not (contains fired i) && is_subset (get_or above i 0) fired
 
--- what a search found
-abbrev pub found_of : Found → Option ℕ
-found_of (At i) = some i
-found_of Nothing = none
+-- what a search found, as the theory has it
+abbrev pub found_of : Option ℕ → AbstractOption ℕ
+found_of (Some i) = some i
+found_of None = none
 
 -- which regions have a message: a ready one; only some that are not ready; or none
 unfoldable pub sought_by : List ℕ → List ℕ → ℕ → ℕ → ℕ → Sought
@@ -53,9 +50,9 @@ abbrev pub taken_at : Chart → ℕ → AbstractPlace → ℕ → Move
 taken_at C t p i = try_region C t p i (settle C t (unfired C (fire C t p i).fired) (fire C t p i))
 
 -- how steps 3 and 4 ended
-abbrev rest_of : Rest → AbstractPlace → Move
-rest_of Rests p = rests p
-rest_of (Fails i term) p = fails i term p
+abbrev rest_of : Option Failure → AbstractPlace → Move
+rest_of None p = rests p
+rest_of (Some f) p = fails f.region f.term p
 
 abbrev pub move_of : Settled → Move
-move_of s = rest_of s.rest (place_at s.place)
+move_of s = rest_of s.failure (place_at s.place)

@@ -1,92 +1,75 @@
--- Steps of the search for a byte, and of the digits put into a buffer. Assumes nothing.
-use mathlib.Core.Path.{◌≡◌, refl, sym, ap, ◌∙◌}
-use mathlib.Core.Bool.{Bool, true, false, cond}
-use mathlib.Core.List.{List}
-use Prim.Native.Nat.{ℕ, suc, ◌+◌, ◌-◌, ◌/◌, ◌≤◌, ◌<◌}
-use native.Mathlib.Numerals.{add-one}
-use native.Mathlib.Omega.{arith}
-use borrow.Author.Tests.{ltb-true, le-leb, lt-leb, lt-ltb, le-ltb, eq-eqb, ne_eqb}
-use lib.ListN.{length, get_or, drop, length-set, drop_of_length-le}
-use lib.Seq.{drop-cons}
-use lib.Dec.{ltb}
-use Rattle.hexadecimal.specs.Hex.{first_among, digit_of, Filled, digit_put, byte_more, filled_by}
+-- Steps of the search for a byte, of the lines of a text, and of the digits put into a buffer. Assumes nothing.
+use Rattle.std.proofs.Common.{◌≡◌, ℕ, zero, suc, ◌+◌, ◌-◌, ◌/◌, ◌≤◌, ◌<◌, ◌==◌, Bool, not, List, [], ◌∷◌, length, get_or, take, drop, position, sym, ap, ◌∙◌, add-one, arith, drop-cons, drop_of_length-le}
+use Rattle.std.proofs.lemmas.Grind.{common_steps}
+use Rattle.std.proofs.lemmas.List.{drop-drop}
+use Rattle.std.proofs.lemmas.List.Sums.{prefix_len-le-length}
+use Rattle.std.specs.Option.{unwrap_or}
+use Rattle.std.specs.List.{position_or_len, before_first, after_first, onto_first}
+use Rattle.hexadecimal.specs.Hex.{first_among, first_of, digit_of, Filled, digit_put, byte_more, filled_by}
+use Rattle.hexadecimal.specs.declared.TheConstants.{LINE_FEED}
+use Rattle.hexadecimal.specs.Lines.{lines_of}
 
-module _ (s : List ℕ) (at byte n : ℕ) where
-  pub none_left : n ≡ 0 → first_among n s at byte ≡ at
-  unfolding first_among
-  none_left e = ap (λ (k : ℕ). first_among k s at byte) e
+-- the search counts from where it starts
+pub first_among_position : (n : ℕ) (s : List ℕ) (at byte : ℕ) → at + n ≤ length s
+    → first_among n s at byte ≡ at + position_or_len (λ b. b == byte) (take n (drop at s))
+unfolding first_among
+first_among_position zero s at byte h = grind (arith, common_steps)
+first_among_position (suc n) s at byte h =
+    let e : drop at s ≡ get_or s at 0 ∷ drop (at + 1) s = drop-cons s at 0 (omega arith) ∙ rw add-one in
+    rw e (grind (arith, common_steps, first_among_position n s (at + 1) byte (omega arith)))
 
-  pub found_here : 0 < n → get_or s at 0 ≡ byte → first_among n s at byte ≡ at
-  unfolding first_among
-  found_here h e =
-      let k : n ≡ suc (n - 1) = omega arith in
-      ap (λ (j : ℕ). first_among j s at byte) k ∙ rw (eq-eqb _ _ e)
+pub first_of_position : (s : List ℕ) (from to byte : ℕ) → from ≤ to → to ≤ length s
+    → first_of s from to byte ≡ from + position_or_len (λ b. b == byte) (take (to - from) (drop from s))
+first_of_position s from to byte h k = first_among_position (to - from) s from byte (omega arith)
 
-  pub found_later : 0 < n → (get_or s at 0 ≡ byte → ⊥) → first_among n s at byte ≡ first_among (n - 1) s (at + 1) byte
-  unfolding first_among
-  found_later h e =
-      let k : n ≡ suc (n - 1) = omega arith in
-      ap (λ (j : ℕ). first_among j s at byte) k ∙ rw (ne_eqb _ _ e)
+pub first_of_all : (s : List ℕ) (byte : ℕ) → first_of s 0 (length s) byte ≡ position_or_len (λ b. b == byte) s
+first_of_all s byte = grind (arith, common_steps, first_among_position (length s) s 0 byte (omega arith))
 
-module _ (b : ℕ) where
-  pub numeral : 48 ≤ b → b ≤ 57 → digit_of b ≡ b - 48
-  numeral h k = rw (le-leb 48 b h, le-leb b 57 k)
+-- the answer of `position`, or the length
+pub position-or_len : (p : ℕ → Bool) (s : List ℕ) → unwrap_or (position p s) (length s) ≡ position_or_len p s
+position-or_len p s = grind (arith, common_steps, prefix_len-le-length (λ x. not (p x)) s)
 
-  pub letter : 97 ≤ b → b ≤ 102 → digit_of b ≡ b - 87
-  letter h k =
-      let l : 48 ≤ b = omega arith in
-      let m : 57 < b = omega arith in
-      rw (le-leb 48 b l, lt-leb b 57 m, le-leb 97 b h, le-leb b 102 k)
+-- the first line, and those behind its line feed
+pub lines_of_cons : (b : ℕ) (s : List ℕ)
+    → lines_of (b ∷ s) ≡ before_first (λ c. c == LINE_FEED) (b ∷ s) ∷ lines_of (after_first (λ c. c == LINE_FEED) (b ∷ s))
+lines_of_cons b [] = grind (arith, common_steps)
+lines_of_cons b (c ∷ s) = grind (arith, common_steps, lines_of_cons c s)
 
-  pub below_numerals : b < 48 → digit_of b ≡ 16
-  below_numerals h = let k : b < 97 = omega arith in rw (lt-leb 48 b h, lt-leb 97 b k)
+length-onto_first-le : (b : ℕ) (l : List (List ℕ)) → length (onto_first b l) ≤ 1 + length l
+length-onto_first-le b [] = grind arith
+length-onto_first-le b (x ∷ l) = grind arith
 
-  pub below_letters : 57 < b → b < 97 → digit_of b ≡ 16
-  below_letters h k = let l : 48 ≤ b = omega arith in rw (le-leb 48 b l, lt-leb b 57 h, lt-leb 97 b k)
+-- there are no more lines than bytes
+pub length-lines_of-le : (s : List ℕ) → length (lines_of s) ≤ length s
+length-lines_of-le [] = grind arith
+length-lines_of-le (b ∷ s) = grind (arith, common_steps, length-lines_of-le s, length-onto_first-le b (lines_of s))
 
-  pub above_letters : 102 < b → digit_of b ≡ 16
-  above_letters h =
-      let l : 48 ≤ b = omega arith in
-      let m : 57 < b = omega arith in
-      let k : 97 ≤ b = omega arith in
-      rw (le-leb 48 b l, lt-leb b 57 m, le-leb 97 b k, lt-leb b 102 h)
-
-module _ (f : Filled) (b d : ℕ) (e : d ≡ digit_of b) where
-  pub no_digit : 16 ≤ d → byte_more f b ≡ f
-  no_digit h = let k : ltb (digit_of b) 16 ≡ false = le-ltb (digit_of b) 16 (omega arith) in rw k
-
-  pub no_room : d < 16 → length f.bytes ≤ f.digits / 2 → byte_more f b ≡ f
-  no_room h r = let k : ltb (digit_of b) 16 ≡ true = lt-ltb (digit_of b) 16 (omega arith) in rw (k, le-ltb _ _ r)
-
-  pub digit_put_lem : d < 16 → f.digits / 2 < length f.bytes → byte_more f b ≡ digit_put f d
-  digit_put_lem h r =
-      let k : ltb (digit_of b) 16 ≡ true = lt-ltb (digit_of b) 16 (omega arith) in
-      rw (k, lt-ltb _ _ r) (ap (digit_put f) (sym e))
-
--- the buffer keeps its length, and no more digits than two to a byte are put into it
-pub record Within (l : List ℕ) (f : Filled) : Type 0 where
-  pub size : length f.bytes ≡ length l
-  pub room : f.digits ≤ length f.bytes + length f.bytes
-
-pub within_more : (l : List ℕ) (f : Filled) (b : ℕ) → Within l f → Within l (byte_more f b)
-within_more l f b w = by (ltb (digit_of b) 16) (ltb (f.digits / 2) (length f.bytes)) refl
-  where
-    by : (x y : Bool) → ltb (f.digits / 2) (length f.bytes) ≡ y
-        → Within l (cond x (cond y (digit_put f (digit_of b)) f) f)
-    by false y e = w
-    by true false e = w
-    by true true e = record {
-      size = simp length-set w.size;
-      room = simp length-set (omega (arith, ltb-true (f.digits / 2) (length f.bytes) e));
-    }
+pub lines_of_next : (s line rest behind : List ℕ) → 0 < length s → line ≡ before_first (λ c. c == LINE_FEED) s
+    → rest ≡ drop (position_or_len (λ c. c == LINE_FEED) s) s → behind ≡ drop 1 rest → lines_of s ≡ line ∷ lines_of behind
+lines_of_next [] line rest behind h e f g = grind arith
+lines_of_next (b ∷ s) line rest behind h e f g =
+    let k = position_or_len (λ c. c == LINE_FEED) (b ∷ s) in
+    rw (e, g, f) (lines_of_cons b s ∙ ap (λ (l : List ℕ). before_first (λ c. c == LINE_FEED) (b ∷ s) ∷ lines_of l) (sym (drop-drop 1 k (b ∷ s))))
 
 -- one byte more of a text
-pub text_more : (f : Filled) (s : List ℕ) (i : ℕ) → i < length s
-    → filled_by f (drop i s) ≡ filled_by (byte_more f (get_or s i 0)) (drop (i + 1) s)
-unfolding filled_by
-text_more f s i h =
-    ap (filled_by f) (drop-cons s i 0 h)
-    ∙ ap (λ (k : ℕ). filled_by (byte_more f (get_or s i 0)) (drop k s)) (sym (add-one i))
+module _ (f : Filled) (s : List ℕ) (i : ℕ) (within : i < length s) where
+  pub text_more : filled_by f (drop i s) ≡ filled_by (byte_more f (get_or s i 0)) (drop (i + 1) s)
+  unfolding filled_by
+  text_more = ap (filled_by f) (drop-cons s i 0 within)
+      ∙ ap (λ (k : ℕ). filled_by (byte_more f (get_or s i 0)) (drop k s)) (sym (add-one i))
+
+  pub text_digit : (d : ℕ) → d ≡ digit_of (get_or s i 0) → d < 16 → f.digits / 2 < length f.bytes
+      → filled_by (digit_put f d) (drop (i + 1) s) ≡ filled_by f (drop i s)
+  text_digit d e h r = let m : byte_more f (get_or s i 0) ≡ digit_put f d = grind (arith, common_steps) in
+      sym (text_more ∙ ap (λ (g : Filled). filled_by g (drop (i + 1) s)) m)
+
+  pub text_no_digit : 16 ≤ digit_of (get_or s i 0) → filled_by f (drop (i + 1) s) ≡ filled_by f (drop i s)
+  text_no_digit h = let m : byte_more f (get_or s i 0) ≡ f = grind (arith, common_steps) in
+      sym (text_more ∙ ap (λ (g : Filled). filled_by g (drop (i + 1) s)) m)
+
+  pub text_no_room : length f.bytes ≤ f.digits / 2 → filled_by f (drop (i + 1) s) ≡ filled_by f (drop i s)
+  text_no_room r = let m : byte_more f (get_or s i 0) ≡ f = grind (arith, common_steps) in
+      sym (text_more ∙ ap (λ (g : Filled). filled_by g (drop (i + 1) s)) m)
 
 pub text_over : (f : Filled) (s : List ℕ) (i : ℕ) → length s ≤ i → filled_by f (drop i s) ≡ f
 unfolding filled_by

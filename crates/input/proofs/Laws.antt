@@ -1,5 +1,5 @@
 -- What two reads consumed, one behind the other in a buffer. Assumes nothing.
-use Rattle.std.proofs.Common.{◌≡◌, ℕ, ◌+◌, ◌≤◌, List, ◌++◌, arith, length, take, sym, ap, ◌∙◌, drop, subst, le_refl, drop_at, length-take-le}
+use Rattle.std.proofs.Common.{◌≡◌, ℕ, ◌+◌, ◌≤◌, List, ◌++◌, length, take, sym, ap, ◌∙◌, drop, subst, le_refl, drop_at, length-take-le}
 use Rattle.std.proofs.lemmas.Slice.{take-put_mid_below}
 use Rattle.std.specs.Io.KnownBytes.{Consumes}
 use Rattle.std.proofs.KnownBytes.{Consumes-trans}
@@ -21,9 +21,3 @@ pub consumes_more : (a b c : Option (List ℕ)) (at room n : ℕ) (buf part : Li
     → Consumes a b (take at buf) → Consumes b c (take n part) → Consumes a c (take (at + n) (put_mid at room buf part))
 consumes_more a b c at room n buf part within fits p q =
     subst (Consumes a c) (sym (take_written at room n buf part within fits)) (Consumes-trans a b c _ _ p q)
-
-pub consumes_none : (a b c : Option (List ℕ)) (at room n : ℕ) (buf part : List ℕ) → at ≤ length buf → n ≤ length part → n ≡ 0
-    → Consumes a b (take at buf) → Consumes b c (take n part) → Consumes a c (take at (put_mid at room buf part))
-consumes_none a b c at room n buf part within fits e p q =
-    let same : at + n ≡ at = omega (arith, e) in
-    subst (λ (k : ℕ). Consumes a c (take k (put_mid at room buf part))) same (consumes_more a b c at room n buf part within fits p q)

@@ -9,7 +9,7 @@ use std::io;
 use std::io::Read;
 
 // Puts the bytes that come at the start of a buffer, as many as it holds or until the end, and answers how many. After an
-// error some may stand there.
+// error some may stand there. A loop by hand: `read_exact` fails where less comes, and `read_to_end` allocates.
 pub fn read_full<R: Read>(from: &mut R, buf: &mut [u8]) -> io::Result<usize>
     ensures within { IfOk result (λ n. IsPrefixLen n buf.new) }
     ensures bytes { IfOk result (λ n. Consumes (R.remaining from.old) (R.remaining from.new) (take n buf.new)) }

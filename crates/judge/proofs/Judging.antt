@@ -1,6 +1,7 @@
 -- Judging by its tests in their order. Assumes nothing.
 use mathlib.Core.Path.{◌≡◌, sym, ap, subst, ◌∙◌}
 use mathlib.Core.Bool.{true, false}
+use Rattle.std.specs.Prelude.{Ok, Err}
 use mathlib.Core.List.{List}
 use Prim.Native.Nat.{ℕ}
 use Rattle.model.specs.declared.Chart.{Chart}
@@ -18,13 +19,13 @@ use Rattle.rounds.proofs.Fitness.{after_fit}
 use Rattle.stepping.specs.Monitors.{monitor_at}
 use Rattle.log_clock.specs.Records.{records_in}
 use Rattle.chart_value.specs.Records.{logged}
-use Rattle.log_check.specs.declared.LogRefusal.{LogRefusal}
-use Rattle.log_check.specs.declared.Checked.TheVariants as checked
+use Rattle.log_check.specs.declared.LogFault.{LogFault}
+use Rattle.log_check.specs.declared.JudgeRefusal.{JudgeRefusal}
+use Rattle.log_check.specs.declared.JudgeRefusal.TheVariants.{NotAChart, Log}
 use Rattle.log_check.specs.Check.{check_log}
 use Rattle.log_check.specs.Sound.{sound_records}
 use Rattle.log_check.proofs.Laws.{is_fine}
 use Rattle.log_check.proofs.Sound.{all_sound}
-use Rattle.judge.specs.declared.JudgeAnswer.TheVariants.{Judged, NoChart, Refused}
 use Rattle.judge.specs.declared.Judgement.{Judgement}
 use Rattle.judge.specs.Judge.{judge_of}
 use Rattle.verdict.specs.Verdict.{verdict_of}
@@ -33,19 +34,19 @@ use Rattle.verdict.specs.Parts.{verdict_by}
 use Rattle.verdict.proofs.Stands.{verdict_same}
 
 module _ (c : Chart) (s : List ℕ) where
-  pub judged_no_chart : (r : Judgement) → well_formed c ≡ false → r ≡ record { answer = NoChart; verdict = zero_verdict }
+  pub judged_no_chart : (r : Judgement) → well_formed c ≡ false → r ≡ record { answer = Err NotAChart; verdict = zero_verdict }
       → said r ≡ judge_of c s
   unfolding judge_of
   judged_no_chart r w e = rw w (ap said e)
 
-  pub judged_refused : (r : Judgement) (k : LogRefusal) (o : ℕ) → well_formed c ≡ true → check_log s ≡ checked.Refused k o
-      → r ≡ record { answer = Refused k o; verdict = zero_verdict } → said r ≡ judge_of c s
+  pub judged_refused : (r : Judgement) (f : LogFault) (x : JudgeRefusal) → well_formed c ≡ true → check_log s ≡ Err f
+      → x ≡ Log f → r ≡ record { answer = Err x; verdict = zero_verdict } → said r ≡ judge_of c s
   unfolding judge_of
-  judged_refused r k o w q e = rw (w, q) (ap said e)
+  judged_refused r f x w q y e = rw (w, q) (ap said (e ∙ ap (λ (z : JudgeRefusal). record { answer = Err z; verdict = zero_verdict }) y))
 
-  pub judged_fine : (v : Verdict) (m : Monitor) (n : ℕ) → well_formed c ≡ true → Given c → check_log s ≡ checked.Fine n
+  pub judged_fine : (v : Verdict) (m : Monitor) (n : ℕ) → well_formed c ≡ true → Given c → check_log s ≡ Ok n
       → monitor_at m ≡ after (chart_of c) (logged (sound_records s)) → v ≡ verdict_by c m
-      → said (record { answer = Judged; verdict = v }) ≡ judge_of c s
+      → said (record { answer = Ok tt; verdict = v }) ≡ judge_of c s
   unfolding judge_of
   judged_fine v m n w g q b e =
       let all : sound_records s ≡ records_in s = all_sound s (ap is_fine q) in

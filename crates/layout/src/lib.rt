@@ -4,6 +4,9 @@
 ghost use Rattle.std.specs.Prelude.{◌≡◌};
 ghost use Rattle.layout.specs.View.{tested};
 
+pub mod compiled;
+
+pub use compiled::Plan;
 use model::{Length, MOST_REGIONS, MOST_TERMS};
 
 pub const TERM_PLACES: usize = MOST_REGIONS * MOST_TERMS;

@@ -1,11 +1,23 @@
 -- P6 to P10: what the printing program prints, as a list of bytes.
-use Rattle.std.specs.Prelude.{ℕ, ◌+◌, ◌*◌, List, [], ◌∷◌, ◌++◌}
+use Rattle.std.specs.Prelude.{ℕ, ◌+◌, ◌*◌, List, [], ◌∷◌, ◌++◌, Result, Ok, Err}
 use Rattle.model.specs.declared.Verdict.{Verdict}
 use Rattle.text.specs.Text.{bytes_of, decimal_of}
 use Rattle.listing.specs.declared.Part.{Part}
 use Rattle.listing.specs.declared.Part.TheVariants.{Input, Chart, Log}
-use Rattle.listing.specs.declared.Report.{Report}
-use Rattle.listing.specs.declared.Report.TheVariants.{Judged, Refused}
+use Rattle.listing.specs.declared.Refused.{Refused}
+
+-- a verdict, or a refusal
+abbrev pub Report : Type 0
+Report = Result Verdict Refused
+
+abbrev pub refused : Part → ℕ → ℕ → Report
+refused part number offset = Err (record { part = part; number = number; offset = offset })
+
+-- 1 for the chart, 2 for the log; judging a chart and a log never refuses the input
+abbrev pub part_number : Part → ℕ
+part_number Input = 0
+part_number Chart = 1
+part_number Log = 2
 
 -- texts one after the other
 abbrev pub joined : List (List ℕ) → List ℕ
@@ -34,8 +46,8 @@ refusal_line part number offset =
     bytes_of "\n" ∷ [])
 
 abbrev pub listing_of : Report → List ℕ
-listing_of (Judged v) = verdict_lines v
-listing_of (Refused part number offset) = refusal_line part number offset
+listing_of (Ok v) = verdict_lines v
+listing_of (Err refused) = refusal_line refused.part refused.number refused.offset
 
 -- P12: so many bytes are enough for every listing
 abbrev pub room : ℕ

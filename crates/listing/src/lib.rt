@@ -1,102 +1,105 @@
 // What the printing program prints: the verdict's two lines, or a refusal's one.
 #![tactic(auto)]
 
-ghost use Rattle.std.specs.Prelude.{◌≡◌, ◌+◌, ◌≤◌, length};
-ghost use Rattle.wire.specs.Writing.{Wrote, starting_with};
-ghost use Rattle.listing.specs.Listing.{listing_of, room, verdict_lines, refusal_line};
-ghost use Rattle.listing.specs.Parts.{field_text, four_fields, part_text};
+ghost use Rattle.std.specs.Prelude.{◌≡◌, ◌+◌, ◌≤◌, ◌++◌, length};
+ghost use Rattle.arrayvec.specs.ArrayVec.{array_vec_len};
+ghost use Rattle.wire.specs.Writing.{starting_with};
+ghost use Rattle.listing.specs.Listing.{listing_of, room, part_name, part_number, verdict_lines, refusal_line};
+ghost use Rattle.listing.specs.Parts.{field_text};
 
-use model::Verdict;
+use arrayvec::ArrayVec;
+use model::{PLACES, Verdict};
+
+// P12: so many bytes are enough for every listing.
+pub const ROOM: usize = 223;
+
+type Text = ArrayVec<u8, ROOM>;
 
 // The part of the input that a refusal speaks of.
-#[derive(Clone, Copy)]
+#[derive(Clone, Copy, Debug, PartialEq, Eq)]
 pub enum Part {
     Input,
     Chart,
     Log,
 }
 
-// A verdict, or a refusal: its part, its number and its offset within that part.
-#[derive(Clone, Copy)]
-pub enum Report {
-    Judged(Verdict),
-    Refused(Part, u8, usize),
-}
-
-// A number in decimal, and one byte after it.
-fn put_field(out: &mut [u8], at: usize, n: u64, end: u8) -> usize
-    requires { at + 21 ≤ length out.old }
-    ensures text { Wrote out.old at (field_text n end) out.new result }
-    ensures short { result ≤ at + 21 }
-{
-    let next = text::put_decimal(out, at, n);
-    wire::put_byte(out, next, end)
-}
-
-fn put_four(out: &mut [u8], at: usize, w: u64, x: u64, y: u64, z: u64, end: u8) -> usize
-    requires { at + 84 ≤ length out.old }
-    ensures text { Wrote out.old at (four_fields w x y z end) out.new result }
-    ensures short { result ≤ at + 84 }
-{
-    let second = put_field(out, at, w, b' ');
-    let third = put_field(out, second, x, b' ');
-    let fourth = put_field(out, third, y, b' ');
-    put_field(out, fourth, z, end)
-}
-
-// P8: the header, and the eight numbers.
-fn put_verdict(out: &mut [u8], v: Verdict) -> usize
-    requires { room ≤ length out.old }
-    ensures text { Wrote out.old 0 (verdict_lines v) out.new result }
-    ensures short { result ≤ room }
-{
-    let first = wire::put_bytes(
-        out,
-        0,
-        b"STANDING KEPT DROPPED RECORDS BREAK REASON REGION TERM\n",
-    );
-    let second = put_four(
-        out,
-        first,
-        v.standing as u64,
-        v.kept as u64,
-        v.dropped as u64,
-        v.records as u64,
-        b' ',
-    );
-    put_four(
-        out,
-        second,
-        v.broken as u64,
-        v.reason as u64,
-        v.region as u64,
-        v.term as u64,
-        b'\n',
-    )
-}
-
-// `refused` and the part's name.
-fn put_part(out: &mut [u8], part: Part) -> usize
-    requires { room ≤ length out.old }
-    ensures text { Wrote out.old 0 (part_text part) out.new result }
-    ensures short { result ≤ 14 }
-{
-    match part {
-        Part::Input => wire::put_bytes(out, 0, b"refused input "),
-        Part::Chart => wire::put_bytes(out, 0, b"refused chart "),
-        Part::Log => wire::put_bytes(out, 0, b"refused log "),
+impl Part {
+    #[tactic(auto, unfolding(text::specs::Text::bytes_of))]
+    fn name(self) -> &'static [u8]
+        ensures value { result.now ≡ part_name self }
+        ensures short { length result.now ≤ 5 }
+    {
+        match self {
+            Part::Input => b"input",
+            Part::Chart => b"chart",
+            Part::Log => b"log",
+        }
     }
 }
 
-fn put_refusal(out: &mut [u8], part: Part, number: u8, offset: usize) -> usize
-    requires { room ≤ length out.old }
-    ensures text { Wrote out.old 0 (refusal_line part number offset) out.new result }
-    ensures short { result ≤ room }
+impl From<Part> for u64 {
+    ghost from_gives = { λ part n. n ≡ part_number part };
+
+    fn from(part: Part) -> u64 {
+        match part {
+            Part::Input => 0,
+            Part::Chart => 1,
+            Part::Log => 2,
+        }
+    }
+}
+
+// A refusal: its part, its number and its offset within that part. The number and no enum, since it is printed alike for
+// the three kinds of refusals.
+#[derive(Clone, Copy, Debug, PartialEq, Eq)]
+pub struct Refused {
+    pub part: Part,
+    pub number: u8,
+    pub offset: usize,
+}
+
+// A verdict, or a refusal.
+pub type Report = Result<Verdict, Refused>;
+
+// A number in decimal, and one byte after it.
+fn put_field(out: &mut Text, n: u64, end: u8)
+    requires { array_vec_len out.old + 21 ≤ room }
+    ensures text { out.new.items ≡ out.old.items ++ field_text n end }
+    ensures short { array_vec_len out.new ≤ array_vec_len out.old + 21 }
 {
-    let first = put_part(out, part);
-    let second = put_field(out, first, number as u64, b' ');
-    let third = wire::put_bytes(out, second, b"at ");
-    put_field(out, third, offset as u64, b'\n')
+    text::append_decimal(out, n);
+    out.push(end);
+}
+
+// P8: the header, and the eight numbers.
+fn verdict_text(v: Verdict) -> Text
+    ensures { result.items ≡ verdict_lines v }
+{
+    let mut out = ArrayVec::new();
+    wire::append(
+        &mut out,
+        b"STANDING KEPT DROPPED RECORDS BREAK REASON REGION TERM\n",
+    );
+    let numbers: [u64; PLACES] = v.into();
+    for n in &numbers[..PLACES - 1] {
+        put_field(&mut out, *n, b' ');
+    }
+    put_field(&mut out, numbers[PLACES - 1], b'\n');
+    out
+}
+
+// P6: the part, the number and the offset.
+fn refusal_text(refused: Refused) -> Text
+    ensures { result.items ≡ refusal_line refused.part refused.number refused.offset }
+{
+    let mut out = ArrayVec::new();
+    wire::append(&mut out, b"refused ");
+    wire::append(&mut out, refused.part.name());
+    out.push(b' ');
+    put_field(&mut out, u64::from(refused.number), b' ');
+    wire::append(&mut out, b"at ");
+    put_field(&mut out, refused.offset as u64, b'\n');
+    out
 }
 
 // The report's text at the start of the buffer, and its length; the bytes after it stay as they were.
@@ -106,8 +109,10 @@ pub fn put_report(out: &mut [u8], report: Report) -> usize
     ensures buffer { out.new ≡ starting_with (listing_of report) out.old }
     ensures short { result ≤ room }
 {
-    match report {
-        Report::Judged(v) => put_verdict(out, v),
-        Report::Refused(part, number, offset) => put_refusal(out, part, number, offset),
-    }
+    let lines = match report {
+        Ok(v) => verdict_text(v),
+        Err(refused) => refusal_text(refused),
+    };
+    out[..lines.len()].copy_from_slice(lines.as_slice());
+    lines.len()
 }

@@ -6,15 +6,15 @@ use mathlib.Core.Logic.{inl, inr}
 use mathlib.Core.List.{List, ◌++◌}
 use Prim.Native.Nat.{ℕ, ◌+◌, ◌-◌, ◌≤◌, ◌<◌, ◌^◌}
 use native.Mathlib.Omega.{arith}
-use borrow.Author.Tests.{le-leb, lt-leb, leb-true, eqb-true, eqb-false}
+use borrow.Author.Tests.{le-leb, lt-leb, leb-true, eq-eqb, ne_eqb, eqb-true, eqb-false}
 use lib.Dec.{eqb, leb}
+use Rattle.std.specs.Prelude.{Some, None}
 use lib.ListN.{length, take, drop}
 use lib.Seq.{get_or-drop, drop-drop, take_at}
 use Rattle.base.proofs.Bools.{both, and_left, split}
 use Rattle.model.specs.declared.Chart.{Chart}
 use Rattle.model.specs.Chart.{zero_chart}
 use Rattle.chart_value.proofs.Exact.{accepted_whole}
-use Rattle.chart_value.proofs.Facts.{wf_of}
 use Rattle.chart_reader.specs.Read.{read_chart}
 use Rattle.chart_reader.specs.Said.{Said}
 use Rattle.chart_reader.proofs.Ends.{Reads, accepts, refuses, reads}
@@ -23,25 +23,42 @@ use Rattle.wire.specs.Bytes.{word64}
 use Rattle.wire.specs.Writing.{long_bytes}
 use Rattle.monitor_image.specs.MonitorImage.{monitor_size}
 use Rattle.wire.proofs.Writing.{long_back}
-use Rattle.live.specs.Live.{head_size, length_in, chart_part, chart_in, is_framed, is_live}
+use Rattle.live.specs.Live.{head_size, length_in, chart_part, chart_in, chart_if_live, is_framed, is_live}
 
-pub too_few : (l : List ℕ) → length l < head_size → chart_in l ≡ zero_chart
-unfolding chart_in
+pub too_few : (l : List ℕ) → length l < head_size → None ≡ chart_if_live l
+unfolding is_live
 too_few l h = rw (lt-leb head_size (length l) h)
 
-pub beyond : (l : List ℕ) → head_size ≤ length l → length l - head_size < length_in l → chart_in l ≡ zero_chart
-unfolding chart_in
+pub beyond : (l : List ℕ) → head_size ≤ length l → length l - head_size < length_in l → None ≡ chart_if_live l
+unfolding is_live
 beyond l h k = rw (le-leb head_size (length l) h, lt-leb (length_in l) (length l - head_size) k)
 
--- the part as the code lends it
-pub framed : (l : List ℕ) (n : ℕ) → head_size ≤ length l → n ≡ length_in l → n ≤ length l - head_size
-    → (read_chart (take (head_size + n - head_size) (drop head_size l))).chart ≡ chart_in l
-unfolding chart_in
-framed l n h e k =
-    let s : head_size + n - head_size ≡ length_in l = omega arith in
-    let b : length_in l ≤ length l - head_size = omega arith in
-    rw (le-leb head_size (length l) h, le-leb (length_in l) (length l - head_size) b)
-    (ap (λ (j : ℕ). (read_chart (take j (drop head_size l))).chart) s)
+-- what the reader says of the part as the code lends it
+module _ (l : List ℕ) (n : ℕ) (h : head_size ≤ length l) (e : n ≡ length_in l) (k : n ≤ length l - head_size)
+    (s : Said) (r : s ≡ read_chart (take (head_size + n - head_size) (drop head_size l))) where
+  framed : is_framed l ≡ true
+  framed =
+      let b : length_in l ≤ length l - head_size = omega arith in
+      rw (le-leb head_size (length l) h, le-leb (length_in l) (length l - head_size) b)
+
+  said_there : s ≡ read_chart (chart_part l)
+  said_there =
+      let t : head_size + n - head_size ≡ length_in l = omega arith in
+      r ∙ ap (λ (j : ℕ). read_chart (take j (drop head_size l))) t
+
+  pub accepted_there : s.number ≡ 0 → Some s.chart ≡ chart_if_live l
+  unfolding is_live chart_in
+  accepted_there z =
+      let x : eqb (read_chart (chart_part l)).number 0 ≡ true =
+      ap (λ (s : Said). eqb s.number 0) (sym said_there) ∙ eq-eqb s.number 0 z in
+      rw (framed, x) (ap (λ (s : Said). Some s.chart) said_there)
+
+  pub refused_there : ¬ (s.number ≡ 0) → None ≡ chart_if_live l
+  unfolding is_live
+  refused_there z =
+      let x : eqb (read_chart (chart_part l)).number 0 ≡ false =
+      ap (λ (s : Said). eqb s.number 0) (sym said_there) ∙ ne_eqb s.number 0 z in
+      rw (framed, x)
 
 -- the chart depends on the number of bytes and on what stands after the monitor's image
 chart_from : ℕ → List ℕ → Chart
@@ -111,29 +128,17 @@ live_exact l = elim (split (is_live l)) [
   | inr e ↦ e ∙ sym (ap well_formed (not_live l e) ∙ zero_refused)
 ]
 
--- a chart has a region, and what stands in for none has not: the count tells whether the bytes are live
-no_regions : (c : Chart) → c.count ≡ 0 → well_formed c ≡ false
-no_regions c z = elim (split (well_formed c)) [
-  | inl w ↦ let h = (wf_of c w).main in absurd (omega (arith, h))
-  | inr w ↦ w
+pub some_live : (l : List ℕ) (c : Chart) → Some c ≡ chart_if_live l → (c ≡ chart_in l) × (well_formed (chart_in l) ≡ true)
+some_live l c e = elim (split (is_live l)) [
+  | inl y ↦ let q : Some c ≡ Some (chart_in l) = rw y at e in (cc, live_whole l y)
+  | inr n ↦ let q : Some c ≡ None = rw n at e in absurd (cc)
 ]
 
--- for the chart that was read there
-module _ (l : List ℕ) (c : Chart) (q : c ≡ chart_in l) where
-  pub count_none : c.count ≡ 0 → well_formed (chart_in l) ≡ false
-  count_none z = ap well_formed (sym q) ∙ no_regions c z
-
-  pub count_zeros : c.count ≡ 0 → chart_in l ≡ zero_chart
-  count_zeros z = not_live l (live_exact l ∙ count_none z)
-
-  pub count_some : (c.count ≡ 0 → ⊥) → well_formed (chart_in l) ≡ true
-  count_some n = elim (split (is_live l)) [
-    | inl e ↦ live_whole l e
-    | inr e ↦ absurd (n (ap (λ (x : Chart). x.count) (q ∙ not_live l e)))
-  ]
-
-  pub count_whole : (c.count ≡ 0 → ⊥) → well_formed c ≡ true
-  count_whole n = ap well_formed q ∙ count_some n
+pub none_live : (l : List ℕ) → None ≡ chart_if_live l → is_live l ≡ false
+none_live l e = elim (split (is_live l)) [
+  | inl y ↦ let q : None ≡ Some (chart_in l) = rw y at e in absurd (cc)
+  | inr n ↦ n
+]
 
 -- live bytes have room for the head
 pub live_long : (l : List ℕ) → well_formed (chart_in l) ≡ true → head_size ≤ length l

@@ -1,23 +1,24 @@
 -- Feeding the monitor in live bytes. Assumes nothing.
 use mathlib.Core.Path.{◌≡◌, refl, sym, ap, subst, ◌∙◌}
-use mathlib.Core.Bool.{Bool, true, false, cond, ◌||◌, false≢true}
+use mathlib.Core.Bool.{Bool, true, false, cond, ◌||◌}
 use mathlib.Core.Logic.{◌↔◌, inl, inr}
 use mathlib.Core.List.{List, ◌++◌}
 use Prim.Native.Nat.{ℕ, ◌≤◌}
 use native.Mathlib.Omega.{arith}
-use borrow.Author.Tests.{not-true, eqb-false}
+use borrow.Author.Tests.{eq-eqb, ne_eqb}
 use lib.ListN.{length, drop, length-append, length-drop}
 use lib.Seq.{drop_at}
-use Rattle.base.proofs.Bools.{either, split}
+use Rattle.base.proofs.Bools.{or_right, split}
 use Rattle.model.specs.declared.Chart.{Chart}
 use Rattle.model.specs.declared.Monitor.{Monitor}
 use Rattle.model.specs.declared.Record.{Record}
 use Rattle.model.specs.Chart.{zero_chart}
+use Rattle.std.specs.Prelude.{Ok, Err}
 use Rattle.model.specs.declared.Answer.{Answer}
-use Rattle.model.specs.declared.Answer.TheVariants.{Refused, Broken, Kept, Dropped, Entered, Moved, Quiet}
+use Rattle.model.specs.declared.Answer.TheVariants.{Broken, Kept, Dropped, Entered, Moved, Quiet}
 use Rattle.model.specs.declared.FeedRefusal.{FeedRefusal}
 use Rattle.model.specs.declared.FeedRefusal.TheVariants.{NotAChart}
-use Rattle.model.specs.Answers.{feed_refusal_number, answer_number}
+use Rattle.model.specs.Answers.{feed_refusal_number, Fed, fed_number}
 use Rattle.rounds.specs.Feeds.{refused}
 use Rattle.rounds.specs.Machine.{Step as AbstractStep}
 use Rattle.stepping.proofs.Back.{refuses_with}
@@ -25,7 +26,7 @@ use Rattle.stepping.proofs.Answers.{answer_told}
 use Rattle.chart_value.specs.View.{chart_of}
 use Rattle.monitor.specs.Fit.{fits}
 use Rattle.stepping.specs.declared.Step.{Step}
-use Rattle.stepping.specs.Answers.{answer_of, HandsBack}
+use Rattle.stepping.specs.Answers.{fed_answer, HandsBack}
 use Rattle.stepping.specs.Monitors.{monitor_at, step_of}
 use Rattle.monitor.specs.Feed.{feed_of, refuse}
 use Rattle.chart_value.specs.Records.{log_record}
@@ -38,9 +39,9 @@ use Rattle.live.specs.Live.{chart_in, is_refused, is_broken, bytes_fed, LiveFedB
 use Rattle.live.proofs.Charts.{same_chart, live_exact, zero_refused}
 
 -- an answer whose number is 20
-answered_20 : (a : Answer) → answer_of a ≡ refused (feed_refusal_number NotAChart)
-    → answer_number a ≡ feed_refusal_number NotAChart
-answered_20 a e = ap answer_number (answer_told a (Refused NotAChart) e)
+answered_20 : (a : Fed) → fed_answer a ≡ refused (feed_refusal_number NotAChart)
+    → fed_number a ≡ feed_refusal_number NotAChart
+answered_20 a e = ap fed_number (answer_told a (Err NotAChart) e)
 
 -- with a chart of zeros the answer is 20
 zeros_fed : (m : Monitor) (e : Record) → feed_of zero_chart m e ≡ refuse NotAChart m
@@ -48,15 +49,15 @@ unfolding feed_of
 zeros_fed m e = rw zero_refused
 
 -- with a chart it is another: feeding refuses with 21, 22, 23 or not at all
-answered_as : (a : Answer) → answer_number a ≡ feed_refusal_number NotAChart
-    → answer_of a ≡ refused (feed_refusal_number NotAChart)
-answered_as (Refused k) e = ap refused e
-answered_as (Broken n k x) e = absurd (omega arith)
-answered_as Kept e = absurd (omega arith)
-answered_as (Dropped x) e = absurd (omega arith)
-answered_as Entered e = absurd (omega arith)
-answered_as Moved e = absurd (omega arith)
-answered_as Quiet e = absurd (omega arith)
+answered_as : (a : Fed) → fed_number a ≡ feed_refusal_number NotAChart
+    → fed_answer a ≡ refused (feed_refusal_number NotAChart)
+answered_as (Err k) e = ap refused e
+answered_as (Ok (Broken n k x)) e = absurd (omega arith)
+answered_as (Ok Kept) e = absurd (omega arith)
+answered_as (Ok (Dropped x)) e = absurd (omega arith)
+answered_as (Ok Entered) e = absurd (omega arith)
+answered_as (Ok Moved) e = absurd (omega arith)
+answered_as (Ok Quiet) e = absurd (omega arith)
 
 same_number : {a b : ℕ} → refused a ≡ refused b → a ≡ b
 same_number e = cc
@@ -74,7 +75,7 @@ whole_never c m e w h = elim (split (fits (chart_of c) m)) [
 
 -- 20 exactly for a value that is no chart
 pub exactly_20 : (c : Chart) (m : Monitor) (e : Record) (s : Step) → step_of s ≡ feed_of c m e
-    → (well_formed c ≡ false) ↔ (answer_number s.answer ≡ feed_refusal_number NotAChart)
+    → (well_formed c ≡ false) ↔ (fed_number s.answer ≡ feed_refusal_number NotAChart)
 unfolding feed_of
 exactly_20 c m e s f = (
   λ w. let r : feed_of c m e ≡ refuse NotAChart m = rw w in answered_20 s.answer (λ i. ((f ∙ r) i).answer),
@@ -91,53 +92,41 @@ monitor_at_start {l} {n} m w h =
     let size = monitor_length m in
     at_start w (omega (arith, size)) ∙ ap (λ (x : ℕ). monitor_bytes m ++ drop x l) size
 
-refused_for_lem : (a : Answer) → is_refused a ≡ true → (k : FeedRefusal) × (a ≡ Refused k)
-refused_for_lem (Refused k) e = (k, refl)
-refused_for_lem (Broken n k x) e = absurd (false≢true e)
-refused_for_lem Kept e = absurd (false≢true e)
-refused_for_lem (Dropped x) e = absurd (false≢true e)
-refused_for_lem Entered e = absurd (false≢true e)
-refused_for_lem Moved e = absurd (false≢true e)
-refused_for_lem Quiet e = absurd (false≢true e)
-
 module _ (c : Chart) (l : List ℕ) (m : Monitor) (e : Record) (s : Step) (q : m ≡ monitor_in l)
-    (f : step_of s ≡ feed_of c m e) (r : Answer)
+    (f : step_of s ≡ feed_of c m e) (r : Fed)
     (t : r ≡ s.answer) where
   fed_in : step_of s ≡ feed_of c (monitor_in l) e
   fed_in = f ∙ ap (λ (m : Monitor). feed_of c m e) q
 
-  -- the bytes stay as they were
-  pub stays : HandsBack m s → (is_refused s.answer || is_broken m) ≡ true → LiveFedBy c l e r l
+  -- the bytes stay as they were: the record is refused, or the monitor was broken before
+  stays : (is_refused s.answer || is_broken m) ≡ true → s.next ≡ m → LiveFedBy c l e r l
   unfolding bytes_fed
-  stays b g = record {
-    taken = s;
-    fed = fed_in;
-    ans = t;
-    bytes = rw (← q, g);
-    next = sym q ∙ sym (elim (either (is_refused s.answer) (is_broken m) g) [
-      | inl x ↦ let t = refused_for_lem s.answer x in b.refused t.0 t.1
-      | inr x ↦ b.broken (eqb-false m.tally.broken.at 0 (not-true _ x))
-    ]);
-  }
+  stays g n = record { taken = s; fed = fed_in; ans = t; bytes = rw (← q, g); next = sym q ∙ sym n }
+
+  pub stays_refused : HandsBack m s → (k : FeedRefusal) → s.answer ≡ Err k → LiveFedBy c l e r l
+  stays_refused b k a = stays (rw a) (b.refused k a)
+
+  pub stays_broken : HandsBack m s → ¬ (m.tally.broken.at ≡ 0) → LiveFedBy c l e r l
+  stays_broken b n = stays (or_right (is_refused s.answer) (rw (ne_eqb _ _ n))) (b.broken n)
 
   -- the monitor handed back is written
-  pub written : {n : List ℕ} {j : ℕ} → (is_refused s.answer || is_broken m) ≡ false → monitor_size ≤ length l
+  pub written : {n : List ℕ} {j : ℕ} {a : Answer} → s.answer ≡ Ok a → m.tally.broken.at ≡ 0 → monitor_size ≤ length l
       → Wrote l 0 (monitor_bytes s.next) n j → monitor_in n ≡ s.next → LiveFedBy c l e r n
   unfolding bytes_fed
-  written {n} {j} g h w k = record {
+  written {n} {j} a b h w k = record {
     taken = s;
     fed = fed_in;
     ans = t;
-    bytes = rw (← q, g) (monitor_at_start s.next w h);
+    bytes = rw (← q, a, eq-eqb _ _ b) (monitor_at_start s.next w h);
     next = k;
   }
 
 -- bytes that hold no chart: 20, and they stay as they were
-pub fed_none : (l : List ℕ) (e : Record) → chart_in l ≡ zero_chart → LiveFed l e (Refused NotAChart) l
+pub fed_none : (l : List ℕ) (e : Record) → chart_in l ≡ zero_chart → LiveFed l e (Err NotAChart) l
 unfolding bytes_fed
 fed_none l e z = record {
   by_chart = record {
-    taken = record { answer = Refused NotAChart; next = monitor_in l };
+    taken = record { answer = Err NotAChart; next = monitor_in l };
     fed = sym (ap (λ (c : Chart). feed_of c (monitor_in l) e) z ∙ zeros_fed (monitor_in l) e);
     ans = refl;
     bytes = refl;
@@ -157,17 +146,17 @@ chart_stays l s false h =
     (length-append (monitor_bytes s.next) (drop monitor_size l) ∙ omega (arith, size, length-drop monitor_size l))
     (drop_at (monitor_bytes s.next) (drop monitor_size l) monitor_size size)
 
-pub fed_live : {l n : List ℕ} {e : Record} {r : Answer} (c : Chart) → c ≡ chart_in l → monitor_size ≤ length l
+pub fed_live : {l n : List ℕ} {e : Record} {r : Fed} (c : Chart) → c ≡ chart_in l → monitor_size ≤ length l
     → LiveFedBy c l e r n → LiveFed l e r n
 unfolding bytes_fed
 fed_live {l} {n} {e} {r} c p h F = record {
   by_chart = subst (λ (c : Chart). LiveFedBy c l e r n) p F;
   chart = ap chart_in F.bytes ∙ chart_stays l F.taken (is_refused F.taken.answer || is_broken (monitor_in l)) h;
   none = (
-    λ x. ap answer_number F.ans ∙ exact.0 (ap well_formed p ∙ sym (live_exact l) ∙ x),
-    λ n. live_exact l ∙ ap well_formed (sym p) ∙ exact.1 (sym (ap answer_number F.ans) ∙ n),
+    λ x. ap fed_number F.ans ∙ exact.0 (ap well_formed p ∙ sym (live_exact l) ∙ x),
+    λ n. live_exact l ∙ ap well_formed (sym p) ∙ exact.1 (sym (ap fed_number F.ans) ∙ n),
   );
 }
   where
-    exact : (well_formed c ≡ false) ↔ (answer_number F.taken.answer ≡ feed_refusal_number NotAChart)
+    exact : (well_formed c ≡ false) ↔ (fed_number F.taken.answer ≡ feed_refusal_number NotAChart)
     exact = exactly_20 c (monitor_in l) e F.taken F.fed

@@ -4,12 +4,12 @@ use mathlib.Core.List.{List}
 use Rattle.model.specs.declared.Chart.{Chart}
 use Rattle.model.specs.declared.Monitor.{Monitor}
 use Rattle.model.specs.declared.Record.{Record}
-use Rattle.model.specs.declared.Answer.{Answer}
+use Rattle.model.specs.Answers.{Fed}
 use Rattle.chart_reader.specs.Read.{read_chart}
 use Rattle.base.specs.Lists.{Snoc, ε, ◌▸◌}
 use Rattle.rounds.specs.Feeds.{Answer as AbstractAnswer}
 use Rattle.rounds.specs.Machine.{Step as AbstractStep}
-use Rattle.stepping.specs.Answers.{answer_of}
+use Rattle.stepping.specs.Answers.{fed_answer}
 use Rattle.stepping.proofs.Answers.{answer_told}
 use Rattle.monitor.specs.Feed.{feed_of}
 use Rattle.monitor.specs.History.{History, none_yet, one_more}
@@ -30,12 +30,12 @@ goes {chart} (opened H) = subst (λ (m : Monitor). History (read_chart chart).ch
 goes {chart} (then_fed {es} {ans} {l} {n} {e} {a} q F) =
     let s = F.by_chart.taken in
     rw F.by_chart.ans (subst
-    (λ (m : Monitor). History (read_chart chart).chart (es ▸ e) (ans ▸ answer_of s.answer) m)
+    (λ (m : Monitor). History (read_chart chart).chart (es ▸ e) (ans ▸ fed_answer s.answer) m)
     (sym F.by_chart.next)
     (one_more e s (goes q) (F.by_chart.fed ∙ ap (λ (c : Chart). feed_of c (monitor_in l) e) (chart_kept q))))
 
 -- the bytes and the record fix the answer
-pub one_answer : {l n n' : List ℕ} {e : Record} {a b : Answer} → LiveFed l e a n → LiveFed l e b n' → a ≡ b
+pub one_answer : {l n n' : List ℕ} {e : Record} {a b : Fed} → LiveFed l e a n → LiveFed l e b n' → a ≡ b
 one_answer {a = a} {b} F G =
     let p = F.by_chart.fed ∙ sym G.by_chart.fed in
     F.by_chart.ans
@@ -43,7 +43,7 @@ one_answer {a = a} {b} F G =
     ∙ sym G.by_chart.ans
 
 -- one more feed
-pub runs_on : {l n : List ℕ} {e : Record} {a : Answer} → LiveFed l e a n → Extends l e a n
+pub runs_on : {l n : List ℕ} {e : Record} {a : Fed} → LiveFed l e a n → Extends l e a n
 runs_on F = λ chart es ans q. then_fed q F
 
 pub live_claims : LiveClaims

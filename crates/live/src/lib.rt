@@ -1,20 +1,21 @@
 // A live monitor in bytes that the caller keeps: opened for a chart, fed records, asked for its standing.
 #![tactic(auto)]
 
-ghost use Rattle.std.specs.Prelude.{◌≡◌, true, ◌+◌, ◌≤◌, length};
-ghost use Rattle.model.specs.Answers.{feed_refusal_number, zero_verdict};
-ghost use Rattle.wire.specs.Writing.{Wrote};
+ghost use Rattle.std.specs.Prelude.{◌≡◌, true, ◌+◌, ◌≤◌, length, OnOk};
+ghost use Rattle.wire.specs.Writing.{starting_with};
 ghost use Rattle.base.specs.Lists.{ε};
 ghost use Rattle.stepping.specs.Answers.{HandsBack};
 ghost use Rattle.stepping.specs.Monitors.{step_of};
 ghost use Rattle.monitor.specs.Feed.{feed_of};
 ghost use Rattle.monitor_image.specs.MonitorImage.{monitor_size, monitor_in};
-ghost use Rattle.live.specs.Live.{head_size, chart_in, live_size, fresh_bytes, opened_of, bytes_opened, Holds};
-ghost use Rattle.live.specs.Live.{is_refused, LiveFedBy, LiveFed, standing_by, standing_in};
+ghost use Rattle.live.specs.Live.{head_size, chart_in, chart_if_live, live_size, fresh_bytes, told, opened_of};
+ghost use Rattle.live.specs.Live.{bytes_opened, Holds, LiveFedBy, LiveFed, standing_by, standing_in};
 ghost use Rattle.live.specs.History.{LiveHistory, Extends, LiveClaims};
 
-use chart_reader::ChartAnswer;
-use model::{Answer, Chart, FeedRefusal, Monitor, Record, TOO_SHORT, Verdict};
+use chart_step::Fault;
+use chart_value::AcceptedChart;
+use model::{Answer, Chart, FeedRefusal, Monitor, Record, Verdict};
+use monitor_image::MONITOR_SIZE;
 use stepping::Step;
 
 // The monitor's image and the chart's length.
@@ -23,18 +24,11 @@ const HEAD_SIZE: usize = 67;
 // The largest usize.
 const LARGEST: usize = 0xffff_ffff_ffff_ffff;
 
-// V10: the number that opening returns, and the offset of the chart's fault or the size of the live monitor.
+// V10: why nothing is opened: the chart's fault with its offset, or a buffer below the size of the live monitor.
 #[derive(Clone, Copy)]
-pub struct Opened {
-    pub number: u8,
-    pub at: u64,
-}
-
-// 0 and the verdict, or a refusal with zeros.
-#[derive(Clone, Copy)]
-pub struct LiveVerdict {
-    pub number: u8,
-    pub verdict: Verdict,
+pub enum OpenRefusal {
+    Chart(Fault),
+    TooShort(usize),
 }
 
 // V9: the size of a live monitor, by the length of its chart.
@@ -48,94 +42,80 @@ pub fn size(bytes: usize) -> usize
 }
 
 // A fresh live monitor at the start of the buffer.
-fn put_fresh(live: &mut [u8], chart: &[u8]) -> usize
+fn put_fresh(live: &mut [u8], chart: &[u8])
     requires { head_size + length chart.now ≤ length live.old }
-    ensures { Wrote live.old 0 (fresh_bytes chart.now) live.new result }
+    ensures { live.new ≡ starting_with (fresh_bytes chart.now) live.old }
 {
-    let second = monitor_image::put_monitor(live, model::zero_monitor());
-    let third = wire::put_word64(live, second, chart.len() as u64);
-    wire::put_bytes(live, third, chart)
+    monitor_image::put_monitor(live, model::zero_monitor());
+    wire::put_bytes(live, MONITOR_SIZE, &u64::to_be_bytes(chart.len() as u64));
+    wire::put_bytes(live, HEAD_SIZE, chart);
 }
 
-// V10: puts a live monitor for the chart into the buffer, if it has room for it.
-pub fn open(chart: &[u8], live: &mut [u8]) -> Opened
-    ensures answer { result ≡ opened_of chart.now (length live.old) }
+// V10: puts a live monitor for the chart into the buffer, if it has room for it, and gives its size.
+pub fn open(chart: &[u8], live: &mut [u8]) -> Result<usize, OpenRefusal>
+    ensures answer { told result ≡ opened_of chart.now (length live.old) }
     ensures bytes { live.new ≡ bytes_opened chart.now live.old }
-    ensures holds { result.number ≡ 0 → Holds chart.now live.new }
-    ensures history { result.number ≡ 0 → LiveHistory chart.now ε ε live.new }
+    ensures holds { OnOk result (Holds chart.now live.new) }
+    ensures history { OnOk result (LiveHistory chart.now ε ε live.new) }
     ensures unchanged { chart.exit.now ≡ chart.entry.now }
 {
     let read = chart_reader::read(chart);
-    let answer = read.answer;
-    if let ChartAnswer::Refused(refusal, offset) = answer {
-        return Opened {
-            number: chart_step::number(refusal),
-            at: offset as u64,
-        };
+    if let Err(fault) = read.answer {
+        return Err(OpenRefusal::Chart(fault));
     }
     let wanted = size(chart.len());
     if live.len() < wanted {
-        return Opened {
-            number: TOO_SHORT,
-            at: wanted as u64,
-        };
+        return Err(OpenRefusal::TooShort(wanted));
     }
     put_fresh(live, chart);
-    Opened {
-        number: 0,
-        at: wanted as u64,
-    }
+    Ok(wanted)
 }
 
-// The chart in the bytes; zeros if they hold no chart.
-pub fn chart_in(live: &[u8]) -> Chart
-    ensures { result ≡ chart_in live.now }
+// The chart in the bytes, if they hold a live monitor.
+pub fn chart_if_live(live: &[u8]) -> Option<Chart>
+    ensures { result ≡ chart_if_live live.now }
 {
     if live.len() < HEAD_SIZE {
-        return model::zero_chart();
+        return None;
     }
     let rest = live.len() - HEAD_SIZE;
-    let n = wire::word64_at(live, monitor_image::MONITOR_SIZE);
+    let n = wire::word64_at(live, MONITOR_SIZE);
     if (rest as u64) < n {
-        return model::zero_chart();
+        return None;
     }
     let end = HEAD_SIZE + n as usize;
     let read = chart_reader::read(&live[HEAD_SIZE..end]);
-    read.chart
+    match read.answer {
+        Ok(()) => Some(read.chart),
+        Err(_) => None,
+    }
 }
 
-// Whether the answer is a refusal.
-fn is_refused(a: Answer) -> bool
-    ensures { result ≡ is_refused a }
+// The chart in the bytes; zeros if they hold no live monitor.
+pub fn chart_in(live: &[u8]) -> Chart
+    ensures { result ≡ chart_in live.now }
 {
-    match a {
-        Answer::Refused(_) => true,
-        Answer::Broken(_, _, _) => false,
-        Answer::Kept => false,
-        Answer::Dropped(_) => false,
-        Answer::Entered => false,
-        Answer::Moved => false,
-        Answer::Quiet => false,
+    match chart_if_live(live) {
+        Some(chart) => chart,
+        None => model::zero_chart(),
     }
 }
 
 // The monitor that a feed handed back is written, unless the record was refused or the monitor was broken before.
-fn put_fed(bytes: &mut [u8], m: Monitor, s: Step) -> Answer
+fn put_fed(bytes: &mut [u8], m: Monitor, s: Step) -> Result<Answer, FeedRefusal>
     requires { monitor_size ≤ length bytes.old }
     ensures { (chart : Chart) (e : Record) → m ≡ monitor_in bytes.old → step_of s ≡ feed_of chart m e
         → HandsBack m s → LiveFedBy chart bytes.old e result bytes.new }
 {
-    let answer = s.answer;
-    let next = s.next;
-    if is_refused(answer) | (m.tally.broken.at != 0) {
-        return answer;
+    let answer = s.answer?;
+    if m.tally.broken.at == 0 {
+        monitor_image::put_monitor(bytes, s.next);
     }
-    monitor_image::put_monitor(bytes, next);
-    answer
+    Ok(answer)
 }
 
 // One record fed to the monitor whose image starts the bytes, for any chart value.
-pub fn feed_chart(chart: Chart, bytes: &mut [u8], e: Record) -> Answer
+pub fn feed_chart(chart: Chart, bytes: &mut [u8], e: Record) -> Result<Answer, FeedRefusal>
     requires { monitor_size ≤ length bytes.old }
     ensures { LiveFedBy chart bytes.old e result bytes.new }
 {
@@ -144,50 +124,41 @@ pub fn feed_chart(chart: Chart, bytes: &mut [u8], e: Record) -> Answer
 }
 
 // One record fed to the live monitor. The chart in it was just read, and is not tested again.
-pub fn feed(live: &mut [u8], e: Record) -> Answer
+pub fn feed(live: &mut [u8], e: Record) -> Result<Answer, FeedRefusal>
     ensures fed { LiveFed live.old e result live.new }
     ensures history { Extends live.old e result live.new }
 {
-    let chart = chart_in(live);
-    if chart.count == 0 {
-        return Answer::Refused(FeedRefusal::NotAChart);
-    }
+    let Some(chart) = chart_if_live(live) else {
+        return Err(FeedRefusal::NotAChart);
+    };
+    let accepted = AcceptedChart { chart };
     let m = monitor_image::monitor_at(live);
-    put_fed(live, m, monitor::feed_accepted(chart, m, e))
-}
-
-// A refusal with zeros for the verdict.
-fn refused(k: FeedRefusal) -> LiveVerdict
-    ensures { result ≡ record { number = feed_refusal_number k; verdict = zero_verdict } }
-{
-    LiveVerdict {
-        number: model::feed_refusal_number(k),
-        verdict: model::zero_verdict(),
-    }
+    put_fed(live, m, monitor::feed_accepted(&accepted, m, e))
 }
 
 // V12: the verdict so far of a monitor for a chart.
-fn standing_of(chart: Chart, m: Monitor) -> LiveVerdict
+fn standing_of(chart: Chart, m: Monitor) -> Result<Verdict, FeedRefusal>
     ensures { result ≡ standing_by chart m }
 {
-    if !chart_value::well_formed(chart) {
-        return refused(FeedRefusal::NotAChart);
+    let Ok(accepted) = AcceptedChart::try_from(chart) else {
+        return Err(FeedRefusal::NotAChart);
+    };
+    let plan = plan::compile(&accepted);
+    if !monitor::is_fit(&plan, m) {
+        return Err(FeedRefusal::Unfit);
     }
-    let p = plan::compile(chart);
-    let h = p.head;
-    if !monitor::is_fit(h, &p.keys, &p.above, &p.resets, &p.terms, m) {
-        return refused(FeedRefusal::Unfit);
-    }
-    let verdict = verdict::verdict_of(chart, m);
-    LiveVerdict { number: 0, verdict }
+    Ok(verdict::verdict_of(&accepted, m))
 }
 
 // The standing of the monitor in the bytes.
-pub fn standing(live: &[u8]) -> LiveVerdict
+pub fn standing(live: &[u8]) -> Result<Verdict, FeedRefusal>
     ensures value { result ≡ standing_in live.now }
     ensures unchanged { live.exit.now ≡ live.entry.now }
 {
-    standing_of(chart_in(live), monitor_image::monitor_at(live))
+    let Some(chart) = chart_if_live(live) else {
+        return Err(FeedRefusal::NotAChart);
+    };
+    standing_of(chart, monitor_image::monitor_at(live))
 }
 
 // V3, V13: which bytes hold a live monitor, and that feeding them is feeding the monitor in them.

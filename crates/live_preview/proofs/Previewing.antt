@@ -5,9 +5,8 @@ use Prim.Native.Nat.{ℕ}
 use lib.ListN.{length, get_or}
 use Rattle.model.specs.declared.Chart.{Chart}
 use Rattle.model.specs.declared.Monitor.{Monitor}
-use Rattle.model.specs.Answers.{answer_number}
-use Rattle.preview.specs.declared.PreviewAnswer.{PreviewAnswer}
-use Rattle.preview.specs.Preview.{preview_number, preview_of, buffer_of}
+use Rattle.model.specs.Answers.{fed_number}
+use Rattle.preview.specs.Preview.{Previewed, preview_number, preview_of, buffer_of}
 use Rattle.preview.proofs.Bytes.{zero_shown, byte_fed}
 use Rattle.monitor_image.specs.MonitorImage.{monitor_in}
 use Rattle.live.specs.Live.{chart_in}
@@ -21,10 +20,10 @@ module _ (live : List ℕ) (time : ℕ) (out : List ℕ) where
         ap (λ (k : List ℕ). get_or k i 0) q
         ∙ byte_fed (chart_in live) (monitor_in live) (record { 0 = time }) out
         (zero_shown (preview_in live time (length out)) (sym e ∙ z)) i h x v F.by_chart.taken F.by_chart.fed
-        ∙ ap answer_number (sym F.by_chart.ans);
+        ∙ ap fed_number (sym F.by_chart.ans);
   }
 
-  module _ (c : Chart) (m : Monitor) (p : c ≡ chart_in live) (q : m ≡ monitor_in live) (a : PreviewAnswer)
+  module _ (c : Chart) (m : Monitor) (p : c ≡ chart_in live) (q : m ≡ monitor_in live) (a : Previewed)
       (e : a ≡ preview_of c m (record { 0 = time }) (length out)) where
     same_answer : a ≡ preview_in live time (length out)
     same_answer = e ∙ (λ i. preview_of (p i) (q i) (record { 0 = time }) (length out))

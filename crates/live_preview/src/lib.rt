@@ -8,16 +8,15 @@ ghost use Rattle.live.specs.Live.{chart_in};
 ghost use Rattle.live_preview.specs.Preview.{preview_in, regions_told, Foretells};
 
 use model::Moment;
-use preview::PreviewAnswer;
+use preview::PreviewRefusal;
 
 // How many regions the chart has, told if it can be shown or the buffer is too short; else 0.
-fn regions_told(count: u8, answer: PreviewAnswer) -> u64
-    ensures { result ≡ regions_told count answer }
+fn regions_told(count: u8, shown: Result<(), PreviewRefusal>) -> u64
+    ensures { result ≡ regions_told count shown }
 {
-    match answer {
-        PreviewAnswer::Shown => count as u64,
-        PreviewAnswer::TooShort => count as u64,
-        PreviewAnswer::Refused(_) => 0,
+    match shown {
+        Ok(()) | Err(PreviewRefusal::TooShort) => u64::from(count),
+        Err(PreviewRefusal::Feed(_)) => 0,
     }
 }
 
@@ -35,7 +34,7 @@ pub fn preview(live: &[u8], time: u32, out: &mut [u8], regions: &mut u64) -> u8
 {
     let chart = live::chart_in(live);
     let m = monitor_image::monitor_at(live);
-    let answer = preview::preview(chart, m, Moment(time), out);
-    *regions = regions_told(chart.count, answer);
-    preview::number(answer)
+    let shown = preview::preview(chart, m, Moment(time), out);
+    *regions = regions_told(chart.count, shown);
+    preview::number(shown)
 }

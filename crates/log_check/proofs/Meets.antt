@@ -1,32 +1,26 @@
 -- One record met from its bytes: what the check says of it. Assumes nothing.
-use Rattle.std.proofs.Common.{◌≡◌, ℕ, ◌+◌, ◌-◌, ◌*◌, ◌/◌, ◌%◌, ◌^◌, ◌<◌, ◌≤◌, Bool, true, false, cond, ◌&&◌, eqb, ltb, leb, ◌≢◌, List, length, get_or, sym, refl, ap, ◌∙◌, ap₂, arith, ltb-false, ltb-true, le-ltb, ne_eqb, le-leb, leb-false, leb-true}
+use Rattle.std.proofs.Common.{◌≡◌, ℕ, ◌+◌, ◌-◌, ◌*◌, ◌/◌, ◌%◌, ◌^◌, ◌<◌, ◌≤◌, Bool, true, false, cond, ◌&&◌, eqb, ltb, leb, ◌≢◌, List, None, Ok, Err, length, get_or, sym, refl, ap, ◌∙◌, ap₂, arith, ltb-false, ltb-true, le-ltb, ne_eqb, le-leb, leb-false, leb-true}
 use borrow.Author.Tests.{lt-leb}
 use Rattle.wire.specs.Bytes.{word16, word32}
 use Rattle.model.specs.declared.Moment.{Moment}
 use Rattle.model.specs.declared.Stamp.{Stamp}
 use Rattle.model.specs.Answers.{most_records}
-use Rattle.model.specs.Monitor.{stamp_of}
-use Rattle.log_reader.specs.declared.Next.{Next}
-use Rattle.log_reader.specs.declared.Next.TheVariants as next
 use Rattle.log_reader.specs.Record.{message_tag, time_tag, raw_message_tag, raw_time_tag, message_size, time_size}
 use Rattle.log_clock.specs.declared.Kind.{Kind}
 use Rattle.log_clock.specs.declared.Kind.TheVariants.{Plain, Raw}
 use Rattle.log_clock.specs.declared.MomentRefusal.TheVariants.{Falls, TooLate}
-use Rattle.log_clock.specs.declared.Timed.{Timed}
-use Rattle.log_clock.specs.declared.Timed.TheVariants as timed
-use Rattle.log_clock.specs.Clock.{range, half_range, gap_of, later_moment}
+use Rattle.log_clock.specs.Clock.{Timed, range, half_range, gap_of, later_moment}
 use Rattle.log_clock.proofs.Times.{gap_only, later_at}
 use Rattle.log_check.specs.declared.LogRefusal.TheVariants.{NoMoment, TooManyRecords}
-use Rattle.log_check.specs.declared.Checked.{Checked}
-use Rattle.log_check.specs.declared.Checked.TheVariants.{Refused}
-use Rattle.log_check.specs.declared.CheckStep.{CheckStep}
-use Rattle.log_check.specs.declared.CheckStep.TheVariants.{Over, Going}
-use Rattle.log_check.specs.declared.Pace.{Pace}
-use Rattle.log_check.specs.declared.Met.{Met}
-use Rattle.log_check.specs.declared.Met.TheVariants.{Other, Sound}
+use Rattle.log_check.specs.Check.{CheckStep}
+use Rattle.log_check.specs.Check.{Over, Going}
+use Rattle.log_check.specs.declared.pace.Pace.{Pace}
+use Rattle.log_check.specs.declared.MetRecord.{MetRecord}
+use Rattle.log_check.specs.Refusal.{fault, Checked}
 use Rattle.log_check.specs.Check.{take_record, step_at}
-use Rattle.log_check.specs.Met.{plain_pace, raw_pace, Paced, plainly, rawly, kind_in, met_if, code_of, code_at}
-use Rattle.log_check.specs.Met.{is_message, met_by, met_at, Steady, ended_by, pace_of}
+use Rattle.log_check.specs.Met.{Met, met_record, plain_pace, raw_pace, kind_in, met_if, code_of, code_at}
+use Rattle.log_check.specs.Met.{is_message, met_by, met_at, Steady, ended_by}
+use Rattle.log_check.proofs.Paces.{Paced, plainly, rawly}
 use Rattle.log_check.proofs.Laws.{took, went, Left, left_step}
 use Rattle.log_check.proofs.Steps.{whole, take_timed, plain_message, plain_time, plain_fault}
 use Rattle.log_check.proofs.Steps.{raw_message_case, raw_time_case, raw_fault}
@@ -58,7 +52,7 @@ pub record Meets (s : List ℕ) (at : ℕ) (p : Pace) (last : Moment) (n : ℕ) 
 
 module _ (s : List ℕ) (at : ℕ) (p : Pace) (last : Moment) (n : ℕ) where
   -- the check is over there
-  meets_over : (c : Checked) → step_at s at (kind_in p last) last n ≡ Over c → Meets s at p last n Other
+  meets_over : (c : Checked) → step_at s at (kind_in p last) last n ≡ Over c → Meets s at p last n None
   meets_over c e = record {
     met = sym (ap (met_by (code_at s at)) e);
     steady = λ q k t m g. let z : Over c ≡ Going q k t m = sym e ∙ g in let w : ◌≡◌ {A = ℕ} 0 1 = cc in absurd (omega arith);
@@ -67,7 +61,7 @@ module _ (s : List ℕ) (at : ℕ) (p : Pace) (last : Moment) (n : ℕ) where
   -- a record at a moment t, in time
   meets_sound : (t : Moment) (past : ℕ) → ltb t.0 last.0 ≡ false
       → step_at s at (kind_in p last) last n ≡ take_record (kind_in p t) t past at last n
-      → Meets s at p last n (cond (leb most_records n) Other (Sound (code_at s at) t past))
+      → Meets s at p last n (cond (leb most_records n) None (met_record (code_at s at) t past))
   meets_sound t past l e = by (leb most_records n) refl
     where
       steady : Steady s at p last n
@@ -75,9 +69,9 @@ module _ (s : List ℕ) (at : ℕ) (p : Pace) (last : Moment) (n : ℕ) where
           let T = took (kind_in p t) t past at last n q k u m (sym e ∙ g) in
           sym T.is_kind_lem ∙ ap (kind_in p) T.is_time
 
-      by : (b : Bool) → leb most_records n ≡ b → Meets s at p last n (cond b Other (Sound (code_at s at) t past))
+      by : (b : Bool) → leb most_records n ≡ b → Meets s at p last n (cond b None (met_record (code_at s at) t past))
       by true y =
-          let v : take_record (kind_in p t) t past at last n ≡ Over (Refused TooManyRecords at) = rw (l, y) in
+          let v : take_record (kind_in p t) t past at last n ≡ Over (Err (fault TooManyRecords at)) = rw (l, y) in
           record { met = sym (ap (met_by (code_at s at)) (e ∙ v)); steady = steady }
       by false y =
           let v : take_record (kind_in p t) t past at last n ≡ Going past (kind_in p t) t (n + 1) = rw (l, y) in
@@ -101,7 +95,7 @@ module _ (s : List ℕ) (at : ℕ) (last : Moment) (n : ℕ) where
       by true x =
           let l = ltb-true t.0 last.0 x in
           rw (lt-leb last.0 t.0 l)
-          (meets_over s at plain_pace last n (Refused (NoMoment Falls) at) (step ∙ rw x))
+          (meets_over s at plain_pace last n (Err (fault (NoMoment Falls) at)) (step ∙ rw x))
       by false x =
           let l = ltb-false t.0 last.0 x in
           rw (le-leb last.0 t.0 l, le-leb (t.0 - last.0) 0xFFFF_FFFF (omega (arith, h)))
@@ -126,22 +120,22 @@ module _ (s : List ℕ) (at : ℕ) (last : Moment) (n o : ℕ) where
       (e : step_at s at (Raw from) last n
       ≡ take_timed (Raw (record { 0 = w })) past at last n (later_moment last (gap_of from (record { 0 = w })))) where
     refused : (x : Timed) (c : Checked) → later_moment last (gap_of from (record { 0 = w })) ≡ x
-        → take_timed (Raw (record { 0 = w })) past at last n x ≡ Over c → Meets s at pace last n Other
+        → take_timed (Raw (record { 0 = w })) past at last n x ≡ Over c → Meets s at pace last n None
     refused x c y v = meets_over s at pace last n c (e ∙ ap (take_timed (Raw (record { 0 = w })) past at last n) y ∙ v)
 
-    before : t.0 < last.0 → Meets s at pace last n Other
+    before : t.0 < last.0 → Meets s at pace last n None
     before l = by (leb half_range (gap_of from (record { 0 = w }))) refl
       where
         sum : range ≤ last.0 + gap_of from (record { 0 = w })
         sum = let g = gap_out o last.0 t.0 w h q l z in omega (arith, g)
 
-        by : (a : Bool) → leb half_range (gap_of from (record { 0 = w })) ≡ a → Meets s at pace last n Other
-        by true x = refused (timed.Refused Falls) _ (rw x) refl
-        by false x = refused (timed.Refused TooLate) _ (rw (x, le-leb _ _ sum)) refl
+        by : (a : Bool) → leb half_range (gap_of from (record { 0 = w })) ≡ a → Meets s at pace last n None
+        by true x = refused (Err Falls) _ (rw x) refl
+        by false x = refused (Err TooLate) _ (rw (x, le-leb _ _ sum)) refl
 
-    far : last.0 ≤ t.0 → half_range ≤ t.0 - last.0 → Meets s at pace last n Other
+    far : last.0 ≤ t.0 → half_range ≤ t.0 - last.0 → Meets s at pace last n None
     far l m =
-        refused (timed.Refused Falls) _
+        refused (Err Falls) _
         (rw (gap_in o last.0 t.0 w h q l, le-leb half_range (t.0 - last.0) m)) refl
 
     near : last.0 ≤ t.0 → t.0 - last.0 < half_range
@@ -151,7 +145,7 @@ module _ (s : List ℕ) (at : ℕ) (last : Moment) (n o : ℕ) where
         e ∙ ap (take_timed (Raw (record { 0 = w })) past at last n)
         (ap (later_moment last) (gap_in o last.0 t.0 w h q l)
         ∙ later_at last (t.0 - last.0) m (omega (arith, sum, h))
-        ∙ ap (λ (x : ℕ). timed.At (record { 0 = x })) sum)
+        ∙ ap (λ (x : ℕ). Ok (record { 0 = x })) sum)
         ∙ ap (λ (x : ℕ). take_record (Raw (record { 0 = x })) t past at last n) (sym q)
 
     raw_met : Meets s at pace last n (met_if pace last n (code_at s at) t past)
@@ -231,7 +225,7 @@ module _ (s : List ℕ) (at : ℕ) (last : Moment) (n : ℕ) where
       (raw_time_case s at last n (from s at last n o) (is_whole raw_time_tag time_size e l))
 
   pub other_meets : (p : Pace) → Paced p → at < length s → whole s at p.message message_size ≡ false
-      → whole s at (p.message + 1) time_size ≡ false → Meets s at p last n Other
+      → whole s at (p.message + 1) time_size ≡ false → Meets s at p last n None
   other_meets p plainly h v w = meets_over s at plain_pace last n _ (plain_fault s at last n h v w)
   other_meets p (rawly o) h v w =
       meets_over s at (raw_pace o) last n _ (raw_fault s at last n (from s at last n o) h v w)
@@ -239,10 +233,10 @@ module _ (s : List ℕ) (at : ℕ) (last : Moment) (n : ℕ) where
 -- what follows for the check from what was met
 module _ (s : List ℕ) (at : ℕ) (p : Pace) (last : Moment) (n : ℕ) where
   -- the check is over there
-  pub over_there : Other ≡ met_at s at p last n → (c : Checked) × (step_at s at (kind_in p last) last n ≡ Over c)
+  pub over_there : None ≡ met_at s at p last n → (c : Checked) × (step_at s at (kind_in p last) last n ≡ Over c)
   over_there e = by (step_at s at (kind_in p last) last n) refl e
     where
-      by : (x : CheckStep) → step_at s at (kind_in p last) last n ≡ x → Other ≡ met_by (code_at s at) x
+      by : (x : CheckStep) → step_at s at (kind_in p last) last n ≡ x → None ≡ met_by (code_at s at) x
           → (c : Checked) × (step_at s at (kind_in p last) last n ≡ Over c)
       by (Over c) q e = (c, q)
       by (Going past k t m) q e = let z : ◌≡◌ {A = ℕ} 0 1 = cc in absurd (omega arith)
@@ -252,33 +246,29 @@ module _ (s : List ℕ) (at : ℕ) (p : Pace) (last : Moment) (n : ℕ) where
     pub step : step_at s at (kind_in p last) last n ≡ Going past (kind_in p t) t (n + 1)
     pub is_code : code ≡ code_at s at
 
-  pub goes : Steady s at p last n → (code : ℕ) (t : Moment) (past : ℕ) → Sound code t past ≡ met_at s at p last n
+  pub goes : Steady s at p last n → (code : ℕ) (t : Moment) (past : ℕ) → met_record code t past ≡ met_at s at p last n
       → Goes code t past
   goes S code t past e = by (step_at s at (kind_in p last) last n) refl e
     where
-      by : (x : CheckStep) → step_at s at (kind_in p last) last n ≡ x → Sound code t past ≡ met_by (code_at s at) x
+      by : (x : CheckStep) → step_at s at (kind_in p last) last n ≡ x → met_record code t past ≡ met_by (code_at s at) x
           → Goes code t past
       by (Over c) q e = let z : ◌≡◌ {A = ℕ} 0 1 = cc in absurd (omega arith)
       by (Going a k u m) q e =
           let W = went s at (kind_in p last) last n a k u m q in
-          let x : a ≡ past = cc in
-          let y : u ≡ t = cc in
+          let z : ◌≡◌ {A = MetRecord} (record { code = code; time = t; past = past })
+          (record { code = code_at s at; time = u; past = a }) = cc in
+          let x : a ≡ past = sym (ap (λ (r : MetRecord). r.past) z) in
+          let y : u ≡ t = sym (ap (λ (r : MetRecord). r.time) z) in
           record {
             step = q ∙ ap (λ (v : Kind). Going a v u m) (S a k u m q) ∙ ap (Going a (kind_in p u) u) W.is_count
                 ∙ ap₂ (λ (b : ℕ) (v : Moment). Going b (kind_in p v) v (n + 1)) x y;
-            is_code = cc;
+            is_code = ap (λ (r : MetRecord). r.code) z;
           }
 
   -- the end of what is left of the check
-  pub ended_left : {x : Checked} → Left x s at (kind_in p last) last n → Other ≡ met_at s at p last n → (k : Kind)
+  pub ended_left : {x : Checked} → Left x s at (kind_in p last) last n → None ≡ met_at s at p last n → (k : Kind)
       → k ≡ kind_in p last → ended_by n (step_at s at k last n) ≡ x
   ended_left l e k q =
       let o = over_there e in
       ap (λ (j : Kind). ended_by n (step_at s at j last n)) q ∙ ap (ended_by n) o.1
       ∙ left_step s at (kind_in p last) last n l (Over o.0) o.1
-
-pub paced : (first : Next) → Paced (pace_of first)
-paced next.End = plainly
-paced (next.Refused f) = plainly
-paced (next.Handed e past) = plainly
-paced (next.Raw e past) = rawly (stamp_of e).0

@@ -1,5 +1,5 @@
 -- The records before the first fault, one by one; in a log without a fault they are all. Assumes nothing.
-use Rattle.std.proofs.Common.{◌≡◌, ℕ, zero, suc, ◌+◌, Bool, true, false, cond, ltb, leb, List, length, sym, refl, ap, ◌∙◌, subst, arith}
+use Rattle.std.proofs.Common.{◌≡◌, ℕ, zero, suc, ◌+◌, Bool, true, false, cond, ltb, leb, List, Some, None, Ok, Err, length, sym, refl, ap, ◌∙◌, subst, arith}
 use mathlib.Core.Bool.{So}
 use Rattle.model.specs.declared.Moment.{Moment}
 use Rattle.model.specs.declared.Record.{Record}
@@ -11,14 +11,11 @@ use Rattle.log_reader.specs.Next.{next_at}
 use Rattle.log_clock.specs.declared.Kind.{Kind}
 use Rattle.log_clock.specs.declared.Kind.TheVariants.{Unset}
 use Rattle.log_clock.specs.declared.MomentRefusal.TheVariants.{Falls}
-use Rattle.log_clock.specs.declared.Dated.{Dated}
-use Rattle.log_clock.specs.declared.Dated.TheVariants as dated
-use Rattle.log_clock.specs.Dated.{dated_at}
+use Rattle.log_clock.specs.Dated.{DatedRead, dated_at}
 use Rattle.log_clock.specs.Records.{on_record, records_from, records_in}
 use Rattle.log_check.specs.declared.LogRefusal.TheVariants.{NoMoment, TooManyRecords}
-use Rattle.log_check.specs.declared.Checked.{Checked}
-use Rattle.log_check.specs.declared.Checked.TheVariants.{Refused}
-use Rattle.log_check.specs.declared.CheckStep.TheVariants.{Over, Going}
+use Rattle.log_check.specs.Check.{Over, Going}
+use Rattle.log_check.specs.Refusal.{fault, Checked}
 use Rattle.log_check.specs.Check.{take_record, step_by, step_at, continue_by, check_from, check_log}
 use Rattle.log_check.specs.Met.{pace_of, kind_in}
 use Rattle.log_check.specs.Sound.{on_taken, on_sound, sound_from, sound_records}
@@ -31,11 +28,10 @@ module _ (s : List ℕ) (at : ℕ) (k : Kind) (last : Moment) (n : ℕ) (es : Sn
   sound_over zero c q = refl
   sound_over (suc f) c q = by (dated_at s at k last) q
     where
-      by : (d : Dated) → step_by at last n d ≡ Over c → on_sound (sound_from f s) es at last n d ≡ es
-      by dated.End q = refl
-      by (dated.NoRecord g) q = refl
-      by (dated.NoMoment g) q = refl
-      by (dated.At e j p) q = ap (on_taken (λ p j t m. sound_from f s p j t m (es ▸ e)) es) q
+      by : (d : DatedRead) → step_by at last n d ≡ Over c → on_sound (sound_from f s) es at last n d ≡ es
+      by (Ok None) q = refl
+      by (Err g) q = refl
+      by (Ok (Some d)) q = ap (on_taken (λ p j t m. sound_from f s p j t m (es ▸ d.item)) es) q
 
   -- where it goes on the record is taken
   pub sound_going : (f p : ℕ) (j : Kind) (t : Moment) (m : ℕ) → step_at s at k last n ≡ Going p j t m
@@ -56,25 +52,24 @@ sound_fine zero s at k last n es h = refl
 sound_fine (suc f) s at k last n es h =
     by (dated_at s at k last) h (λ p j t m ds l. sound_fine f s p j t m ds l)
   where
-    by : (d : Dated) → So (is_fine (continue_by (check_from (suc f) s) (step_by at last n d)))
+    by : (d : DatedRead) → So (is_fine (continue_by (check_from (suc f) s) (step_by at last n d)))
         → ((p : ℕ) (j : Kind) (t : Moment) (m : ℕ) (ds : Snoc Record) → So (is_fine (check_from (suc f) s p j t m))
         → sound_from f s p j t m ds ≡ records_from f s p j t ds)
         → on_sound (sound_from f s) es at last n d
         ≡ on_record (λ e j p. records_from f s p j (time_of e) (es ▸ e)) d es
-    by dated.End h i = refl
-    by (dated.NoRecord g) h i = refl
-    by (dated.NoMoment g) h i = refl
-    by (dated.At e j p) h i = tests (ltb (time_of e).0 last.0) (leb most_records n) h
+    by (Ok None) h i = refl
+    by (Err g) h i = clash h refl
+    by (Ok (Some d)) h i = tests d.item d.kind d.past (ltb (time_of d.item).0 last.0) (leb most_records n) h
       where
-        tests : (a b : Bool) → So (is_fine (continue_by (check_from (suc f) s)
-            (cond a (Over (Refused (NoMoment Falls) at)) (cond b (Over (Refused TooManyRecords at))
+        tests : (e : Record) (j : Kind) (p : ℕ) (a b : Bool) → So (is_fine (continue_by (check_from (suc f) s)
+            (cond a (Over (Err (fault (NoMoment Falls) at))) (cond b (Over (Err (fault TooManyRecords at)))
             (Going p j (time_of e) (n + 1))))))
             → on_taken (λ q i t m. sound_from f s q i t m (es ▸ e)) es
-            (cond a (Over (Refused (NoMoment Falls) at)) (cond b (Over (Refused TooManyRecords at))
+            (cond a (Over (Err (fault (NoMoment Falls) at))) (cond b (Over (Err (fault TooManyRecords at)))
             (Going p j (time_of e) (n + 1)))) ≡ records_from f s p j (time_of e) (es ▸ e)
-        tests true b h = clash h refl
-        tests false true h = clash h refl
-        tests false false h = i p j (time_of e) (n + 1) (es ▸ e) h
+        tests e j p true b h = clash h refl
+        tests e j p false true h = clash h refl
+        tests e j p false false h = i p j (time_of e) (n + 1) (es ▸ e) h
 
 pub all_sound : (s : List ℕ) → So (is_fine (check_log s)) → sound_records s ≡ records_in s
 unfolding sound_records records_in check_log

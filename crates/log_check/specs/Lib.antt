@@ -1,4 +1,5 @@
 pub mod Refusal
 pub mod Check
 pub mod Sound
+pub mod Paced
 pub mod Met

@@ -1,41 +1,36 @@
 -- A record as it is met from its bytes in a log of one kind, for the functions that compute it.
-use Rattle.std.specs.Prelude.{◌≡◌, ℕ, ◌+◌, ◌-◌, ◌*◌, ◌/◌, ◌%◌, Bool, cond, ◌&&◌, ◌||◌, List, ◌==◌, nat_le, slice_index}
+use Rattle.std.specs.Prelude.{◌≡◌, ℕ, ◌+◌, ◌-◌, ◌*◌, ◌/◌, ◌%◌, Bool, cond, ◌&&◌, ◌||◌, List, ◌==◌, nat_le, slice_index, Option, Some, None, Ok, Err}
+use mathlib.Core.Path.{refl}
 use Rattle.wire.specs.Bytes.{word16}
 use Rattle.model.specs.declared.Moment.{Moment}
 use Rattle.model.specs.Answers.{most_records}
 use Rattle.model.specs.Monitor.{stamp_of}
-use Rattle.log_reader.specs.declared.Next.{Next}
+use Rattle.log_reader.specs.Record.{RecordRead}
 use Rattle.log_reader.specs.declared.Next.TheVariants as next
 use Rattle.log_reader.specs.Record.{message_tag, raw_message_tag}
 use Rattle.log_clock.specs.declared.Kind.{Kind}
 use Rattle.log_clock.specs.declared.Kind.TheVariants.{Plain, Raw}
 use Rattle.log_clock.specs.Clock.{range}
-use Rattle.log_check.specs.declared.Checked.{Checked}
-use Rattle.log_check.specs.declared.Checked.TheVariants.{Fine}
-use Rattle.log_check.specs.declared.CheckStep.{CheckStep}
-use Rattle.log_check.specs.declared.CheckStep.TheVariants.{Over, Going}
-use Rattle.log_check.specs.declared.Pace.{Pace}
-use Rattle.log_check.specs.declared.Met.{Met}
-use Rattle.log_check.specs.declared.Met.TheVariants.{Other, Sound}
+use Rattle.log_check.specs.Check.{CheckStep}
+use Rattle.log_check.specs.Check.{Over, Going}
+use Rattle.log_check.specs.declared.pace.Pace.{Pace}
+use Rattle.log_check.specs.declared.MetRecord.{MetRecord}
+use Rattle.log_check.specs.Refusal.{Checked}
 use Rattle.log_check.specs.Check.{step_at}
 
 -- the pace of a plain log, and of a raw one whose first stamp is o
 abbrev pub plain_pace : Pace
-plain_pace = record { message = message_tag; origin = 0; most = 0xFFFF_FFFF }
+plain_pace = record { message = message_tag; origin = 0; most = 0xFFFF_FFFF; paced = refl }
 
 abbrev pub raw_pace : ℕ → Pace
-raw_pace o = record { message = raw_message_tag; origin = o; most = 0x7FFF_FFFF }
+raw_pace o = record { message = raw_message_tag; origin = o; most = 0x7FFF_FFFF; paced = refl }
 
 -- the first record decides
-abbrev pub pace_of : Next → Pace
-pace_of next.End = plain_pace
-pace_of (next.Refused f) = plain_pace
-pace_of (next.Handed e past) = plain_pace
-pace_of (next.Raw e past) = raw_pace (stamp_of e).0
-
-pub data Paced : Pace → Type 0 where
-  plainly : Paced plain_pace
-  rawly : (o : ℕ) → Paced (raw_pace o)
+abbrev pub pace_of : RecordRead → Pace
+pace_of (Ok next.End) = plain_pace
+pace_of (Err f) = plain_pace
+pace_of (Ok (next.Handed e past)) = plain_pace
+pace_of (Ok (next.Raw e past)) = raw_pace (stamp_of e).0
 
 -- the kind of the log at a moment
 abbrev pub kind_in : Pace → Moment → Kind
@@ -45,8 +40,15 @@ kind_in p last = cond (p.message == raw_message_tag) (Raw (record { 0 = (last.0 
 abbrev pub in_time : Pace → Moment → Moment → Bool
 in_time p last t = nat_le last.0 t.0 && nat_le (t.0 - last.0) p.most
 
+-- a record without a fault, or none
+abbrev pub Met : Type 0
+Met = Option MetRecord
+
+abbrev pub met_record : ℕ → Moment → ℕ → Met
+met_record code t past = Some (record { code = code; time = t; past = past })
+
 abbrev pub met_if : Pace → Moment → ℕ → ℕ → Moment → ℕ → Met
-met_if p last n code t past = cond (in_time p last t) (cond (nat_le most_records n) Other (Sound code t past)) Other
+met_if p last n code t past = cond (in_time p last t) (cond (nat_le most_records n) None (met_record code t past)) None
 
 -- the message's code, by the four bytes of its lines and label: the lower half above the upper one
 abbrev pub code_of : ℕ → ℕ
@@ -61,8 +63,8 @@ code_at s at = cond (is_message s at) (word16 s (at + 3) * 65536 + word16 s (at 
 
 -- what the check says of the record, without the fault
 abbrev pub met_by : ℕ → CheckStep → Met
-met_by code (Over c) = Other
-met_by code (Going past k t n) = Sound code t past
+met_by code (Over c) = None
+met_by code (Going past k t n) = met_record code t past
 
 abbrev pub met_at : List ℕ → ℕ → Pace → Moment → ℕ → Met
 met_at s at p last n = met_by (code_at s at) (step_at s at (kind_in p last) last n)
@@ -75,4 +77,4 @@ Steady s at p last n = (q : ℕ) (k : Kind) (t : Moment) (m : ℕ)
 -- how the check ends at a record that it does not take
 abbrev pub ended_by : ℕ → CheckStep → Checked
 ended_by n (Over c) = c
-ended_by n (Going past k t m) = Fine n
+ended_by n (Going past k t m) = Ok n

@@ -3,16 +3,20 @@
 #![tactic(auto)]
 
 ghost use Rattle.std.specs.Prelude.{◌≡◌, ◌+◌, ◌%◌, ◌<◌, length};
+ghost use Rattle.model.specs.Monitor.{time_of};
 ghost use Rattle.log_reader.specs.Next.{next_at};
 ghost use Rattle.log_clock.specs.Clock.{range};
-ghost use Rattle.log_check.specs.Refusal.{log_refusal_number};
-ghost use Rattle.log_check.specs.Check.{take_record, step_by, step_at, check_from, check_log};
-ghost use Rattle.log_check.specs.Met.{plain_pace, raw_pace, pace_of, Paced, kind_in, in_time, met_if, met_at};
+ghost use Rattle.log_check.specs.Refusal.{judge_refusal_offset};
+ghost use Rattle.log_check.specs.Check.{take_record, step_at, check_from, check_log};
+ghost use Rattle.log_check.specs.Met.{plain_pace, raw_pace, pace_of, kind_in, in_time, met_if, met_at};
 ghost use Rattle.log_check.specs.Met.{Steady, code_of, ended_by};
 
-use log_clock::{Dated, Kind, MomentRefusal};
+pub mod pace;
+
+use log_clock::{Dated, Kind, MomentRefusal, Undated};
 use log_reader::{MESSAGE_SIZE, MESSAGE_TAG, Next, RAW_MESSAGE_TAG, RecordRefusal, TIME_SIZE};
-use model::{MOST_RECORDS, Moment, Stamp, TOO_MANY_RECORDS};
+use model::{MOST_RECORDS, Moment, NOT_A_CHART, Stamp, TOO_MANY_RECORDS};
+pub use pace::Pace;
 
 // Why a log is refused.
 #[derive(Clone, Copy)]
@@ -22,82 +26,121 @@ pub enum LogRefusal {
     TooManyRecords,
 }
 
-pub fn refusal_number(k: LogRefusal) -> u8
-    ensures { result ≡ log_refusal_number k }
-{
-    match k {
-        LogRefusal::NoRecord(why) => log_reader::number(why),
-        LogRefusal::NoMoment(why) => log_clock::number(why),
-        LogRefusal::TooManyRecords => TOO_MANY_RECORDS,
+impl From<Undated> for LogRefusal {
+    ghost use Rattle.log_check.specs.Refusal.{refusal_of};
+
+    ghost from_gives = { λ undated why. why ≡ refusal_of undated };
+
+    fn from(undated: Undated) -> LogRefusal {
+        match undated {
+            Undated::NoRecord(why) => LogRefusal::NoRecord(why),
+            Undated::NoMoment(why) => LogRefusal::NoMoment(why),
+        }
     }
 }
 
-// The number of records, or a refusal with the offset of its record.
-#[derive(Clone, Copy)]
-pub enum Checked {
-    Fine(u32),
-    Refused(LogRefusal, usize),
+impl From<LogRefusal> for u8 {
+    ghost use Rattle.log_check.specs.Refusal.{log_refusal_number};
+
+    ghost from_gives = { λ why n. n ≡ log_refusal_number why };
+
+    fn from(why: LogRefusal) -> u8 {
+        match why {
+            LogRefusal::NoRecord(why) => u8::from(why),
+            LogRefusal::NoMoment(why) => u8::from(why),
+            LogRefusal::TooManyRecords => TOO_MANY_RECORDS,
+        }
+    }
 }
 
-// One record checked: the check is over, or it goes on at an offset, with the log's kind, the record's moment and the
-// count so far.
+// The fault of a log: why it is refused, and the offset of the record.
 #[derive(Clone, Copy)]
-pub enum CheckStep {
-    Over(Checked),
-    Going(usize, Kind, Moment, u32),
+pub struct LogFault {
+    pub why: LogRefusal,
+    pub at: usize,
 }
 
-// J3: 22 of a plain record, and 23, of a record at its moment.
-fn take_record(
-    kind: Kind,
-    time: Moment,
-    past: usize,
-    at: usize,
-    last: Moment,
-    records: u32,
-) -> CheckStep
-    ensures { result ≡ take_record kind time past at last records }
+// Why a log is not judged: the chart value is none, or the log has a fault.
+#[derive(Clone, Copy)]
+pub enum JudgeRefusal {
+    NotAChart,
+    Log(LogFault),
+}
+
+impl From<LogFault> for JudgeRefusal {
+    ghost use Rattle.log_check.specs.declared.JudgeRefusal.TheVariants.{Log};
+
+    ghost from_gives = { λ fault refusal. refusal ≡ Log fault };
+
+    fn from(fault: LogFault) -> JudgeRefusal {
+        JudgeRefusal::Log(fault)
+    }
+}
+
+impl From<JudgeRefusal> for u8 {
+    ghost use Rattle.log_check.specs.Refusal.{judge_refusal_number};
+
+    ghost from_gives = { λ refusal n. n ≡ judge_refusal_number refusal };
+
+    fn from(refusal: JudgeRefusal) -> u8 {
+        match refusal {
+            JudgeRefusal::NotAChart => NOT_A_CHART,
+            JudgeRefusal::Log(fault) => u8::from(fault.why),
+        }
+    }
+}
+
+impl JudgeRefusal {
+    // The offset of the fault; 0 where there is no chart.
+    pub fn offset(self) -> usize
+        ensures { result ≡ judge_refusal_offset self }
+    {
+        match self {
+            JudgeRefusal::NotAChart => 0,
+            JudgeRefusal::Log(fault) => fault.at,
+        }
+    }
+}
+
+// J3: 22 of a plain record, and 23, of a record at its moment; with none the count stays.
+fn take_record(d: Dated, at: usize, last: Moment, records: u32) -> Result<u32, LogFault>
+    ensures { result ≡ ended_by records
+        (take_record d.kind (time_of d.item) d.past at last records) }
 {
-    if time.0 < last.0 {
-        return CheckStep::Over(Checked::Refused(LogRefusal::NoMoment(MomentRefusal::Falls), at));
+    if model::time_of(d.item).0 < last.0 {
+        return Err(LogFault {
+            why: LogRefusal::NoMoment(MomentRefusal::Falls),
+            at,
+        });
     }
     if MOST_RECORDS <= records {
-        return CheckStep::Over(Checked::Refused(LogRefusal::TooManyRecords, at));
+        return Err(LogFault {
+            why: LogRefusal::TooManyRecords,
+            at,
+        });
     }
-    CheckStep::Going(past, kind, time, records + 1)
-}
-
-// What stands at an offset, checked.
-fn step_by(at: usize, last: Moment, records: u32, d: Dated) -> CheckStep
-    ensures { result ≡ step_by at last records d }
-{
-    match d {
-        Dated::End => CheckStep::Over(Checked::Fine(records)),
-        Dated::NoRecord(f) => CheckStep::Over(Checked::Refused(LogRefusal::NoRecord(f), at)),
-        Dated::NoMoment(f) => CheckStep::Over(Checked::Refused(LogRefusal::NoMoment(f), at)),
-        Dated::At(e, kind, past) => take_record(kind, model::time_of(e), past, at, last, records),
-    }
+    Ok(records)
 }
 
 // Where the check ends: with the log, or with the fault of the record there.
 #[tactic(auto, unfolding(crate::specs::Check::step_at))]
-pub fn ended_at(log: &[u8], at: usize, kind: Kind, last: Moment, records: u32) -> Checked
+pub fn ended_at(
+    log: &[u8],
+    at: usize,
+    kind: Kind,
+    last: Moment,
+    records: u32,
+) -> Result<u32, LogFault>
     ensures { result ≡ ended_by records (step_at log.now at kind last records) }
 {
-    let step = step_by(at, last, records, log_clock::record_at(log, at, kind, last));
-    match step {
-        CheckStep::Over(checked) => checked,
-        CheckStep::Going(_, _, _, _) => Checked::Fine(records),
+    match log_clock::record_at(log, at, kind, last) {
+        Ok(None) => Ok(records),
+        Ok(Some(d)) => take_record(d, at, last, records),
+        Err(undated) => Err(LogFault {
+            why: LogRefusal::from(undated),
+            at,
+        }),
     }
-}
-
-// What all records of a log have in common: the byte of its messages, which for its times is one more, the time or
-// stamp at which it counts moment 0, and the most ticks from a record to the next.
-#[derive(Clone, Copy)]
-pub struct Pace {
-    pub message: u8,
-    pub origin: u32,
-    pub most: u64,
 }
 
 // The most ticks of a plain log, whose times only have 32 bits, and of a raw one (J11).
@@ -127,14 +170,12 @@ pub fn raw_pace(origin: u32) -> Pace
 }
 
 // The log's first record decides.
-pub fn pace_of(first: Next) -> Pace
+pub fn pace_of(first: Result<Next, RecordRefusal>) -> Pace
     ensures { result ≡ pace_of first }
 {
     match first {
-        Next::End => plain_pace(),
-        Next::Refused(_) => plain_pace(),
-        Next::Handed(_, _) => plain_pace(),
-        Next::Raw(e, _) => raw_pace(model::stamp_of(e).0),
+        Ok(Next::Raw(e, _)) => raw_pace(model::stamp_of(e).0),
+        _ => plain_pace(),
     }
 }
 
@@ -157,32 +198,42 @@ fn moment_of(word: u32, origin: u32) -> Moment
     Moment(std::num::wrapping_sub_u32(word, origin))
 }
 
-// A record met at an offset: its message's code, its moment and the offset just after it; or anything else.
+// A record that has no fault: its message's code, its moment and the offset just after it.
 #[derive(Clone, Copy)]
-pub enum Met {
-    Other,
-    Sound(u64, Moment, usize),
+pub struct MetRecord {
+    pub code: u64,
+    pub time: Moment,
+    pub past: usize,
 }
 
 // Whether a record may come at a moment after the last. One that comes before is a wrapped difference away, and that is
 // more ticks than any pace has.
 fn in_time(pace: Pace, last: Moment, t: Moment) -> bool
-    requires { Paced pace }
     ensures { result ≡ in_time pace last t }
 {
-    std::num::wrapping_sub_u64(wire::wide64(t.0), wire::wide64(last.0)) <= pace.most
+    std::num::wrapping_sub_u64(u64::from(t.0), u64::from(last.0)) <= pace.most
 }
 
-fn met_if(pace: Pace, last: Moment, records: u32, code: u64, t: Moment, past: usize) -> Met
-    requires { Paced pace }
+fn met_if(
+    pace: Pace,
+    last: Moment,
+    records: u32,
+    code: u64,
+    t: Moment,
+    past: usize,
+) -> Option<MetRecord>
     ensures { result ≡ met_if pace last records code t past }
 {
     if in_time(pace, last, t) {
         if records < MOST_RECORDS {
-            return Met::Sound(code, t, past);
+            return Some(MetRecord {
+                code,
+                time: t,
+                past,
+            });
         }
     }
-    Met::Other
+    None
 }
 
 // In a message's code the label stands above the lines, in a record's bytes below them.
@@ -192,15 +243,14 @@ const HALF: u32 = 0x1_0000;
 fn code_of(parts: u32) -> u64
     ensures { result ≡ code_of parts }
 {
-    wire::wide64(parts % HALF * HALF + parts / HALF) + 1
+    u64::from(parts % HALF * HALF + parts / HALF) + 1
 }
 
 // The record at an offset, after so many records, the last of them at the moment `last`. It is met from its bytes:
 // computed from the record's value, its code would be stored and loaded in pieces, which costs more than all else that
 // is done for a record.
-pub fn met_at(log: &[u8], at: usize, pace: Pace, last: Moment, records: u32) -> Met
-    requires at_in_bounds { at < length log.now }
-    requires paced { Paced pace }
+pub fn met_at(log: &[u8], at: usize, pace: Pace, last: Moment, records: u32) -> Option<MetRecord>
+    requires { at < length log.now }
     ensures met { result ≡ met_at log.now at pace last records }
     ensures steady { Steady log.now at pace last records }
 {
@@ -211,7 +261,7 @@ pub fn met_at(log: &[u8], at: usize, pace: Pace, last: Moment, records: u32) -> 
             let t = moment_of(wire::word32_in(log, at + 5), pace.origin);
             return met_if(pace, last, records, code, t, at + MESSAGE_SIZE);
         }
-        return Met::Other;
+        return None;
     }
     if tag == pace.message + 1 {
         if at + TIME_SIZE <= log.len() {
@@ -219,35 +269,36 @@ pub fn met_at(log: &[u8], at: usize, pace: Pace, last: Moment, records: u32) -> 
             return met_if(pace, last, records, 0, t, at + TIME_SIZE);
         }
     }
-    Met::Other
+    None
 }
 
 // The check from an offset on, after so many records, the last of them at the moment `time`.
-fn check_from(log: &[u8], pace: Pace, from: usize, time: Moment, count: u32) -> Checked
-    requires { Paced pace }
+fn check_from(
+    log: &[u8],
+    pace: Pace,
+    from: usize,
+    time: Moment,
+    count: u32,
+) -> Result<u32, LogFault>
     ensures { result ≡ check_from (length log.now + 1) log.now from (kind_in pace time) time count }
 {
     let mut at = from;
     let mut last = time;
     let mut records = count;
+    // A loop by hand: it moves by each record's length.
     while at < log.len() {
-        let met = met_at(log, at, pace, last, records);
-        match met {
-            Met::Other => {
-                return ended_at(log, at, kind_in(pace, last), last, records);
-            }
-            Met::Sound(_, t, past) => {
-                at = past;
-                last = t;
-                records += 1;
-            }
-        }
+        let Some(met) = met_at(log, at, pace, last, records) else {
+            return ended_at(log, at, kind_in(pace, last), last, records);
+        };
+        at = met.past;
+        last = met.time;
+        records += 1;
     }
-    Checked::Fine(records)
+    Ok(records)
 }
 
 // The check of what is left of a log, of which the first record decides the kind.
-pub fn check_rest(log: &[u8], at: usize, last: Moment, records: u32) -> Checked
+pub fn check_rest(log: &[u8], at: usize, last: Moment, records: u32) -> Result<u32, LogFault>
     ensures rest { result ≡ check_from (length log.now + 1) log.now at
         (kind_in (pace_of (next_at log.now 0)) last) last records }
     ensures unchanged { log.exit.now ≡ log.entry.now }
@@ -262,7 +313,7 @@ pub fn check_rest(log: &[u8], at: usize, last: Moment, records: u32) -> Checked
 }
 
 // J2: the check of the whole log.
-pub fn check_log(log: &[u8]) -> Checked
+pub fn check_log(log: &[u8]) -> Result<u32, LogFault>
     ensures check { result ≡ check_log log.now }
     ensures unchanged { log.exit.now ≡ log.entry.now }
 {

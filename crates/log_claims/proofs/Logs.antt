@@ -22,7 +22,7 @@ use Rattle.base.specs.Lists.{Snoc, ε, ◌▸◌, size}
 use Rattle.base.proofs.Bools.{split}
 use Rattle.log_reader.specs.declared.RecordRefusal.{RecordRefusal}
 use Rattle.log_reader.specs.declared.RecordRefusal.TheVariants.{UnknownByte}
-use Rattle.log_reader.specs.declared.Next.{Next}
+use Rattle.log_reader.specs.Record.{RecordRead}
 use Rattle.log_reader.specs.declared.Next.TheVariants as next
 use Rattle.log_reader.specs.Record as found
 use Rattle.log_reader.specs.Record.{record_refusal_number, message_tag, time_tag, raw_message_tag, raw_time_tag}
@@ -35,22 +35,19 @@ use Rattle.log_clock.specs.declared.Kind.{Kind}
 use Rattle.log_clock.specs.declared.Kind.TheVariants.{Unset, Plain, Raw}
 use Rattle.log_clock.specs.declared.MomentRefusal.{MomentRefusal}
 use Rattle.log_clock.specs.declared.MomentRefusal.TheVariants.{Mixed, Falls, TooLate}
-use Rattle.log_clock.specs.declared.Timed.TheVariants as timed
-use Rattle.log_clock.specs.declared.Dated.{Dated}
-use Rattle.log_clock.specs.declared.Dated.TheVariants as dated
+use Rattle.log_clock.specs.declared.Undated.TheVariants as undated
 use Rattle.log_clock.specs.Clock.{range, half_range, moment_refusal_number, gap_of, later_moment}
-use Rattle.log_clock.specs.Dated.{raw_by, dated_by, dated_at}
+use Rattle.log_clock.specs.Dated.{DatedRead, dated_record, raw_by, dated_by, dated_at}
 use Rattle.log_clock.specs.Records.{records_from, records_in}
 use Rattle.log_clock.specs.TrueTimes.{shown_at, Passing, begins, goes_on}
 use Rattle.log_clock.proofs.Records.{dated_next, dated_past, one_record}
 use Rattle.log_clock.proofs.Times.{time_at_lem, gap_leads, gap_below, gap_only, later_at, not_before}
 use Rattle.log_check.specs.declared.LogRefusal.{LogRefusal}
 use Rattle.log_check.specs.declared.LogRefusal.TheVariants.{NoRecord, NoMoment, TooManyRecords}
-use Rattle.log_check.specs.declared.Checked.{Checked}
-use Rattle.log_check.specs.declared.Checked.TheVariants as checked
-use Rattle.log_check.specs.declared.CheckStep.TheVariants.{Over, Going}
+use Rattle.std.specs.Prelude.{None, Ok, Err}
+use Rattle.log_check.specs.Check.{Over, Going}
 use Rattle.log_check.specs.Check.{step_by, step_at, continue_by as check_on, check_from, check_log}
-use Rattle.log_check.specs.Refusal.{log_refusal_number}
+use Rattle.log_check.specs.Refusal.{log_refusal_number, fault, Checked}
 use Rattle.log_check.proofs.Laws.{came_to, Left, left_first, left_step, left_going}
 use Rattle.base.specs.Just.{Just}
 use Rattle.log_claims.specs.Logs.{FindsAs, ends, unknown, message_cut, time_cut, raw_message_cut}
@@ -95,10 +92,10 @@ finds_as s at = elim (split (leb (length s) at)) [
 tag_inside : (s : List ℕ) (at tag : ℕ) → 0 < tag → get_or s at 0 ≡ tag → at < length s
 tag_inside s at tag h e = inside s at (λ z. omega (arith, z, e, h))
 
-finds_next : (s : List ℕ) (at : ℕ) (x : found.Said) → FindsAs s at x → (n : Next) × (next_at s at ≡ n) × (x ≡ said at n)
-finds_next s at x (ends h) = (next.End, at_end s at h, refl)
+finds_next : (s : List ℕ) (at : ℕ) (x : found.Said) → FindsAs s at x → (n : RecordRead) × (next_at s at ≡ n) × (x ≡ said at n)
+finds_next s at x (ends h) = ((Ok next.End), at_end s at h, refl)
 finds_next s at x (unknown h a b d u) =
-    (next.Refused UnknownByte, rw (lt-leb _ _ h, ne_eqb _ _ a, ne_eqb _ _ b, ne_eqb _ _ d, ne_eqb _ _ u), refl)
+    (Err UnknownByte, rw (lt-leb _ _ h, ne_eqb _ _ a, ne_eqb _ _ b, ne_eqb _ _ d, ne_eqb _ _ u), refl)
 finds_next s at x (message_cut a l) =
     (_, message_read s at (tag_inside s at _ (omega arith) a) a ∙ is_cut s at message_size _ l, refl)
 finds_next s at x (raw_message_cut a l) =
@@ -116,35 +113,35 @@ finds_next s at x (time a l) =
 finds_next s at x (raw_time_case a l) =
     (_, raw_time_read s at (tag_inside s at _ (omega arith) a) a ∙ is_whole s at time_size _ l, refl)
 
-pub finds_just : (s : List ℕ) (at : ℕ) (n : Next) → n ≡ next_at s at → Just (FindsAs s at) (said at n)
+pub finds_just : (s : List ℕ) (at : ℕ) (n : RecordRead) → n ≡ next_at s at → Just (FindsAs s at) (said at n)
 finds_just s at n e = record {
-  holds = subst (λ (x : Next). FindsAs s at (said at x)) (sym e) (finds_as s at);
+  holds = subst (λ (x : RecordRead). FindsAs s at (said at x)) (sym e) (finds_as s at);
   only = λ x F. let N = finds_next s at x F in N.2 ∙ ap (said at) (sym N.1 ∙ sym e);
 }
 
-finds_of : (s : List ℕ) (at : ℕ) (n : Next) → next_at s at ≡ n → FindsAs s at (said at n)
-finds_of s at n q = subst (λ (x : Next). FindsAs s at (said at x)) q (finds_as s at)
+finds_of : (s : List ℕ) (at : ℕ) (n : RecordRead) → next_at s at ≡ n → FindsAs s at (said at n)
+finds_of s at n q = subst (λ (x : RecordRead). FindsAs s at (said at x)) q (finds_as s at)
 
 -- what was found is what the definition of reading finds
-found_as : (s : List ℕ) (at : ℕ) (n : Next) → FindsAs s at (said at n) → next_at s at ≡ n
+found_as : (s : List ℕ) (at : ℕ) (n : RecordRead) → FindsAs s at (said at n) → next_at s at ≡ n
 found_as s at n F = let N = finds_next s at (said at n) F in N.1 ∙ sym (said_tells at n N.0 N.2)
 
 found_refused : (s : List ℕ) (at k : ℕ) → FindsAs s at (found.refused k at) → (f : RecordRefusal)
-    × (next_at s at ≡ next.Refused f) × (k ≡ record_refusal_number f)
+    × (next_at s at ≡ Err f) × (k ≡ record_refusal_number f)
 found_refused s at k F = by (next_at s at) refl (finds_next s at (found.refused k at) F)
   where
-    by : (x : Next) → next_at s at ≡ x → (n : Next) × (next_at s at ≡ n) × (found.refused k at ≡ said at n)
-        → (f : RecordRefusal) × (next_at s at ≡ next.Refused f) × (k ≡ record_refusal_number f)
-    by next.End q N =
+    by : (x : RecordRead) → next_at s at ≡ x → (n : RecordRead) × (next_at s at ≡ n) × (found.refused k at ≡ said at n)
+        → (f : RecordRefusal) × (next_at s at ≡ Err f) × (k ≡ record_refusal_number f)
+    by (Ok next.End) q N =
         absurd (let w : found.refused k at ≡ found.end at = N.2
         ∙ ap (said at) (sym N.1 ∙ q) in let z : ◌≡◌ {A = ℕ} 0 1 = cc in omega arith)
-    by (next.Refused f) q N =
+    by (Err f) q N =
         let w : found.refused k at ≡ found.refused (record_refusal_number f) at = N.2 ∙ ap (said at) (sym N.1 ∙ q) in
         (f, q, cc)
-    by (next.Handed e p) q N =
+    by (Ok (next.Handed e p)) q N =
         absurd (let w : found.refused k at ≡ found.handed e p = N.2
         ∙ ap (said at) (sym N.1 ∙ q) in let z : ◌≡◌ {A = ℕ} 0 1 = cc in omega arith)
-    by (next.Raw e p) q N =
+    by (Ok (next.Raw e p)) q N =
         absurd (let w : found.refused k at ≡ found.handed_raw e p = N.2
         ∙ ap (said at) (sym N.1 ∙ q) in let z : ◌≡◌ {A = ℕ} 0 1 = cc in omega arith)
 
@@ -158,19 +155,19 @@ FirstAtZero k last = k ≡ Unset → last ≡ 0
 -- a record that comes is what stands there with its moment, and does not fall
 module _ (s : List ℕ) (at last : ℕ) where
   pub record Dates (k : Kind) (e : Record) (kind : Kind) (past : ℕ) : Type 0 where
-    pub dated_there : dated_at s at k (moment last) ≡ dated.At e kind past
+    pub dated_there : dated_at s at k (moment last) ≡ dated_record e kind past
     pub later : last ≤ (time_of e).0
 
   pub comes_dated : (k : Kind) (e : Record) (kind : Kind) (past : ℕ) → FirstAtZero k last → ComesAs s at last k e kind past
       → Dates k e kind past
   comes_dated k e kind past z (first_plain e' past' F) = record {
-    dated_there = dated_next s at Unset (moment last) _ (found_as s at (next.Handed e past) F);
+    dated_there = dated_next s at Unset (moment last) _ (found_as s at (Ok (next.Handed e past)) F);
     later = omega (arith, z refl);
   }
   comes_dated k e kind past z (plain e' past' F l) =
-      record { dated_there = dated_next s at Plain (moment last) _ (found_as s at (next.Handed e past) F); later = l }
+      record { dated_there = dated_next s at Plain (moment last) _ (found_as s at (Ok (next.Handed e past)) F); later = l }
   comes_dated k e kind past z (first_raw r past' F) = record {
-    dated_there = dated_next s at Unset (moment last) _ (found_as s at (next.Raw r past) F);
+    dated_there = dated_next s at Unset (moment last) _ (found_as s at (Ok (next.Raw r past)) F);
     later = omega (arith, z refl);
   }
   comes_dated k e kind past z (raw from r past' F g t h l) =
@@ -178,7 +175,7 @@ module _ (s : List ℕ) (at last : ℕ) where
       let u = ap (λ (x : Moment). x.0) (time_at_lem r (moment (last + g))) in
       record {
         dated_there =
-            dated_next s at (Raw from) (moment last) _ (found_as s at (next.Raw r past) F)
+            dated_next s at (Raw from) (moment last) _ (found_as s at (Ok (next.Raw r past)) F)
             ∙ ap (λ (x : ℕ). raw_by r past (later_moment (moment last) x)) m
             ∙ ap (raw_by r past) (later_at (moment last) g h l);
         later = omega (arith, u);
@@ -186,19 +183,19 @@ module _ (s : List ℕ) (at last : ℕ) where
 
 -- what stands at an offset with its moment, by the cases of the claims
 module _ (s : List ℕ) (at last : ℕ) where
-  pub data Seen : Kind → Dated → Type 0 where
-    sees_end : {k : Kind} → FindsAs s at (found.end at) → Seen k dated.End
+  pub data Seen : Kind → DatedRead → Type 0 where
+    sees_end : {k : Kind} → FindsAs s at (found.end at) → Seen k (Ok None)
     sees_none : {k : Kind} (f : RecordRefusal) → FindsAs s at (found.refused (record_refusal_number f) at)
-        → Seen k (dated.NoRecord f)
+        → Seen k (Err (undated.NoRecord f))
     sees_fault : {k : Kind} (f : MomentRefusal) → ((es : Snoc Record) → FaultAt s es at last k (moment_refusal_number f))
-        → Seen k (dated.NoMoment f)
+        → Seen k (Err (undated.NoMoment f))
     sees_record : {k : Kind} (e : Record) (kind : Kind) (p : ℕ)
         → (last ≤ (time_of e).0 → ComesAs s at last k e kind p)
         → ((time_of e).0 < last → FirstAtZero k last → (es : Snoc Record) → FaultAt s es at last k time_falls)
-        → Seen k (dated.At e kind p)
+        → Seen k (dated_record e kind p)
 
   seen_plain : (e : Record) (p : ℕ) → FindsAs s at (found.handed e p) → (k : Kind)
-      → Seen k (dated_by k (moment last) (next.Handed e p))
+      → Seen k (dated_by k (moment last) (Ok (next.Handed e p)))
   seen_plain e p F Unset =
       sees_record e Plain p (λ l. first_plain e p F) (λ l z es. absurd (omega (arith, l, z refl)))
   seen_plain e p F Plain = sees_record e Plain p (λ l. plain e p F l) (λ l z es. falls e p F l)
@@ -206,8 +203,8 @@ module _ (s : List ℕ) (at last : ℕ) where
 
   seen_later : (from : Stamp) (e : RawRecord) (p : ℕ) → FindsAs s at (found.handed_raw e p) → (a b : Bool)
       → leb half_range (gap_of from (stamp_of e)) ≡ a → leb range (last + gap_of from (stamp_of e)) ≡ b
-      → Seen (Raw from) (raw_by e p (cond a (timed.Refused Falls)
-      (cond b (timed.Refused TooLate) (timed.At (moment (last + gap_of from (stamp_of e)))))))
+      → Seen (Raw from) (raw_by e p (cond a (Err Falls)
+      (cond b (Err TooLate) (Ok (moment (last + gap_of from (stamp_of e)))))))
   seen_later from e p F true b x y =
       sees_fault Falls (λ es. goes_back from e p F (gap_of from (stamp_of e)) (gap_leads from (stamp_of e))
       (leb-true _ _ x) (omega (arith, gap_below from (stamp_of e))))
@@ -224,7 +221,7 @@ module _ (s : List ℕ) (at last : ℕ) where
       (λ l z es. absurd (omega (arith, l, u)))
 
   seen_raw : (e : RawRecord) (p : ℕ) → FindsAs s at (found.handed_raw e p) → (k : Kind)
-      → Seen k (dated_by k (moment last) (next.Raw e p))
+      → Seen k (dated_by k (moment last) (Ok (next.Raw e p)))
   seen_raw e p F Unset =
       sees_record _ _ p (λ l. first_raw e p F) (λ l z es. absurd (omega (arith, l, z refl)))
   seen_raw e p F Plain = sees_fault Mixed (λ es. raw_in_plain e p F)
@@ -234,14 +231,14 @@ module _ (s : List ℕ) (at last : ℕ) where
   pub seen : (k : Kind) → Seen k (dated_at s at k (moment last))
   seen k = by (next_at s at) refl
     where
-      is : (x : Next) → next_at s at ≡ x → Seen k (dated_by k (moment last) x) → Seen k (dated_at s at k (moment last))
+      is : (x : RecordRead) → next_at s at ≡ x → Seen k (dated_by k (moment last) x) → Seen k (dated_at s at k (moment last))
       is x q S = subst (Seen k) (sym (dated_next s at k (moment last) x q)) S
 
-      by : (x : Next) → next_at s at ≡ x → Seen k (dated_at s at k (moment last))
-      by next.End q = is _ q (sees_end (finds_of s at _ q))
-      by (next.Refused f) q = is _ q (sees_none f (finds_of s at _ q))
-      by (next.Handed e p) q = is _ q (seen_plain e p (finds_of s at _ q) k)
-      by (next.Raw e p) q = is _ q (seen_raw e p (finds_of s at _ q) k)
+      by : (x : RecordRead) → next_at s at ≡ x → Seen k (dated_at s at k (moment last))
+      by (Ok next.End) q = is _ q (sees_end (finds_of s at _ q))
+      by (Err f) q = is _ q (sees_none f (finds_of s at _ q))
+      by (Ok (next.Handed e p)) q = is _ q (seen_plain e p (finds_of s at _ q) k)
+      by (Ok (next.Raw e p)) q = is _ q (seen_raw e p (finds_of s at _ q) k)
 
 -- where the records walked leave the check of the log, and the list of its records
 pub record Stands (s : List ℕ) (es : Snoc Record) (k : Kind) (at last : ℕ) : Type 0 where
@@ -260,11 +257,11 @@ comes_set (raw from e p F g t h l) z = let w : ◌≡◌ {A = ℕ} 0 1 = cc in o
 
 module _ (s : List ℕ) where
   pub took : (at : ℕ) (k : Kind) (last : Moment) (n : ℕ) (e : Record) (kind : Kind) (p : ℕ)
-      → dated_at s at k last ≡ dated.At e kind p → (a b : Bool)
+      → dated_at s at k last ≡ dated_record e kind p → (a b : Bool)
       → ltb (time_of e).0 last.0 ≡ a
       → leb most_records n ≡ b
-      → step_at s at k last n ≡ cond a (Over (checked.Refused (NoMoment Falls) at))
-      (cond b (Over (checked.Refused TooManyRecords at)) (Going p kind (time_of e) (n + 1)))
+      → step_at s at k last n ≡ cond a (Over (Err (fault (NoMoment Falls) at)))
+      (cond b (Over (Err (fault TooManyRecords at))) (Going p kind (time_of e) (n + 1)))
   took at k last n e kind p q a b x y = came_to s at k last n _ q ∙ rw (x, y)
 
   pub walked : {es : Snoc Record} {k : Kind} {at last : ℕ} → Walk s es k at last → Stands s es k at last
@@ -284,11 +281,11 @@ module _ (s : List ℕ) where
             (lt-leb _ _ n)));
         more = S.more - 1;
         room = omega (arith, l, S.room);
-        rest = sym (one_record s at S.more h k (moment last) es (dated.At e kind p) D.dated_there) ∙ S.rest;
+        rest = sym (one_record s at S.more h k (moment last) es (dated_record e kind p) D.dated_there) ∙ S.rest;
       }
 
-  pub ended : (at : ℕ) (k : Kind) (last : Moment) → FindsAs s at (found.end at) → dated_at s at k last ≡ dated.End
-  ended at k last F = dated_next s at k last _ (found_as s at next.End F)
+  pub ended : (at : ℕ) (k : Kind) (last : Moment) → FindsAs s at (found.end at) → dated_at s at k last ≡ (Ok None)
+  ended at k last F = dated_next s at k last _ (found_as s at (Ok next.End) F)
 
   -- the records of a log without a fault
   pub walk_records : {es : Snoc Record} {k : Kind} {at last : ℕ} → Walk s es k at last → FindsAs s at (found.end at)
@@ -299,18 +296,18 @@ module _ (s : List ℕ) where
       by : (n : ℕ) → (walked W).more ≡ n → records_from (walked W).more s at k (moment last) es ≡ es
       by zero q = ap (λ (j : ℕ). records_from j s at k (moment last) es) q
       by (suc n) q =
-          one_record s at (walked W).more (omega (arith, q)) k (moment last) es dated.End (ended at k (moment last) F)
+          one_record s at (walked W).more (omega (arith, q)) k (moment last) es (Ok None) (ended at k (moment last) F)
 
   pub walk_fine : {es : Snoc Record} {k : Kind} {at last : ℕ} → Walk s es k at last → FindsAs s at (found.end at)
-      → check_log s ≡ checked.Fine (size es)
+      → check_log s ≡ Ok (size es)
   walk_fine {es} {k} {at} {last} W F =
-      sym (left_step s at k (moment last) (size es) (walked W).left (Over (checked.Fine (size es)))
-      (came_to s at k (moment last) (size es) dated.End (ended at k (moment last) F)))
+      sym (left_step s at k (moment last) (size es) (walked W).left (Over (Ok (size es)))
+      (came_to s at k (moment last) (size es) (Ok None) (ended at k (moment last) F)))
 
   -- a fault is what the check ends with
   pub record Ends (es : Snoc Record) (k : Kind) (at last f : ℕ) : Type 0 where
     pub why : LogRefusal
-    pub ends_there : step_at s at k (moment last) (size es) ≡ Over (checked.Refused why at)
+    pub ends_there : step_at s at k (moment last) (size es) ≡ Over (Err (fault why at))
     pub told : f ≡ log_refusal_number why
 
   pub fault_ends : {es : Snoc Record} {at last : ℕ} (k : Kind) (f : ℕ) → FirstAtZero k last → FaultAt s es at last k f
@@ -326,21 +323,21 @@ module _ (s : List ℕ) where
     why = NoMoment Mixed;
     ends_there =
         came_to s at Plain (moment last) (size es) _
-        (dated_next s at Plain (moment last) _ (found_as s at (next.Raw e p) F));
+        (dated_next s at Plain (moment last) _ (found_as s at (Ok (next.Raw e p)) F));
     told = refl;
   }
   fault_ends {es} {at} {last} k f z (plain_in_raw from e p F) = record {
     why = NoMoment Mixed;
     ends_there =
         came_to s at (Raw from) (moment last) (size es) _
-        (dated_next s at (Raw from) (moment last) _ (found_as s at (next.Handed e p) F));
+        (dated_next s at (Raw from) (moment last) _ (found_as s at (Ok (next.Handed e p)) F));
     told = refl;
   }
   fault_ends {es} {at} {last} k f z (falls e p F l) = record {
     why = NoMoment Falls;
     ends_there =
         took at Plain (moment last) (size es) e Plain p
-        (dated_next s at Plain (moment last) _ (found_as s at (next.Handed e p) F)) true (leb most_records (size es))
+        (dated_next s at Plain (moment last) _ (found_as s at (Ok (next.Handed e p)) F)) true (leb most_records (size es))
         (lt-ltb _ _ l) refl;
     told = refl;
   }
@@ -349,8 +346,8 @@ module _ (s : List ℕ) where
       record {
         why = NoMoment Falls;
         ends_there =
-            came_to s at (Raw from) (moment last) (size es) (dated.NoMoment Falls)
-            (dated_next s at (Raw from) (moment last) _ (found_as s at (next.Raw e p) F)
+            came_to s at (Raw from) (moment last) (size es) (Err (undated.NoMoment Falls))
+            (dated_next s at (Raw from) (moment last) _ (found_as s at (Ok (next.Raw e p)) F)
             ∙ ap (λ (x : ℕ). raw_by e p (later_moment (moment last) x)) m
             ∙ rw (le-leb _ _ h));
         told = refl;
@@ -360,8 +357,8 @@ module _ (s : List ℕ) where
       record {
         why = NoMoment TooLate;
         ends_there =
-            came_to s at (Raw from) (moment last) (size es) (dated.NoMoment TooLate)
-            (dated_next s at (Raw from) (moment last) _ (found_as s at (next.Raw e p) F)
+            came_to s at (Raw from) (moment last) (size es) (Err (undated.NoMoment TooLate))
+            (dated_next s at (Raw from) (moment last) _ (found_as s at (Ok (next.Raw e p)) F)
             ∙ ap (λ (x : ℕ). raw_by e p (later_moment (moment last) x)) m
             ∙ rw (lt-leb _ _ h, le-leb _ _ r));
         told = refl;
@@ -378,9 +375,9 @@ module _ (s : List ℕ) where
 -- what checking a log comes to, by the records before it
 pub data Checks (s : List ℕ) : Checked → Type 0 where
   fine : {es : Snoc Record} {k : Kind} {at last : ℕ} → Walk s es k at last → FindsAs s at (found.end at)
-      → Checks s (checked.Fine (size es))
+      → Checks s (Ok (size es))
   bad : {es : Snoc Record} {k : Kind} {at last : ℕ} → Walk s es k at last → (f : LogRefusal)
-      → FaultAt s es at last k (log_refusal_number f) → Checks s (checked.Refused f at)
+      → FaultAt s es at last k (log_refusal_number f) → Checks s (Err (fault f at))
 
 module _ (s : List ℕ) where
   checks : (f : ℕ) (es : Snoc Record) (at : ℕ) (k : Kind) (last : Moment) → Walk s es k at last.0 → length s < at + f
@@ -390,7 +387,7 @@ module _ (s : List ℕ) where
   checks (suc f) es at k last W h =
       by (dated_at s at k last) refl (seen s at last.0 k) (λ ds p j t X l. checks f ds p j t X l)
     where
-      by : (d : Dated) → dated_at s at k last ≡ d → Seen s at last.0 k d
+      by : (d : DatedRead) → dated_at s at k last ≡ d → Seen s at last.0 k d
           → ((ds : Snoc Record) (q : ℕ) (j : Kind) (t : Moment) → Walk s ds j q t.0 → length s < q + f
           → Checks s (check_from f s q j t (size ds)))
           → Checks s (check_on (check_from f s) (step_by at last (size es) d))
@@ -402,8 +399,8 @@ module _ (s : List ℕ) where
         where
           tests : (a b : Bool) → ltb (time_of e).0 last.0 ≡ a → leb most_records (size es) ≡ b
               → Checks s (check_on (check_from f s)
-              (cond a (Over (checked.Refused (NoMoment Falls) at))
-              (cond b (Over (checked.Refused TooManyRecords at)) (Going p kind (time_of e) (size es + 1)))))
+              (cond a (Over (Err (fault (NoMoment Falls) at)))
+              (cond b (Over (Err (fault TooManyRecords at))) (Going p kind (time_of e) (size es + 1)))))
           tests true b x y = bad W (NoMoment Falls) (N (ltb-true _ _ x) (walked s W).first es)
           tests false true x y =
               bad W TooManyRecords (overflows k e kind p (C (ltb-false _ _ x)) (leb-true _ _ y))

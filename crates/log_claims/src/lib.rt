@@ -7,10 +7,10 @@ ghost use Rattle.base.specs.Just.{Just};
 ghost use Rattle.log_reader.specs.Record.{said as record_said};
 ghost use Rattle.log_claims.specs.Logs.{FindsAs};
 
-use log_reader::Next;
+use log_reader::{Next, RecordRefusal};
 
 // Reading one record: every byte string and offset.
-pub fn read_record(log: &[u8], offset: usize) -> Next
+pub fn read_record(log: &[u8], offset: usize) -> Result<Next, RecordRefusal>
     ensures demand { Just (FindsAs log.now offset) (record_said offset result) }
     ensures unchanged { log.exit.now ≡ log.entry.now }
 {

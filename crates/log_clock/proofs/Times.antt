@@ -1,5 +1,5 @@
 -- Raw stamps and true times: below half the range the gap is the true one, and so each moment is. Assumes nothing.
-use Rattle.std.proofs.Common.{◌≡◌, ℕ, ◌+◌, ◌-◌, ◌%◌, ◌<◌, ◌≤◌, Bool, true, false, cond, leb, sym, refl, ap, ◌∙◌, subst, ap₂, arith, leb-false}
+use Rattle.std.proofs.Common.{◌≡◌, ℕ, ◌+◌, ◌-◌, ◌%◌, ◌<◌, ◌≤◌, Bool, true, false, cond, leb, sym, refl, ap, ◌∙◌, subst, ap₂, arith, leb-false, Ok, Err}
 use borrow.Author.Tests.{lt-leb}
 use Rattle.model.specs.declared.Moment.{Moment}
 use Rattle.model.specs.declared.Stamp.{Stamp}
@@ -9,10 +9,8 @@ use Rattle.model.specs.Monitor.{time_of, at_moment}
 use Rattle.base.specs.Lists.{Snoc, ε, ◌▸◌, EachIn, each}
 use Rattle.log_clock.specs.declared.Kind.{Kind}
 use Rattle.log_clock.specs.declared.Kind.TheVariants.{Raw}
-use Rattle.log_clock.specs.declared.Timed.{Timed}
 use Rattle.log_clock.specs.declared.MomentRefusal.TheVariants.{Falls, TooLate}
-use Rattle.log_clock.specs.declared.Timed.TheVariants.{At, Refused}
-use Rattle.log_clock.specs.Clock.{range, half_range, gap_of, later_moment, raw_moment}
+use Rattle.log_clock.specs.Clock.{Timed, range, half_range, gap_of, later_moment, raw_moment}
 use Rattle.log_clock.specs.TrueTimes.{shown_at, Passing, begins, goes_on, kind_after, last_timed, moment_after}
 use Rattle.log_clock.specs.TrueTimes.{moments_of_stamps, since_first, TrueTimes}
 
@@ -37,39 +35,39 @@ gap_true a b l h = omega arith
 
 -- a gap below half the range, within the range from 0 on
 pub later_at : (last : Moment) (gap : ℕ) → gap < half_range → last.0 + gap < range
-    → later_moment last gap ≡ At (record { 0 = last.0 + gap })
+    → later_moment last gap ≡ Ok (record { 0 = last.0 + gap })
 later_at last gap h r = rw (lt-leb _ _ h, lt-leb _ _ r)
 
 -- the moment of a stamp, from that of the one before
 pub next_true : (first t u : ℕ) → first ≤ t → t ≤ u → u - t < half_range → u - first < range
-    → raw_moment (Raw (shown_at t)) (record { 0 = t - first }) (shown_at u) ≡ At (record { 0 = u - first })
+    → raw_moment (Raw (shown_at t)) (record { 0 = t - first }) (shown_at u) ≡ Ok (record { 0 = u - first })
 next_true first t u f l h r =
     let g : gap_of (shown_at t) (shown_at u) ≡ u - t = gap_true t u l h in
     let s : t - first + (u - t) ≡ u - first = omega arith in
     ap (later_moment (record { 0 = t - first })) g
     ∙ later_at (record { 0 = t - first }) (u - t) h (omega arith)
-    ∙ ap (λ (x : ℕ). At (record { 0 = x })) s
+    ∙ ap (λ (x : ℕ). Ok (record { 0 = x })) s
 
 -- what a moment or a refusal holds, and the list before its last element
 abbrev is_at : Timed → ℕ
-is_at (At x) = 1
-is_at (Refused f) = 0
+is_at (Ok x) = 1
+is_at (Err f) = 0
 
 abbrev moment_in : Timed → ℕ
-moment_in (At x) = x.0
-moment_in (Refused f) = 0
+moment_in (Ok x) = x.0
+moment_in (Err f) = 0
 
 abbrev but_last : Snoc Timed → Snoc Timed
 but_last ε = ε
 but_last (ms ▸ m) = ms
 
 -- and back: a moment that is the time since the first comes from a gap below half the range
-later_told : (last : Moment) (gap : ℕ) (x : Moment) → later_moment last gap ≡ At x
+later_told : (last : Moment) (gap : ℕ) (x : Moment) → later_moment last gap ≡ Ok x
     → (gap < half_range) × (last.0 + gap < range) × (last.0 + gap ≡ x.0)
 later_told last gap x e = by (leb half_range gap) (leb range (last.0 + gap)) refl refl e
   where
     by : (a b : Bool) → leb half_range gap ≡ a → leb range (last.0 + gap) ≡ b
-        → cond a (Refused Falls) (cond b (Refused TooLate) (At (record { 0 = last.0 + gap }))) ≡ At x
+        → cond a (Err Falls) (cond b (Err TooLate) (Ok (record { 0 = last.0 + gap }))) ≡ Ok x
         → (gap < half_range) × (last.0 + gap < range) × (last.0 + gap ≡ x.0)
     by true b p q z = let w : ◌≡◌ {A = ℕ} 0 1 = ap (λ (m : Timed). is_at m) z in absurd (omega arith)
     by false true p q z = let w : ◌≡◌ {A = ℕ} 0 1 = ap (λ (m : Timed). is_at m) z in absurd (omega arith)
@@ -86,7 +84,7 @@ module _ (first : ℕ) where
   last_kind (goes_on P u l h r) = refl
 
   last_moment_lem : {ts : Snoc ℕ} {t : ℕ} → Passing first ts t
-      → last_timed (since_first first ts) ≡ At (record { 0 = t - first })
+      → last_timed (since_first first ts) ≡ Ok (record { 0 = t - first })
   last_moment_lem begins = refl
   last_moment_lem (goes_on P u l h r) = refl
 
@@ -94,7 +92,7 @@ module _ (first : ℕ) where
   unfolding moments_of_stamps
   moments begins =
       let z : 0 ≡ first - first = omega arith in
-      ap (λ (x : ℕ). ε ▸ At (record { 0 = x })) z
+      ap (λ (x : ℕ). ε ▸ Ok (record { 0 = x })) z
   moments (goes_on {ts} {t} P u l h r) =
       let i = moments P in
       let m = ap last_timed i ∙ last_moment_lem P in
@@ -105,7 +103,7 @@ module _ (first : ℕ) where
 
   -- the time after the last, by the moment of its stamp
   told : (t u : ℕ) → first ≤ t → first ≤ u
-      → raw_moment (Raw (shown_at t)) (record { 0 = t - first }) (shown_at u) ≡ At (record { 0 = u - first })
+      → raw_moment (Raw (shown_at t)) (record { 0 = t - first }) (shown_at u) ≡ Ok (record { 0 = u - first })
       → (t ≤ u) × (u - t < half_range) × (u - first < range)
   told t u f g e =
       let w = later_told (record { 0 = t - first }) (gap_of (shown_at t) (shown_at u)) (record { 0 = u - first }) e in

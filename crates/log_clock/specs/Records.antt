@@ -1,20 +1,17 @@
 -- The records of a log's bytes, each with its moment (L3, L11, L12).
-use Rattle.std.specs.Prelude.{ℕ, zero, suc, List, length}
+use Rattle.std.specs.Prelude.{ℕ, zero, suc, List, length, Some, None, Ok, Err}
 use Rattle.model.specs.declared.Moment.{Moment}
 use Rattle.model.specs.declared.Record.{Record}
 use Rattle.model.specs.Monitor.{time_of}
 use Rattle.base.specs.Lists.{Snoc, ε, ◌▸◌}
 use Rattle.log_clock.specs.declared.Kind.{Kind}
 use Rattle.log_clock.specs.declared.Kind.TheVariants.{Unset}
-use Rattle.log_clock.specs.declared.Dated.{Dated}
-use Rattle.log_clock.specs.declared.Dated.TheVariants.{End, NoRecord, NoMoment, At}
-use Rattle.log_clock.specs.Dated.{dated_at}
+use Rattle.log_clock.specs.Dated.{DatedRead, dated_at}
 
-abbrev pub on_record : (Record → Kind → ℕ → Snoc Record) → Dated → Snoc Record → Snoc Record
-on_record k End es = es
-on_record k (NoRecord f) es = es
-on_record k (NoMoment f) es = es
-on_record k (At e kind past) es = k e kind past
+abbrev pub on_record : (Record → Kind → ℕ → Snoc Record) → DatedRead → Snoc Record → Snoc Record
+on_record k (Ok None) es = es
+on_record k (Err f) es = es
+on_record k (Ok (Some d)) es = k d.item d.kind d.past
 
 -- the records from an offset on, after those read before, which are of this kind, the last at this moment; at most n
 unfoldable pub records_from : ℕ → List ℕ → ℕ → Kind → Moment → Snoc Record → Snoc Record

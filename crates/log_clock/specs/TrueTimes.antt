@@ -1,12 +1,10 @@
 -- The true times of raw stamps (L13).
-use Rattle.std.specs.Prelude.{◌≡◌, ℕ, ◌-◌, ◌%◌, ◌<◌, ◌≤◌}
+use Rattle.std.specs.Prelude.{◌≡◌, ℕ, ◌-◌, ◌%◌, ◌<◌, ◌≤◌, Ok, Err}
 use Rattle.model.specs.declared.Stamp.{Stamp}
 use Rattle.base.specs.Lists.{Snoc, ε, ◌▸◌, EachIn, each}
 use Rattle.log_clock.specs.declared.Kind.{Kind}
 use Rattle.log_clock.specs.declared.Kind.TheVariants.{Unset, Raw}
-use Rattle.log_clock.specs.declared.Timed.{Timed}
-use Rattle.log_clock.specs.declared.Timed.TheVariants.{At, Refused}
-use Rattle.log_clock.specs.Clock.{range, half_range, raw_moment}
+use Rattle.log_clock.specs.Clock.{Timed, range, half_range, raw_moment}
 
 -- what the counter shows at a true time
 abbrev pub shown_at : ℕ → Stamp
@@ -25,12 +23,12 @@ kind_after ε = Unset
 kind_after (ss ▸ s) = Raw s
 
 abbrev pub last_timed : Snoc Timed → Timed
-last_timed ε = At (record { 0 = 0 })
+last_timed ε = Ok (record { 0 = 0 })
 last_timed (ms ▸ m) = m
 
 abbrev pub moment_after : Kind → Timed → Stamp → Timed
-moment_after k (At last) s = raw_moment k last s
-moment_after k (Refused f) s = Refused f
+moment_after k (Ok last) s = raw_moment k last s
+moment_after k (Err f) s = Err f
 
 unfoldable pub moments_of_stamps : Snoc Stamp → Snoc Timed
 moments_of_stamps ε = ε
@@ -38,7 +36,7 @@ moments_of_stamps (ss ▸ s) = moments_of_stamps ss ▸ moment_after (kind_after
 
 -- the times since the first as moments
 abbrev pub since_first : ℕ → Snoc ℕ → Snoc Timed
-since_first first ts = each (λ t. At (record { 0 = t - first })) ts
+since_first first ts = each (λ t. Ok (record { 0 = t - first })) ts
 
 -- L13: the moments of the stamps of such times are the times since the first; and of no other times, if none is before
 -- the first

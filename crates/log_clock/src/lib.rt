@@ -2,13 +2,13 @@
 #![tactic(auto)]
 
 ghost use Rattle.std.specs.Prelude.{◌≡◌, ℕ, ◌-◌, ◌%◌, ◌<◌, ◌≤◌};
-ghost use Rattle.log_clock.specs.Clock.{range, half_range, moment_refusal_number, gap_of};
+ghost use Rattle.log_clock.specs.Clock.{range, half_range, gap_of};
 ghost use Rattle.log_clock.specs.Clock.{plain_moment, later_moment, raw_moment};
-ghost use Rattle.log_clock.specs.Dated.{plain_by, raw_by, dated_at};
+ghost use Rattle.log_clock.specs.Dated.{dated_at};
 ghost use Rattle.log_clock.specs.TrueTimes.{TrueTimes};
 
 use log_reader::{Next, RecordRefusal};
-use model::{Length, Moment, RawRecord, Record, Stamp, TIME_FALLS};
+use model::{Length, Moment, Record, Stamp, TIME_FALLS};
 
 // Which kind of records a log has so far; for raw ones with the stamp of the last.
 #[derive(Clone, Copy)]
@@ -26,21 +26,39 @@ pub enum MomentRefusal {
     TooLate,
 }
 
-// The moment of a record, or why it has none.
+// A record at its moment, the log's kind with it, and the offset just after it.
 #[derive(Clone, Copy)]
-pub enum Timed {
-    At(Moment),
-    Refused(MomentRefusal),
+pub struct Dated {
+    pub item: Record,
+    pub kind: Kind,
+    pub past: usize,
 }
 
-// What stands at an offset: the end, no record, a record without a moment; or a record at its moment, the log's kind
-// with it, and the offset just after it.
+// Why no record with a moment stands at an offset.
 #[derive(Clone, Copy)]
-pub enum Dated {
-    End,
+pub enum Undated {
     NoRecord(RecordRefusal),
     NoMoment(MomentRefusal),
-    At(Record, Kind, usize),
+}
+
+impl From<RecordRefusal> for Undated {
+    ghost use Rattle.log_clock.specs.declared.Undated.TheVariants.{NoRecord};
+
+    ghost from_gives = { λ why undated. undated ≡ NoRecord why };
+
+    fn from(why: RecordRefusal) -> Undated {
+        Undated::NoRecord(why)
+    }
+}
+
+impl From<MomentRefusal> for Undated {
+    ghost use Rattle.log_clock.specs.declared.Undated.TheVariants.{NoMoment};
+
+    ghost from_gives = { λ why undated. undated ≡ NoMoment why };
+
+    fn from(why: MomentRefusal) -> Undated {
+        Undated::NoMoment(why)
+    }
 }
 
 // N9: the refusals.
@@ -52,13 +70,17 @@ const HALF_RANGE: u32 = 0x8000_0000;
 
 const RANGE: u64 = 0x1_0000_0000;
 
-pub fn number(f: MomentRefusal) -> u8
-    ensures { result ≡ moment_refusal_number f }
-{
-    match f {
-        MomentRefusal::Mixed => TWO_KINDS,
-        MomentRefusal::Falls => TIME_FALLS,
-        MomentRefusal::TooLate => TOO_LATE,
+impl From<MomentRefusal> for u8 {
+    ghost use Rattle.log_clock.specs.Clock.{moment_refusal_number};
+
+    ghost from_gives = { λ why n. n ≡ moment_refusal_number why };
+
+    fn from(why: MomentRefusal) -> u8 {
+        match why {
+            MomentRefusal::Mixed => TWO_KINDS,
+            MomentRefusal::Falls => TIME_FALLS,
+            MomentRefusal::TooLate => TOO_LATE,
+        }
     }
 }
 
@@ -72,69 +94,64 @@ pub fn gap(from: Stamp, to: Stamp) -> Length
 }
 
 // L9, L12: the moment of a plain record, after records of this kind.
-pub fn plain_moment(kind: Kind, time: Moment) -> Timed
+pub fn plain_moment(kind: Kind, time: Moment) -> Result<Moment, MomentRefusal>
     ensures { result ≡ plain_moment kind time }
 {
     match kind {
-        Kind::Unset => Timed::At(time),
-        Kind::Plain => Timed::At(time),
-        Kind::Raw(_) => Timed::Refused(MomentRefusal::Mixed),
+        Kind::Unset => Ok(time),
+        Kind::Plain => Ok(time),
+        Kind::Raw(_) => Err(MomentRefusal::Mixed),
     }
 }
 
 // J11, J12: the moment that is a gap after the last one; their sum may need 33 bits.
-fn later_moment(last: Moment, gap: Length) -> Timed
+fn later_moment(last: Moment, gap: Length) -> Result<Moment, MomentRefusal>
     ensures { result ≡ later_moment last gap.0 }
 {
     if HALF_RANGE <= gap.0 {
-        return Timed::Refused(MomentRefusal::Falls);
+        return Err(MomentRefusal::Falls);
     }
     if RANGE <= last.0 as u64 + gap.0 as u64 {
-        return Timed::Refused(MomentRefusal::TooLate);
+        return Err(MomentRefusal::TooLate);
     }
-    Timed::At(Moment(last.0 + gap.0))
+    Ok(Moment(last.0 + gap.0))
 }
 
 // L9, L11: the moment of a raw stamp, after records of this kind, the last of them at the moment `last`.
-pub fn raw_moment(kind: Kind, last: Moment, to: Stamp) -> Timed
+pub fn raw_moment(kind: Kind, last: Moment, to: Stamp) -> Result<Moment, MomentRefusal>
     ensures { result ≡ raw_moment kind last to }
 {
     match kind {
-        Kind::Unset => Timed::At(Moment(0)),
-        Kind::Plain => Timed::Refused(MomentRefusal::Mixed),
+        Kind::Unset => Ok(Moment(0)),
+        Kind::Plain => Err(MomentRefusal::Mixed),
         Kind::Raw(from) => later_moment(last, gap(from, to)),
-    }
-}
-
-fn plain_by(e: Record, past: usize, timed: Timed) -> Dated
-    ensures { result ≡ plain_by e past timed }
-{
-    match timed {
-        Timed::At(_) => Dated::At(e, Kind::Plain, past),
-        Timed::Refused(f) => Dated::NoMoment(f),
-    }
-}
-
-fn raw_by(e: RawRecord, past: usize, timed: Timed) -> Dated
-    ensures { result ≡ raw_by e past timed }
-{
-    match timed {
-        Timed::At(t) => Dated::At(model::at_moment(e, t), Kind::Raw(model::stamp_of(e)), past),
-        Timed::Refused(f) => Dated::NoMoment(f),
     }
 }
 
 // The record at an offset with its moment, after records of this kind, the last of them at the moment `last`.
 #[tactic(auto, unfolding(crate::specs::Dated::dated_at))]
-pub fn record_at(log: &[u8], at: usize, kind: Kind, last: Moment) -> Dated
+pub fn record_at(log: &[u8], at: usize, kind: Kind, last: Moment) -> Result<Option<Dated>, Undated>
     ensures { result ≡ dated_at log.now at kind last }
 {
-    let next = log_reader::read_record(log, at);
-    match next {
-        Next::End => Dated::End,
-        Next::Refused(f) => Dated::NoRecord(f),
-        Next::Handed(e, past) => plain_by(e, past, plain_moment(kind, model::time_of(e))),
-        Next::Raw(e, past) => raw_by(e, past, raw_moment(kind, last, model::stamp_of(e))),
+    match log_reader::read_record(log, at)? {
+        Next::End => Ok(None),
+        Next::Handed(e, past) => {
+            plain_moment(kind, model::time_of(e))?;
+            Ok(Some(Dated {
+                item: e,
+                kind: Kind::Plain,
+                past,
+            }))
+        }
+        Next::Raw(e, past) => {
+            let stamp = model::stamp_of(e);
+            let t = raw_moment(kind, last, stamp)?;
+            Ok(Some(Dated {
+                item: model::at_moment(e, t),
+                kind: Kind::Raw(stamp),
+                past,
+            }))
+        }
     }
 }
 

@@ -2,6 +2,7 @@
 use mathlib.Core.Path.{◌≡◌, refl, sym, ap, subst, ◌∙◌}
 use mathlib.Core.Bool.{Bool, true, false, cond, ◌||◌}
 use mathlib.Core.List.{List}
+use Rattle.std.specs.Prelude.{Some, None, Ok, Err}
 use Prim.Native.Nat.{ℕ, ◌+◌, ◌*◌}
 use native.Mathlib.Omega.{arith}
 use lib.Dec.{eqb, leb}
@@ -11,29 +12,25 @@ use Rattle.model.specs.declared.Moment.{Moment}
 use Rattle.model.specs.declared.Record.{Record}
 use Rattle.model.specs.declared.RawRecord.{RawRecord}
 use Rattle.model.specs.Monitor.{time_of, stamp_of, at_moment}
-use Rattle.log_reader.specs.declared.Next.{Next}
+use Rattle.log_reader.specs.Record.{RecordRead}
 use Rattle.log_reader.specs.declared.Next.TheVariants as next
 use Rattle.log_reader.specs.Record.{message_tag, time_tag, raw_message_tag, raw_time_tag, message_size, time_size}
 use Rattle.log_reader.specs.Record.{message_at}
 use Rattle.log_reader.specs.Next.{next_at}
 use Rattle.log_reader.proofs.Offsets.{read, is_read}
 use Rattle.log_clock.specs.declared.Kind.{Kind}
-use Rattle.log_clock.specs.declared.Timed.{Timed}
-use Rattle.log_clock.specs.declared.Timed.TheVariants as timed
-use Rattle.log_clock.specs.declared.Dated.{Dated}
-use Rattle.log_clock.specs.declared.Dated.TheVariants as dated
-use Rattle.log_clock.specs.Clock.{plain_moment, raw_moment}
-use Rattle.log_clock.specs.Dated.{plain_by, raw_by, dated_by, dated_at}
+use Rattle.log_clock.specs.Clock.{Timed, plain_moment, raw_moment}
+use Rattle.log_clock.specs.Dated.{DatedRead, dated_record, plain_by, raw_by, dated_by, dated_at}
 use Rattle.chart_value.specs.Records.{record_code}
 use Rattle.log_check.specs.Met.{code_at}
 
 module _ (s : List ℕ) (at : ℕ) where
   -- a raw record has its code whatever moment it gets
-  CodeIs : ℕ → Next → Type 0
-  CodeIs x next.End = Unit {0}
-  CodeIs x (next.Refused f) = Unit {0}
-  CodeIs x (next.Handed e p) = x ≡ record_code e
-  CodeIs x (next.Raw e p) = (t : Moment) → x ≡ record_code (at_moment e t)
+  CodeIs : ℕ → RecordRead → Type 0
+  CodeIs x (Ok next.End) = Unit {0}
+  CodeIs x (Err f) = Unit {0}
+  CodeIs x (Ok (next.Handed e p)) = x ≡ record_code e
+  CodeIs x (Ok (next.Raw e p)) = (t : Moment) → x ≡ record_code (at_moment e t)
 
   same_code : word16 s (at + 3) * 65536 + word16 s (at + 1) + 1 ≡ record_code (message_at s at)
   same_code = let z : at + 1 + 1 ≡ at + 2 = omega arith in rw z (omega arith)
@@ -59,11 +56,10 @@ module _ (s : List ℕ) (at : ℕ) where
       (eqb (get_or s at 0) time_tag) (eqb (get_or s at 0) raw_time_tag) (leb (at + message_size) (length s))
       (leb (at + time_size) (length s)))
 
-  abbrev code_in : Dated → ℕ → ℕ
-  code_in dated.End d = d
-  code_in (dated.NoRecord f) d = d
-  code_in (dated.NoMoment f) d = d
-  code_in (dated.At e k p) d = record_code e
+  abbrev code_in : DatedRead → ℕ → ℕ
+  code_in (Ok None) d = d
+  code_in (Err f) d = d
+  code_in (Ok (Some r)) d = record_code r.item
 
   code_dated : (k : Kind) (last : Moment) → code_at s at ≡ code_in (dated_at s at k last) (code_at s at)
   unfolding dated_at CodeIs
@@ -71,20 +67,20 @@ module _ (s : List ℕ) (at : ℕ) where
     where
       plain : (e : Record) (p : ℕ) → code_at s at ≡ record_code e → (t : Timed)
           → code_at s at ≡ code_in (plain_by e p t) (code_at s at)
-      plain e p q (timed.At t) = q
-      plain e p q (timed.Refused f) = refl
+      plain e p q (Ok t) = q
+      plain e p q (Err f) = refl
 
       raw : (e : RawRecord) (p : ℕ) → ((t : Moment) → code_at s at ≡ record_code (at_moment e t)) → (t : Timed)
           → code_at s at ≡ code_in (raw_by e p t) (code_at s at)
-      raw e p q (timed.At t) = q t
-      raw e p q (timed.Refused f) = refl
+      raw e p q (Ok t) = q t
+      raw e p q (Err f) = refl
 
-      by : (x : Next) → CodeIs (code_at s at) x → code_at s at ≡ code_in (dated_by k last x) (code_at s at)
-      by next.End q = refl
-      by (next.Refused f) q = refl
-      by (next.Handed e p) q = plain e p q (plain_moment k (time_of e))
-      by (next.Raw e p) q = raw e p q (raw_moment k last (stamp_of e))
+      by : (x : RecordRead) → CodeIs (code_at s at) x → code_at s at ≡ code_in (dated_by k last x) (code_at s at)
+      by (Ok next.End) q = refl
+      by (Err f) q = refl
+      by (Ok (next.Handed e p)) q = plain e p q (plain_moment k (time_of e))
+      by (Ok (next.Raw e p)) q = raw e p q (raw_moment k last (stamp_of e))
 
-  pub code_of : (k : Kind) (last : Moment) (e : Record) (j : Kind) (p : ℕ) → dated_at s at k last ≡ dated.At e j p
+  pub code_of : (k : Kind) (last : Moment) (e : Record) (j : Kind) (p : ℕ) → dated_at s at k last ≡ dated_record e j p
       → code_at s at ≡ record_code e
-  code_of k last e j p q = code_dated k last ∙ ap (λ (d : Dated). code_in d (code_at s at)) q
+  code_of k last e j p q = code_dated k last ∙ ap (λ (d : DatedRead). code_in d (code_at s at)) q

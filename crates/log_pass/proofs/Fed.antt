@@ -4,6 +4,7 @@ use mathlib.Core.Path.{◌≡◌, refl, sym, ap, subst, ◌∙◌}
 use mathlib.Core.Bool.{Bool, true, false, cond, not, So, ◌&&◌}
 use mathlib.Core.Logic.{◌≢◌}
 use mathlib.Core.List.{List}
+use Rattle.std.specs.Prelude.{Some, None, Ok, Err}
 use Prim.Native.Nat.{ℕ, zero, suc, ◌≤◌}
 use lib.Dec.{leb, ltb}
 use lib.ListN.{get_or}
@@ -25,11 +26,9 @@ use Rattle.layout.specs.View.{Covers}
 use Rattle.plan.specs.Slots.{slot_of, Slotted}
 use Rattle.chart_value.specs.Records.{log_record, logged}
 use Rattle.log_clock.specs.declared.Kind.{Kind}
-use Rattle.log_clock.specs.declared.Dated.{Dated}
-use Rattle.log_clock.specs.declared.Dated.TheVariants as dated
-use Rattle.log_clock.specs.Dated.{dated_at}
-use Rattle.log_check.specs.declared.CheckStep.{CheckStep}
-use Rattle.log_check.specs.declared.CheckStep.TheVariants.{Over, Going}
+use Rattle.log_clock.specs.Dated.{DatedRead, dated_at}
+use Rattle.log_check.specs.Check.{CheckStep}
+use Rattle.log_check.specs.Check.{Over, Going}
 use Rattle.log_check.specs.Check.{take_record}
 use Rattle.log_check.specs.Sound.{on_taken, on_sound, sound_from}
 
@@ -98,18 +97,17 @@ still C zero s at k last n es b = refl
 still C (suc f) s at k last n es b =
     by (dated_at s at k last) (λ p j t m e c. still C f s p j t m (es ▸ e) c)
   where
-    by : (x : Dated) →
+    by : (x : DatedRead) →
         ((p : ℕ) (j : Kind) (t : Moment) (m : ℕ) (e : Record) → (after C (logged (es ▸ e))).tally.broken.at ≢ 0
         → after C (logged (sound_from f s p j t m (es ▸ e))) ≡ after C (logged (es ▸ e)))
         → after C (logged (on_sound (sound_from f s) es at last n x)) ≡ after C (logged es)
-    by dated.End i = refl
-    by (dated.NoRecord g) i = refl
-    by (dated.NoMoment g) i = refl
-    by (dated.At e j p) i = taken (take_record j (time_of e) p at last n)
+    by (Ok None) i = refl
+    by (Err g) i = refl
+    by (Ok (Some d)) i = taken (take_record d.kind (time_of d.item) d.past at last n)
       where
         taken : (y : CheckStep)
-            → after C (logged (on_taken (λ q i t m. sound_from f s q i t m (es ▸ e)) es y)) ≡ after C (logged es)
+            → after C (logged (on_taken (λ q i t m. sound_from f s q i t m (es ▸ d.item)) es y)) ≡ after C (logged es)
         taken (Over c) = refl
         taken (Going q l t m) =
-            let u = unmoved C (after C (logged es)) (log_record e) b in
-            i q l t m e (λ z. b (sym (ap (λ (x : AbstractMonitor). x.tally.broken.at) u) ∙ z)) ∙ u
+            let u = unmoved C (after C (logged es)) (log_record d.item) b in
+            i q l t m d.item (λ z. b (sym (ap (λ (x : AbstractMonitor). x.tally.broken.at) u) ∙ z)) ∙ u

@@ -17,15 +17,15 @@ use Rattle.rounds.specs.Chart.{Chart as Abstract, Accepted}
 use Rattle.rounds.specs.Rows.{LogRecord}
 use Rattle.rounds.specs.Machine.{Monitor as AbstractMonitor, Step as AbstractStep, Fit, accept, feed, after}
 use Rattle.rounds.proofs.Fitness.{after_fit}
-use Rattle.stepping.specs.declared.Step.{Step}
-use Rattle.stepping.specs.Monitors.{monitor_at, step_of, record_of}
+use Rattle.stepping.specs.declared.Answered.{Answered}
+use Rattle.stepping.specs.Monitors.{monitor_at, answered_of, record_of}
 use Rattle.stepping.proofs.Zeros.{zero_fresh}
 use Rattle.chart_value.specs.Records.{record_code, log_record, logged}
 use Rattle.log_reader.specs.Next.{next_at}
-use Rattle.log_check.specs.declared.Checked.{Checked}
-use Rattle.log_check.specs.declared.CheckStep.TheVariants.{Over}
-use Rattle.log_check.specs.declared.Pace.{Pace}
-use Rattle.log_check.specs.declared.Met.TheVariants.{Other}
+use Rattle.log_check.specs.Refusal.{Checked}
+use Rattle.log_check.specs.Check.{Over}
+use Rattle.log_check.specs.declared.pace.Pace.{Pace}
+use Rattle.std.specs.Prelude.{None}
 use Rattle.log_check.specs.Check.{check_log, step_at}
 use Rattle.log_check.specs.Sound.{sound_from, sound_records}
 use Rattle.log_check.specs.Met.{pace_of, kind_in, met_at}
@@ -95,7 +95,7 @@ module _ {C : Abstract} {s : List ℕ} {p : Pace} {m : Monitor} {at : ℕ} (G : 
   pub going_end : length s ≤ at → Ended C s p m at
   going_end h = over _ (end_over s at (kind_in p m.tally.now) m.tally.now m.tally.records h)
 
-  pub going_other : Other ≡ met_at s at p m.tally.now m.tally.records → Ended C s p m at
+  pub going_other : None ≡ met_at s at p m.tally.now m.tally.records → Ended C s p m at
   going_other e = let o = over_there s at p m.tally.now m.tally.records e in over o.0 o.1
 
   -- a record that was met is taken
@@ -118,7 +118,7 @@ module _ {C : Abstract} {s : List ℕ} {p : Pace} {m : Monitor} {at : ℕ} (G : 
         going_past s at (kind_in p m.tally.now) m.tally.now m.tally.records past (kind_in p t) t
         (m.tally.records + 1) M.step
 
-    module _ (r : Step) (a : step_of r ≡ accept C (monitor_at m) (record_of code t.0)) where
+    module _ (r : Answered) (a : answered_of r ≡ accept C (monitor_at m) (record_of code t.0)) where
       -- now and the count, the monitor, the records that are left to be taken and to be checked
       now : r.next.tally.now ≡ t
       now =

@@ -1,7 +1,7 @@
 -- What is left of a log's check after a pass over some of its records.
 use Rattle.std.specs.Prelude.{List, ℕ, ◌+◌, length}
 use Rattle.log_reader.specs.Next.{next_at}
-use Rattle.log_check.specs.declared.Checked.{Checked}
+use Rattle.log_check.specs.Refusal.{Checked}
 use Rattle.log_check.specs.Check.{check_from}
 use Rattle.log_check.specs.Met.{pace_of, kind_in}
 use Rattle.log_pass.specs.declared.Passed.{Passed}

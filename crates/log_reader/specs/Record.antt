@@ -1,5 +1,5 @@
 -- One record of a log's bytes, read at an offset (L1, L2, L7, E1 to E5).
-use Rattle.std.specs.Prelude.{ℕ, ◌+◌, List, get_or}
+use Rattle.std.specs.Prelude.{ℕ, ◌+◌, List, get_or, Result, Ok, Err}
 use Rattle.wire.specs.Bytes.{word16, word32}
 use Rattle.model.specs.declared.Record.{Record}
 use Rattle.model.specs.declared.Record.TheVariants.{Message, Time}
@@ -9,7 +9,7 @@ use Rattle.model.specs.declared.RawRecord.TheVariants as raw
 use Rattle.log_reader.specs.declared.RecordRefusal.{RecordRefusal}
 use Rattle.log_reader.specs.declared.RecordRefusal.TheVariants.{CutShort, UnknownByte}
 use Rattle.log_reader.specs.declared.Next.{Next}
-use Rattle.log_reader.specs.declared.Next.TheVariants.{End, Refused, Handed, Raw}
+use Rattle.log_reader.specs.declared.Next.TheVariants.{End, Handed, Raw}
 
 -- N9: a record cut short, an unknown record byte
 abbrev pub cut_short : ℕ
@@ -59,6 +59,10 @@ raw_message_at s at = raw.Message (parts_at s at) (record { 0 = word32 s (at + 5
 abbrev pub raw_time_at : List ℕ → ℕ → RawRecord
 raw_time_at s at = raw.Time (record { 0 = word32 s (at + 1) })
 
+-- what reading at an offset comes to: what stands there, or why no record is handed out
+abbrev pub RecordRead : Type 0
+RecordRead = Result Next RecordRefusal
+
 -- What reading one record says, in numbers: the end, with the offset; a refusal, 30 or 31, with the offset; or a
 -- record or raw record, with the offset just after it.
 pub data Said : Type 0 where
@@ -67,8 +71,8 @@ pub data Said : Type 0 where
   handed : Record → ℕ → Said
   handed_raw : RawRecord → ℕ → Said
 
-abbrev pub said : ℕ → Next → Said
-said at End = end at
-said at (Refused k) = refused (record_refusal_number k) at
-said at (Handed r past) = handed r past
-said at (Raw r past) = handed_raw r past
+abbrev pub said : ℕ → RecordRead → Said
+said at (Ok End) = end at
+said at (Err k) = refused (record_refusal_number k) at
+said at (Ok (Handed r past)) = handed r past
+said at (Ok (Raw r past)) = handed_raw r past

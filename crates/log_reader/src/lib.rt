@@ -2,7 +2,7 @@
 #![tactic(auto)]
 
 ghost use Rattle.std.specs.Prelude.{◌≡◌, ◌<◌, length};
-ghost use Rattle.log_reader.specs.Record.{record_refusal_number, parts_at};
+ghost use Rattle.log_reader.specs.Record.{parts_at};
 ghost use Rattle.log_reader.specs.Next.{message_next, time_next, next_at};
 ghost use Rattle.log_reader.specs.Reader.{HandsOut, offset_or};
 
@@ -15,11 +15,10 @@ pub enum RecordRefusal {
     UnknownByte,
 }
 
-// What reading at an offset finds: the end, a refusal, or a record or raw record and the offset just after it.
+// What stands at an offset: the end, or a record or raw record and the offset just after it.
 #[derive(Clone, Copy)]
 pub enum Next {
     End,
-    Refused(RecordRefusal),
     Handed(Record, usize),
     Raw(RawRecord, usize),
 }
@@ -40,12 +39,16 @@ const CUT_SHORT: u8 = 30;
 
 const UNKNOWN_BYTE: u8 = 31;
 
-pub fn number(k: RecordRefusal) -> u8
-    ensures { result ≡ record_refusal_number k }
-{
-    match k {
-        RecordRefusal::CutShort => CUT_SHORT,
-        RecordRefusal::UnknownByte => UNKNOWN_BYTE,
+impl From<RecordRefusal> for u8 {
+    ghost use Rattle.log_reader.specs.Record.{record_refusal_number};
+
+    ghost from_gives = { λ why n. n ≡ record_refusal_number why };
+
+    fn from(why: RecordRefusal) -> u8 {
+        match why {
+            RecordRefusal::CutShort => CUT_SHORT,
+            RecordRefusal::UnknownByte => UNKNOWN_BYTE,
+        }
     }
 }
 
@@ -63,44 +66,44 @@ fn parts_at(s: &[u8], at: usize) -> Message
 
 // The message at an offset within the bytes. Plain and raw ones have the same bytes but for the tag, which tells them
 // apart.
-fn message_next(bytes: &[u8], offset: usize, tag: u8) -> Next
+fn message_next(bytes: &[u8], offset: usize, tag: u8) -> Result<Next, RecordRefusal>
     requires { offset < length bytes.now }
     ensures { result ≡ message_next bytes.now offset tag }
 {
     let past = offset + MESSAGE_SIZE;
     if bytes.len() < past {
-        return Next::Refused(RecordRefusal::CutShort);
+        return Err(RecordRefusal::CutShort);
     }
     let message = parts_at(bytes, offset);
     let word = wire::word32_at(bytes, offset + 5);
     if tag == MESSAGE_TAG {
-        return Next::Handed(Record::Message(message, Moment(word)), past);
+        return Ok(Next::Handed(Record::Message(message, Moment(word)), past));
     }
-    Next::Raw(RawRecord::Message(message, Stamp(word)), past)
+    Ok(Next::Raw(RawRecord::Message(message, Stamp(word)), past))
 }
 
 // Likewise the record of time.
-fn time_next(bytes: &[u8], offset: usize, tag: u8) -> Next
+fn time_next(bytes: &[u8], offset: usize, tag: u8) -> Result<Next, RecordRefusal>
     requires { offset < length bytes.now }
     ensures { result ≡ time_next bytes.now offset tag }
 {
     let past = offset + TIME_SIZE;
     if bytes.len() < past {
-        return Next::Refused(RecordRefusal::CutShort);
+        return Err(RecordRefusal::CutShort);
     }
     let word = wire::word32_at(bytes, offset + 1);
     if tag == TIME_TAG {
-        return Next::Handed(Record::Time(Moment(word)), past);
+        return Ok(Next::Handed(Record::Time(Moment(word)), past));
     }
-    Next::Raw(RawRecord::Time(Stamp(word)), past)
+    Ok(Next::Raw(RawRecord::Time(Stamp(word)), past))
 }
 
 // E2 to E4: the record at an offset; the bytes stay as they are.
-pub fn read_record(bytes: &[u8], offset: usize) -> Next
+pub fn read_record(bytes: &[u8], offset: usize) -> Result<Next, RecordRefusal>
     ensures { (result ≡ next_at bytes.now offset) × (bytes.exit.now ≡ bytes.entry.now) }
 {
     if bytes.len() <= offset {
-        return Next::End;
+        return Ok(Next::End);
     }
     let tag = wire::byte_at(bytes, offset);
     if (tag == MESSAGE_TAG) | (tag == RAW_MESSAGE_TAG) {
@@ -109,16 +112,15 @@ pub fn read_record(bytes: &[u8], offset: usize) -> Next
     if (tag == TIME_TAG) | (tag == RAW_TIME_TAG) {
         return time_next(bytes, offset, tag);
     }
-    Next::Refused(RecordRefusal::UnknownByte)
+    Err(RecordRefusal::UnknownByte)
 }
 
 // E4: the offset just after a record that is handed out; if there is none, it stays.
 fn offset_after(offset: usize, next: Next) -> usize
-    ensures { result ≡ offset_or offset next }
+    ensures { result ≡ offset_or offset (Ok next) }
 {
     match next {
         Next::End => offset,
-        Next::Refused(_) => offset,
         Next::Handed(_, past) => past,
         Next::Raw(_, past) => past,
     }
@@ -138,11 +140,10 @@ pub fn reader_at<'a>(log: &'a [u8], offset: usize) -> LogReader<'a>
 }
 
 // Hands out the record at the offset, which moves to just after it; if there is none, it stays.
-pub fn take_record<'s, 'a>(r: &'s mut LogReader<'a>) -> Next
+pub fn take_record<'s, 'a>(r: &'s mut LogReader<'a>) -> Result<Next, RecordRefusal>
     ensures { HandsOut r.old result r.new }
 {
-    let at = r.offset;
-    let next = read_record(r.log, at);
-    r.offset = offset_after(at, next);
-    next
+    let next = read_record(r.log, r.offset)?;
+    r.offset = offset_after(r.offset, next);
+    Ok(next)
 }

@@ -1,14 +1,14 @@
 -- What is returned and written, by the tests in their order. Assumes nothing.
 use mathlib.Core.Path.{◌≡◌, refl, sym, ap, ◌∙◌}
 use mathlib.Core.Bool.{true}
-use mathlib.Core.List.{List, [], ◌∷◌}
+use mathlib.Core.List.{List}
 use Prim.Native.Nat.{ℕ, ◌≤◌, ◌<◌}
 use borrow.Author.Tests.{lt-ltb, le-ltb, le-leb, ne_eqb}
 use lib.ListN.{length}
 use Rattle.wire.specs.Writing.{starting_with}
 use Rattle.wire.proofs.Writing.{written}
 use Rattle.model.specs.declared.Chart.{Chart}
-use Rattle.model.specs.Answers.{too_short}
+use Rattle.model.specs.Answers.{too_short, zero_verdict}
 use Rattle.model.specs.Numbers.{places}
 use Rattle.chart_step.specs.Refusal.{refusal_number, most_refusal}
 use Rattle.chart_step.proofs.Numbers.{refusal_nonzero, refusal_most}
@@ -17,28 +17,16 @@ use Rattle.chart_value.specs.WellFormed.{well_formed}
 use Rattle.log_reader.specs.declared.RecordRefusal.TheVariants.{CutShort, UnknownByte}
 use Rattle.log_clock.specs.declared.MomentRefusal.TheVariants.{Mixed, Falls, TooLate}
 use Rattle.log_check.specs.declared.LogRefusal.TheVariants.{NoRecord, NoMoment, TooManyRecords}
-use Rattle.log_check.specs.declared.Checked.{Checked}
-use Rattle.log_check.specs.declared.Checked.TheVariants as checked
+use Rattle.std.specs.Prelude.{Ok, Err}
+use Rattle.log_check.specs.declared.LogRefusal.{LogRefusal}
+use Rattle.log_check.specs.Refusal.{log_refusal_number, Checked}
 use Rattle.log_check.specs.Check.{check_log}
 use Rattle.judge.specs.Judge.{by_check, judge_of}
 use Rattle.respond.specs.Respond.{log_report, chart_report, parts_report}
 use Rattle.chart_reader.proofs.Ends.{Reads, accepts, refuses, reads}
 use Rattle.chart_value.proofs.Exact.{accepted_whole}
-use Rattle.listing.specs.declared.Part.{Part}
-use Rattle.listing.specs.declared.Report.{Report}
-use Rattle.listing.specs.declared.Report.TheVariants.{Refused}
-use Rattle.lsc.specs.Lsc.{part_number, report_numbers, report_number, judged_number, judged_out, is_judged_number}
-
--- eight numbers that are those of a refusal
-pub put_refusal : (r : Report) (out : List ℕ) {m : List ℕ} (part : Part) (number offset p : ℕ)
-    → r ≡ Refused part number offset → p ≡ part_number part
-    → m ≡ starting_with (p ∷ number ∷ offset ∷ 0 ∷ 0 ∷ 0 ∷ 0 ∷ 0 ∷ []) out
-    → (number ≡ report_number r) × (m ≡ starting_with (report_numbers r) out)
-put_refusal r out part number offset p e q b = (
-  ap report_number (sym e),
-  written report_numbers out e
-      (written (λ (k : ℕ). k ∷ number ∷ offset ∷ 0 ∷ 0 ∷ 0 ∷ 0 ∷ 0 ∷ []) out (sym q) b),
-)
+use Rattle.listing.specs.Listing.{Report}
+use Rattle.lsc.specs.Lsc.{report_numbers, report_number, judged_number, judged_out, is_judged_number}
 
 pub judged_short : (r : Report) (out : List ℕ) → length out < places → (too_short ≡ judged_number r out)
     × (out ≡ judged_out r out)
@@ -52,15 +40,19 @@ judged_room q r out m n h p a b =
     (rw e (a ∙ ap report_number p), rw e (written report_numbers out (sym p) b))
 
 -- a chart that was read is never refused with 20
+refusal_listed : (log : List ℕ) (k : LogRefusal) (offset : ℕ) → is_judged_number (report_number
+    (log_report (record { number = log_refusal_number k; offset = offset; verdict = zero_verdict }))) ≡ true
+refusal_listed log (NoRecord CutShort) offset = refl
+refusal_listed log (NoRecord UnknownByte) offset = refl
+refusal_listed log (NoMoment Mixed) offset = refl
+refusal_listed log (NoMoment Falls) offset = refl
+refusal_listed log (NoMoment TooLate) offset = refl
+refusal_listed log TooManyRecords offset = refl
+
 log_listed : (c : Chart) (log : List ℕ) (k : Checked)
     → is_judged_number (report_number (log_report (by_check c log k))) ≡ true
-log_listed c log (checked.Fine n) = refl
-log_listed c log (checked.Refused (NoRecord CutShort) offset) = refl
-log_listed c log (checked.Refused (NoRecord UnknownByte) offset) = refl
-log_listed c log (checked.Refused (NoMoment Mixed) offset) = refl
-log_listed c log (checked.Refused (NoMoment Falls) offset) = refl
-log_listed c log (checked.Refused (NoMoment TooLate) offset) = refl
-log_listed c log (checked.Refused TooManyRecords offset) = refl
+log_listed c log (Ok n) = refl
+log_listed c log (Err f) = refusal_listed log f.why f.at
 
 chart_listed : (log : List ℕ) {x : Said} → Reads x → (x.number ≡ 0 → well_formed x.chart ≡ true)
     → is_judged_number (report_number (chart_report x log)) ≡ true

@@ -1,33 +1,23 @@
 -- V7, V8: what judging and printing return and write.
-use Rattle.std.specs.Prelude.{ℕ, Bool, cond, ◌||◌, List, [], ◌∷◌, eqb, leb, ltb, length}
+use Rattle.std.specs.Prelude.{ℕ, Bool, cond, ◌||◌, List, [], ◌∷◌, eqb, leb, ltb, length, Ok, Err}
 use Rattle.wire.specs.Writing.{in_room}
 use Rattle.model.specs.Answers.{too_short, time_falls, too_many_records}
 use Rattle.chart_step.specs.Refusal.{most_refusal}
 use Rattle.model.specs.Numbers.{places, verdict_numbers}
 use Rattle.log_reader.specs.Record.{cut_short, unknown_byte}
 use Rattle.log_clock.specs.Clock.{too_late, two_kinds}
-use Rattle.listing.specs.declared.Part.{Part}
-use Rattle.listing.specs.declared.Part.TheVariants.{Input, Chart, Log}
-use Rattle.listing.specs.declared.Report.{Report}
-use Rattle.listing.specs.declared.Report.TheVariants.{Judged, Refused}
-use Rattle.respond.specs.declared.Response.{Response}
-use Rattle.respond.specs.declared.Response.TheVariants.{Written, TooShort}
-
--- 1 for the chart, 2 for the log; judging a chart and a log never refuses the input
-abbrev pub part_number : Part → ℕ
-part_number Input = 0
-part_number Chart = 1
-part_number Log = 2
+use Rattle.listing.specs.Listing.{Report, part_number}
+use Rattle.respond.specs.Respond.{Response}
 
 -- V7: the verdict; or part, number and offset, and five zeros
 abbrev pub report_numbers : Report → List ℕ
-report_numbers (Judged v) = verdict_numbers v
-report_numbers (Refused part number offset) = part_number part ∷ number ∷ offset ∷ 0 ∷ 0 ∷ 0 ∷ 0 ∷ 0 ∷ []
+report_numbers (Ok v) = verdict_numbers v
+report_numbers (Err r) = part_number r.part ∷ r.number ∷ r.offset ∷ 0 ∷ 0 ∷ 0 ∷ 0 ∷ 0 ∷ []
 
 -- 0 judged, or the refusal's number
 abbrev pub report_number : Report → ℕ
-report_number (Judged v) = 0
-report_number (Refused part number offset) = number
+report_number (Ok v) = 0
+report_number (Err r) = r.number
 
 -- V7: 12 if out has fewer than 8 places, which then stay as they were; places after the eighth stay in every case
 abbrev pub judged_number : Report → List ℕ → ℕ
@@ -44,5 +34,5 @@ is_judged_number n =
 
 -- V8: 0 printed, 12 if out may be too short
 abbrev pub printed_number : Response → ℕ
-printed_number (Written n) = 0
-printed_number TooShort = too_short
+printed_number (Ok n) = 0
+printed_number (Err e) = too_short

@@ -5,23 +5,12 @@ ghost use Rattle.std.specs.Prelude.{◌≡◌, true, ◌≤◌, length};
 ghost use Rattle.wire.specs.Writing.{starting_with};
 ghost use Rattle.model.specs.Numbers.{places};
 ghost use Rattle.respond.specs.Respond.{parts_report, text_of, response_of, buffer_after, count_of};
-ghost use Rattle.lsc.specs.Lsc.{part_number, report_numbers, report_number, judged_number, judged_out};
+ghost use Rattle.lsc.specs.Lsc.{report_numbers, report_number, judged_number, judged_out};
 ghost use Rattle.lsc.specs.Lsc.{is_judged_number, printed_number};
 
-use listing::{Part, Report};
+use listing::Report;
 use model::{PLACES, TOO_SHORT};
-use respond::Response;
-
-// The number of the part that a refusal speaks of.
-fn part_number(part: Part) -> u64
-    ensures { result ≡ part_number part }
-{
-    match part {
-        Part::Input => 0,
-        Part::Chart => 1,
-        Part::Log => 2,
-    }
-}
+use respond::TooShort;
 
 // The report's eight numbers, and the number to return.
 fn put_report(out: &mut [u64], report: Report) -> u8
@@ -30,22 +19,15 @@ fn put_report(out: &mut [u64], report: Report) -> u8
     ensures numbers { out.new ≡ starting_with (report_numbers report) out.old }
 {
     match report {
-        Report::Judged(v) => {
+        Ok(v) => {
             model::put_verdict(out, v);
             0
         }
-        Report::Refused(part, number, offset) => {
-            model::put_eight(
-                out,
-                part_number(part),
-                number as u64,
-                offset as u64,
-                0,
-                0,
-                0,
-                0,
-                0,
-            );
+        Err(refused) => {
+            let part = u64::from(refused.part);
+            let number = refused.number;
+            let offset = refused.offset as u64;
+            wire::put_numbers(out, [part, number.into(), offset, 0, 0, 0, 0, 0]);
             number
         }
     }
@@ -76,13 +58,12 @@ pub extern "C" fn lsc_print(input: &[u8], out: &mut [u8], written: &mut u64) -> 
     ensures buffer { out.new ≡ buffer_after out.old (text_of input.now) }
     ensures unchanged { input.exit.now ≡ input.entry.now }
 {
-    let response = respond::respond(input, out);
-    match response {
-        Response::Written(n) => {
+    match respond::respond(input, out) {
+        Ok(n) => {
             *written = n as u64;
             0
         }
-        Response::TooShort => {
+        Err(TooShort) => {
             *written = 0;
             TOO_SHORT
         }

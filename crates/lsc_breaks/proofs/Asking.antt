@@ -7,17 +7,15 @@ use borrow.Author.Tests.{lt-ltb, le-ltb, ne_eqb}
 use lib.Dec.{eqb}
 use lib.ListN.{length}
 use Rattle.model.specs.Answers.{too_short}
-use Rattle.chart_step.specs.declared.Refusal.{Refusal}
+use Rattle.std.proofs.Common.{Result, Ok, Err}
+use Rattle.chart_step.specs.declared.Fault.{Fault}
 use Rattle.chart_step.specs.Refusal.{refusal_number}
 use Rattle.chart_step.proofs.Numbers.{refusal_nonzero}
-use Rattle.chart_reader.specs.declared.ChartAnswer.{ChartAnswer}
-use Rattle.chart_reader.specs.declared.ChartAnswer.TheVariants.{Accepted, Refused}
 use Rattle.chart_reader.specs.declared.ChartRead.{ChartRead}
 use Rattle.chart_reader.specs.Read.{read_chart}
 use Rattle.chart_reader.specs.Said.{Said, said}
 use Rattle.chart_reader.proofs.Ends.{said_as, by_answer}
-use Rattle.breaks.specs.declared.BreakAnswer.{BreakAnswer}
-use Rattle.breaks.specs.Numbers.{break_number}
+use Rattle.breaks.specs.Numbers.{BreakAnswer, break_number}
 use Rattle.breaks.specs.Breaks.{breaks_of}
 use Rattle.wire.specs.Writing.{starting_with}
 use Rattle.lsc_breaks.specs.Breaks.{breaks_places, chart_part, refusal_numbers, answer_numbers}
@@ -33,7 +31,7 @@ module _ (chart log out : List ℕ) where
   asked_short h = let e = lt-ltb (length out) breaks_places h in (rw e, rw e)
 
   module _ (h : breaks_places ≤ length out) (q : ChartRead) (p : said q ≡ read_chart chart) {r : ℕ} {m : List ℕ} where
-    asked_as : (a : ChartAnswer) → q.answer ≡ a → r ≡ asked_number (said_as q.chart a) log
+    asked_as : (a : Result (Unit {0}) Fault) → q.answer ≡ a → r ≡ asked_number (said_as q.chart a) log
         → m ≡ starting_with (asked_numbers (said_as q.chart a) log) out → Asked r m
     asked_as a e u v =
         let t = le-ltb (length out) breaks_places h in
@@ -43,13 +41,13 @@ module _ (chart log out : List ℕ) where
         )
 
     -- no refusal has the number 0
-    pub asked_refused : (f : Refusal) (offset n : ℕ) → q.answer ≡ Refused f offset → n ≡ refusal_number f → r ≡ n
-        → m ≡ starting_with (refusal_numbers chart_part n offset) out → Asked r m
-    asked_refused f offset n e k u v =
-        let z : eqb (refusal_number f) 0 ≡ false = ne_eqb _ 0 (refusal_nonzero f) in
-        asked_as (Refused f offset) e (rw z (u ∙ k))
-        (rw z (written (λ (x : ℕ). refusal_numbers chart_part x offset) out (sym k) v))
+    pub asked_refused : (f : Fault) (n : ℕ) → q.answer ≡ Err f → n ≡ refusal_number f.refusal → r ≡ n
+        → m ≡ starting_with (refusal_numbers chart_part n f.offset) out → Asked r m
+    asked_refused f n e k u v =
+        let z : eqb (refusal_number f.refusal) 0 ≡ false = ne_eqb _ 0 (refusal_nonzero f.refusal) in
+        asked_as (Err f) e (rw z (u ∙ k))
+        (rw z (written (λ (x : ℕ). refusal_numbers chart_part x f.offset) out (sym k) v))
 
-    pub asked_accepted : (b : BreakAnswer) → q.answer ≡ Accepted → b ≡ breaks_of q.chart log → r ≡ break_number b
+    pub asked_accepted : (b : BreakAnswer) → q.answer ≡ Ok tt → b ≡ breaks_of q.chart log → r ≡ break_number b
         → m ≡ starting_with (answer_numbers b) out → Asked r m
-    asked_accepted b e k u v = asked_as Accepted e (u ∙ ap break_number k) (written answer_numbers out (sym k) v)
+    asked_accepted b e k u v = asked_as (Ok tt) e (u ∙ ap break_number k) (written answer_numbers out (sym k) v)

@@ -1,12 +1,10 @@
 -- V19: what asking whether a log breaks a chart returns and writes.
-use Rattle.std.specs.Prelude.{ℕ, cond, List, [], ◌∷◌, eqb, ltb, length}
-use Rattle.model.specs.Answers.{too_short, not_a_chart}
+use Rattle.std.specs.Prelude.{ℕ, cond, true, false, List, [], ◌∷◌, eqb, ltb, length, Ok, Err}
+use Rattle.model.specs.Answers.{too_short}
 use Rattle.chart_reader.specs.Said as read
 use Rattle.chart_reader.specs.Read.{read_chart}
-use Rattle.log_check.specs.Refusal.{log_refusal_number}
-use Rattle.breaks.specs.declared.BreakAnswer.{BreakAnswer}
-use Rattle.breaks.specs.declared.BreakAnswer.TheVariants.{Yes, No, NoChart, Refused}
-use Rattle.breaks.specs.Numbers.{break_number}
+use Rattle.log_check.specs.Refusal.{judge_refusal_number, judge_refusal_offset}
+use Rattle.breaks.specs.Numbers.{BreakAnswer, break_number}
 use Rattle.breaks.specs.Breaks.{breaks_of}
 use Rattle.wire.specs.Writing.{in_room}
 
@@ -27,10 +25,9 @@ refusal_numbers part number offset = part ∷ number ∷ offset ∷ []
 
 -- K1 to K4: 1 for yes, 0 for no, and two zeros; or the log's refusal; 20 is told of the log, at offset 0
 abbrev pub answer_numbers : BreakAnswer → List ℕ
-answer_numbers Yes = 1 ∷ 0 ∷ 0 ∷ []
-answer_numbers No = 0 ∷ 0 ∷ 0 ∷ []
-answer_numbers NoChart = refusal_numbers log_part not_a_chart 0
-answer_numbers (Refused k offset) = refusal_numbers log_part (log_refusal_number k) offset
+answer_numbers (Ok true) = 1 ∷ 0 ∷ 0 ∷ []
+answer_numbers (Ok false) = 0 ∷ 0 ∷ 0 ∷ []
+answer_numbers (Err refusal) = refusal_numbers log_part (judge_refusal_number refusal) (judge_refusal_offset refusal)
 
 -- the chart's refusal, or the answer for the chart that was read
 abbrev pub asked_numbers : read.Said → List ℕ → List ℕ

@@ -2,14 +2,13 @@
 // an archive of its own the loop over the records is the only caller of the step, which the compiler then takes in.
 #![tactic(auto)]
 
-ghost use Rattle.std.specs.Prelude.{◌≡◌, [], ◌∷◌, ◌≤◌, length};
+ghost use Rattle.std.specs.Prelude.{◌≡◌, ◌≤◌, length};
 ghost use Rattle.wire.specs.Writing.{starting_with};
 ghost use Rattle.breaks.specs.Numbers.{break_number};
 ghost use Rattle.lsc_breaks.specs.Breaks.{breaks_places, refusal_numbers, answer_numbers};
 ghost use Rattle.lsc_breaks.specs.Breaks.{breaks_number, breaks_out};
 
-use breaks::BreakAnswer;
-use chart_reader::ChartAnswer;
+use log_check::JudgeRefusal;
 use model::TOO_SHORT;
 
 // How many places of a buffer the answer takes.
@@ -20,45 +19,28 @@ const CHART_PART: u64 = 1;
 
 const LOG_PART: u64 = 2;
 
-// Puts three numbers at the start of a buffer.
-fn put_three(out: &mut [u64], a: u64, b: u64, c: u64)
-    requires { breaks_places ≤ length out.old }
-    ensures { out.new ≡ starting_with (a ∷ b ∷ c ∷ []) out.old }
-{
-    out[0] = a;
-    out[1] = b;
-    out[2] = c;
-}
-
 // Puts a refusal's part, number and offset, and gives its number to return.
 fn put_refusal(out: &mut [u64], part: u64, number: u8, offset: usize) -> u8
     requires { breaks_places ≤ length out.old }
     ensures number { result ≡ number }
     ensures numbers { out.new ≡ starting_with (refusal_numbers part number offset) out.old }
 {
-    put_three(out, part, number as u64, offset as u64);
+    wire::put_numbers(out, [part, u64::from(number), offset as u64]);
     number
 }
 
 // Puts the numbers of an answer, and gives the number to return.
-fn put_answer(out: &mut [u64], answer: BreakAnswer) -> u8
+fn put_answer(out: &mut [u64], answer: Result<bool, JudgeRefusal>) -> u8
     requires { breaks_places ≤ length out.old }
     ensures number { result ≡ break_number answer }
     ensures numbers { out.new ≡ starting_with (answer_numbers answer) out.old }
 {
     match answer {
-        BreakAnswer::Yes => {
-            put_three(out, 1, 0, 0);
+        Ok(yes) => {
+            wire::put_numbers(out, [u64::from(yes), 0, 0]);
             0
         }
-        BreakAnswer::No => {
-            put_three(out, 0, 0, 0);
-            0
-        }
-        BreakAnswer::NoChart => put_refusal(out, LOG_PART, model::NOT_A_CHART, 0),
-        BreakAnswer::Refused(k, offset) => {
-            put_refusal(out, LOG_PART, log_check::refusal_number(k), offset)
-        }
+        Err(refusal) => put_refusal(out, LOG_PART, u8::from(refusal), refusal.offset()),
     }
 }
 
@@ -73,11 +55,8 @@ pub extern "C" fn lsc_breaks(chart: &[u8], log: &[u8], out: &mut [u64]) -> u8
         return TOO_SHORT;
     }
     let read = chart_reader::read(chart);
-    let answer = read.answer;
-    match answer {
-        ChartAnswer::Refused(refusal, offset) => {
-            put_refusal(out, CHART_PART, chart_step::number(refusal), offset)
-        }
-        ChartAnswer::Accepted => put_answer(out, breaks::breaks(read.chart, log)),
+    match read.answer {
+        Err(fault) => put_refusal(out, CHART_PART, u8::from(fault.refusal), fault.offset),
+        Ok(()) => put_answer(out, breaks::breaks(read.chart, log)),
     }
 }

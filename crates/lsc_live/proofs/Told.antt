@@ -3,14 +3,13 @@ use mathlib.Core.Path.{◌≡◌, sym, ap, ◌∙◌}
 use mathlib.Core.List.{List}
 use Prim.Native.Nat.{ℕ}
 use Rattle.model.specs.declared.Record.{Record}
-use Rattle.model.specs.declared.Answer.{Answer}
-use Rattle.model.specs.Answers.{answer_number}
-use Rattle.model.specs.Numbers.{answer_cause}
+use Rattle.model.specs.Answers.{Fed, fed_number}
+use Rattle.model.specs.Numbers.{fed_cause}
 use Rattle.live.proofs.History.{one_answer}
 use Rattle.lsc_live.specs.Lsc.{FedNumber, FeedsTell}
 
 one_number : {l n n' : List ℕ} {e : Record} {r s : ℕ} → FedNumber l e r n → FedNumber l e s n' → r ≡ s
-one_number F G = F.is_number ∙ ap answer_number (one_answer F.fed G.fed) ∙ sym G.is_number
+one_number F G = F.is_number ∙ ap fed_number (one_answer F.fed G.fed) ∙ sym G.is_number
 
 pub feeds_tell : FeedsTell
 feeds_tell = record {
@@ -18,7 +17,7 @@ feeds_tell = record {
   why = λ F G.
       let a : F.returned.answer ≡ G.returned.answer = one_answer F.returned.fed G.returned.fed in (
         one_number F.returned G.returned,
-        F.is_region ∙ ap {B = ℕ} (λ (x : Answer). (answer_cause x).region) a ∙ sym G.is_region,
-        F.is_term_case ∙ ap {B = ℕ} (λ (x : Answer). (answer_cause x).term) a ∙ sym G.is_term_case,
+        F.is_region ∙ ap {B = ℕ} (λ (x : Fed). (fed_cause x).region) a ∙ sym G.is_region,
+        F.is_term_case ∙ ap {B = ℕ} (λ (x : Fed). (fed_cause x).term) a ∙ sym G.is_term_case,
       );
 }

@@ -7,7 +7,8 @@ ghost use Rattle.live.specs.Live.{live_size, opened_of, bytes_opened, Holds, Liv
 ghost use Rattle.lsc_live.specs.Lsc.{FedNumber, FedWhy, FeedsTell, standing_number};
 ghost use Rattle.lsc_live.specs.Lsc.{standing_out};
 
-use model::{Answer, Message, Moment, PLACES, Record, TOO_SHORT};
+use live::OpenRefusal;
+use model::{Answer, FeedRefusal, Message, Moment, PLACES, Record, TOO_SHORT};
 
 // The size of a live monitor, by the length of its chart.
 #[unsafe(no_mangle)]
@@ -26,13 +27,30 @@ pub extern "C" fn lsc_open(chart: &[u8], live: &mut [u8], at: &mut u64) -> u8
     ensures holds { result ≡ 0 → Holds chart.now live.new }
     ensures unchanged { chart.exit.now ≡ chart.entry.now }
 {
-    let opened = live::open(chart, live);
-    *at = opened.at;
-    opened.number
+    match live::open(chart, live) {
+        Ok(size) => {
+            *at = size as u64;
+            0
+        }
+        Err(OpenRefusal::Chart(fault)) => {
+            *at = fault.offset as u64;
+            u8::from(fault.refusal)
+        }
+        Err(OpenRefusal::TooShort(size)) => {
+            *at = size as u64;
+            TOO_SHORT
+        }
+    }
 }
 
 // One message fed to the live monitor.
-fn feed_message(live: &mut [u8], source: u8, destination: u8, label: u16, time: u32) -> Answer
+fn feed_message(
+    live: &mut [u8],
+    source: u8,
+    destination: u8,
+    label: u16,
+    time: u32,
+) -> Result<Answer, FeedRefusal>
     ensures { LiveFed live.old
         (MessageAt (record { source = source; destination = destination; label = label }) (record { 0 = time }))
         result live.new }
@@ -58,7 +76,7 @@ pub extern "C" fn lsc_feed_message(
         (MessageAt (record { source = source; destination = destination; label = label }) (record { 0 = time }))
         result live.new }
 {
-    model::answer_number(feed_message(live, source, destination, label, time))
+    model::fed_number(feed_message(live, source, destination, label, time))
 }
 
 // V17: the same, with the answer's region and term.
@@ -77,11 +95,11 @@ pub extern "C" fn lsc_feed_message_why(
         result region.new term.new live.new }
     ensures only { FeedsTell }
 {
-    let answer = feed_message(live, source, destination, label, time);
-    let cause = model::answer_cause(answer);
-    *region = cause.region as u64;
-    *term = cause.term as u64;
-    model::answer_number(answer)
+    let fed = feed_message(live, source, destination, label, time);
+    let cause = model::fed_cause(fed);
+    *region = u64::from(cause.region);
+    *term = u64::from(cause.term);
+    model::fed_number(fed)
 }
 
 // Feeds a record of time to the live monitor.
@@ -89,7 +107,7 @@ pub extern "C" fn lsc_feed_message_why(
 pub extern "C" fn lsc_feed_time(live: &mut [u8], time: u32) -> u8
     ensures { FedNumber live.old (TimeAt (record { 0 = time })) result live.new }
 {
-    model::answer_number(live::feed(live, Record::Time(Moment(time))))
+    model::fed_number(live::feed(live, Record::Time(Moment(time))))
 }
 
 // The standing of the live monitor.
@@ -99,14 +117,13 @@ pub extern "C" fn lsc_standing(live: &[u8], out: &mut [u64]) -> u8
     ensures numbers { out.new ≡ standing_out (standing_in live.now) out.old }
     ensures unchanged { live.exit.now ≡ live.entry.now }
 {
-    let standing = live::standing(live);
-    let number = standing.number;
-    if number != 0 {
-        return number;
-    }
+    let verdict = match live::standing(live) {
+        Ok(verdict) => verdict,
+        Err(refusal) => return u8::from(refusal),
+    };
     if out.len() < PLACES {
         return TOO_SHORT;
     }
-    model::put_verdict(out, standing.verdict);
+    model::put_verdict(out, verdict);
     0
 }

@@ -10,14 +10,10 @@ use lib.ListN.{get_or}
 use Rattle.base.proofs.Bools.{clash}
 use Rattle.wire.specs.Bytes.{word32}
 use Rattle.wire.specs.Writing.{starting_with}
-use Rattle.model.specs.declared.Chart.{Chart}
-use Rattle.model.specs.Answers.{not_a_chart, not_fit}
 use Rattle.log_clock.specs.declared.Kind.{Kind}
 use Rattle.log_clock.specs.declared.Kind.TheVariants.{Unset, Plain, Raw}
-use Rattle.live.specs.Live.{chart_in, is_live}
-use Rattle.live.proofs.Charts.{live_exact, count_none, count_some}
 use Rattle.feed_log.specs.declared.LogFed.{LogFed}
-use Rattle.feed_log.specs.Feeds.{FedLog}
+use Rattle.feed_log.specs.Feeds.{number_of, FedLog}
 use Rattle.feed_log.proofs.Only.{feeds_tell}
 use Rattle.lsc_log.specs.Log.{is_kind, kind_of, kind_bytes, is_short, kind_after, numbers_after}
 use Rattle.lsc_log.specs.Log.{CallsLog, too_few, no_kind, called, CallsTell}
@@ -41,14 +37,6 @@ module _ (s : List ℕ) (b : ℕ) (q : b ≡ get_or s 0 0) where
   pub no_kind_there : 2 < b → is_kind s ≡ false
   no_kind_there h = ap (λ (x : ℕ). leb x 2) (sym q) ∙ lt-leb b 2 h
 
--- without a kind
-module _ (l : List ℕ) (c : Chart) (q : c ≡ chart_in l) where
-  pub unfit_kind : (c.count ≡ 0 → ⊥) → not_fit ≡ cond (is_live l) not_fit not_a_chart
-  unfit_kind n = rw (live_exact l ∙ count_some l c q n)
-
-  pub no_live : c.count ≡ 0 → not_a_chart ≡ cond (is_live l) not_fit not_a_chart
-  no_live z = rw (live_exact l ∙ count_none l c q z)
-
 -- the kind after a call
 pub kind_same : (taken : ℕ) (k : Kind) (l : List ℕ) → taken ≡ 0
     → l ≡ cond (eqb taken 0) l (starting_with (kind_bytes k) l)
@@ -60,12 +48,12 @@ kind_new taken k l n z e = rw (ne_eqb taken 0 z) e
 
 -- the call itself
 pub said : (live kind log out : List ℕ) → is_short kind out ≡ false → is_kind kind ≡ true → {k : Kind} → k ≡ kind_of kind
-    → {r : LogFed} {n : List ℕ} → FedLog live k log r n → {x : ℕ} {j u : List ℕ} → x ≡ r.number
+    → {r : LogFed} {n : List ℕ} → FedLog live k log r n → {x : ℕ} {j u : List ℕ} → x ≡ number_of r.stop
     → j ≡ kind_after r kind → u ≡ numbers_after r out → CallsLog live kind log out x n j u
 said live kind log out z t {k} e {r} {n} F {x} {j} {u} p q w =
     subst (λ (y : ℕ). CallsLog live kind log out y n j u) (sym p)
-    (subst (λ (y : List ℕ). CallsLog live kind log out r.number n y u) (sym q)
-    (subst (λ (y : List ℕ). CallsLog live kind log out r.number n (kind_after r kind) y) (sym w)
+    (subst (λ (y : List ℕ). CallsLog live kind log out (number_of r.stop) n y u) (sym q)
+    (subst (λ (y : List ℕ). CallsLog live kind log out (number_of r.stop) n (kind_after r kind) y) (sym w)
     (called z t (subst (λ (y : Kind). FedLog live y log r n) e F))))
 
 -- one call has one result
@@ -84,7 +72,7 @@ calls_tell = record { tell = λ p q. tells p q }
     tells (called s n F) (no_kind t m) = clash n m
     tells {kind = kind} {out = out} (called s n F) (called t m G) =
         let e = feeds_tell.tell F G in (
-          ap (λ (r : LogFed). r.number) e.0,
+          ap (λ (r : LogFed). number_of r.stop) e.0,
           e.1,
           ap (λ (r : LogFed). kind_after r kind) e.0,
           ap (λ (r : LogFed). numbers_after r out) e.0,

@@ -7,7 +7,7 @@ use Rattle.log_clock.specs.declared.Kind.{Kind}
 use Rattle.log_clock.specs.declared.Kind.TheVariants.{Unset, Plain, Raw}
 use Rattle.live.specs.Live.{is_live}
 use Rattle.feed_log.specs.declared.LogFed.{LogFed}
-use Rattle.feed_log.specs.Feeds.{FedLog}
+use Rattle.feed_log.specs.Feeds.{number_of, FedLog}
 
 -- the log's kind beside the live monitor: a byte, and the last record's stamp if it is raw
 abbrev pub kind_size : ℕ
@@ -40,10 +40,10 @@ is_refusal n = eqb n not_a_chart || eqb n not_fit
 
 abbrev pub kind_after : LogFed → List ℕ → List ℕ
 kind_after r kind =
-    cond (is_refusal r.number) kind (cond (eqb r.taken 0) kind (starting_with (kind_bytes r.kind) kind))
+    cond (is_refusal (number_of r.stop)) kind (cond (eqb r.taken 0) kind (starting_with (kind_bytes r.kind) kind))
 
 abbrev pub numbers_after : LogFed → List ℕ → List ℕ
-numbers_after r out = cond (is_refusal r.number) out (starting_with (log_numbers r) out)
+numbers_after r out = cond (is_refusal (number_of r.stop)) out (starting_with (log_numbers r) out)
 
 -- 12 before all else
 abbrev pub is_short : List ℕ → List ℕ → Bool
@@ -55,7 +55,7 @@ pub data CallsLog (live kind log out : List ℕ) : ℕ → List ℕ → List ℕ
   no_kind : is_short kind out ≡ false → is_kind kind ≡ false
       → CallsLog live kind log out (cond (is_live live) not_fit not_a_chart) live kind out
   called : {r : LogFed} {n : List ℕ} → is_short kind out ≡ false → is_kind kind ≡ true → FedLog live (kind_of kind) log r n
-      → CallsLog live kind log out r.number n (kind_after r kind) (numbers_after r out)
+      → CallsLog live kind log out (number_of r.stop) n (kind_after r kind) (numbers_after r out)
 
 -- what is lent fixes all of it
 pub record CallsTell : Type 0 where

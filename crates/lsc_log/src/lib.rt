@@ -6,6 +6,7 @@ ghost use Rattle.std.specs.Prelude.{◌≡◌, cond, [], ◌∷◌, ◌≤◌, e
 ghost use Rattle.wire.specs.Writing.{starting_with, word_bytes};
 ghost use Rattle.model.specs.Answers.{not_a_chart, not_fit};
 ghost use Rattle.live.specs.Live.{is_live};
+ghost use Rattle.feed_log.specs.Feeds.{number_of};
 ghost use Rattle.lsc_log.specs.Log.{kind_size, kind_of, kind_bytes, log_places, log_numbers, kind_after};
 ghost use Rattle.lsc_log.specs.Log.{numbers_after, CallsLog, CallsTell};
 
@@ -43,8 +44,8 @@ fn put_tagged(out: &mut [u8], tag: u8, stamp: u32)
     requires { kind_size ≤ length out.old }
     ensures { out.new ≡ starting_with (tag ∷ word_bytes stamp) out.old }
 {
-    let next = wire::put_byte(out, 0, tag);
-    wire::put_word32(out, next, stamp);
+    out[0] = tag;
+    out[1..KIND_SIZE].copy_from_slice(&stamp.to_be_bytes());
 }
 
 // Puts a kind.
@@ -59,40 +60,24 @@ fn put_kind(out: &mut [u8], kind: Kind)
     }
 }
 
-// Puts nine numbers at the start of a buffer.
-fn put_nine(out: &mut [u64], a: u64, b: u64, c: u64, d: u64, e: u64, f: u64, g: u64, h: u64, i: u64)
-    requires { log_places ≤ length out.old }
-    ensures { out.new ≡ starting_with (a ∷ b ∷ c ∷ d ∷ e ∷ f ∷ g ∷ h ∷ i ∷ []) out.old }
-{
-    out[0] = a;
-    out[1] = b;
-    out[2] = c;
-    out[3] = d;
-    out[4] = e;
-    out[5] = f;
-    out[6] = g;
-    out[7] = h;
-    out[8] = i;
-}
-
 // Puts the numbers of a call.
 fn put_numbers(out: &mut [u64], r: LogFed)
     requires { log_places ≤ length out.old }
     ensures { out.new ≡ starting_with (log_numbers r) out.old }
 {
     let counts = r.counts;
-    put_nine(
-        out,
-        wire::wide64(r.taken),
+    let numbers = [
+        u64::from(r.taken),
         r.place as u64,
-        r.last as u64,
-        wire::wide64(counts[0]),
-        wire::wide64(counts[1]),
-        wire::wide64(counts[2]),
-        wire::wide64(counts[3]),
-        wire::wide64(counts[4]),
-        wire::wide64(counts[5]),
-    );
+        u64::from(r.last),
+        u64::from(counts[0]),
+        u64::from(counts[1]),
+        u64::from(counts[2]),
+        u64::from(counts[3]),
+        u64::from(counts[4]),
+        u64::from(counts[5]),
+    ];
+    wire::put_numbers(out, numbers);
 }
 
 // Puts the kind after a call that took records.
@@ -111,11 +96,11 @@ fn put_kind_after(out: &mut [u8], taken: u32, kind: Kind)
 fn put_said(kind: &mut [u8], out: &mut [u64], r: LogFed) -> u8
     requires kind_size_in_bounds { kind_size ≤ length kind.old }
     requires log_places_in_bounds { log_places ≤ length out.old }
-    ensures number { result ≡ r.number }
+    ensures number { result ≡ number_of r.stop }
     ensures kind { kind.new ≡ kind_after r kind.old }
     ensures numbers { out.new ≡ numbers_after r out.old }
 {
-    let number = r.number;
+    let number = u8::from(r.stop);
     if (number == NOT_A_CHART) | (number == NOT_FIT) {
         return number;
     }
@@ -129,11 +114,10 @@ fn put_said(kind: &mut [u8], out: &mut [u64], r: LogFed) -> u8
 fn no_kind(live: &[u8]) -> u8
     ensures { result ≡ cond (is_live live.now) not_fit not_a_chart }
 {
-    let chart = live::chart_in(live);
-    if chart.count == 0 {
-        return NOT_A_CHART;
+    match live::chart_if_live(live) {
+        Some(_) => NOT_FIT,
+        None => NOT_A_CHART,
     }
-    NOT_FIT
 }
 
 // Feeds the records that stand in a log's bytes.

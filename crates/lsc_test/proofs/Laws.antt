@@ -10,8 +10,7 @@ use Rattle.model.specs.declared.Chart.{Chart}
 use Rattle.model.specs.declared.Monitor.{Monitor}
 use Rattle.model.specs.declared.Record.{Record}
 use Rattle.model.specs.declared.FeedRefusal.TheVariants.{NotAChart}
-use Rattle.model.specs.declared.Answer.{Answer}
-use Rattle.model.specs.Answers.{feed_refusal_number, too_short, answer_number}
+use Rattle.model.specs.Answers.{feed_refusal_number, too_short, Fed, fed_number}
 use Rattle.monitor.specs.Feed.{made_number, MadeOf}
 use Rattle.monitor.specs.declared.Made.{Made}
 use Rattle.chart_value.specs.WellFormed.{well_formed}
@@ -27,14 +26,14 @@ pub image_short : (image : List ℕ) {l : List ℕ} (e : Record) → length l < 
 image_short image e h =
     record { short = λ g. (refl, refl); by_chart = λ g. absurd (omega arith); none = λ g x. absurd (omega arith) }
 
-pub image_fed : {image l n : List ℕ} {e : Record} {a : Answer} {r : ℕ} (c : Chart) → c ≡ chart_value_of image
-    → monitor_size ≤ length l → LiveFedBy c l e a n → r ≡ answer_number a → FedImage image l e r n
+pub image_fed : {image l n : List ℕ} {e : Record} {a : Fed} {r : ℕ} (c : Chart) → c ≡ chart_value_of image
+    → monitor_size ≤ length l → LiveFedBy c l e a n → r ≡ fed_number a → FedImage image l e r n
 unfolding chart_value_of
 image_fed {image} {l} {n} {e} {a} {r} c p h F q = record {
   short = λ g. absurd (omega arith);
   by_chart = λ g. (a, subst (λ (c : Chart). LiveFedBy c l e a n) p F, q);
   none = λ g x.
-      q ∙ ap answer_number F.ans
+      q ∙ ap fed_number F.ans
       ∙ (exactly_20 c (monitor_in l) e F.taken F.fed).0 (ap well_formed (p ∙ rw x) ∙ zero_refused);
 }
 

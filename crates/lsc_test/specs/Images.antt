@@ -2,8 +2,7 @@
 use Rattle.std.specs.Prelude.{ℕ, ◌≤◌, ◌<◌, ◌≡◌, false, cond, List, ◌++◌, ltb, length, drop}
 use Rattle.model.specs.declared.Record.{Record}
 use Rattle.model.specs.Monitor.{zero_monitor}
-use Rattle.model.specs.declared.Answer.{Answer}
-use Rattle.model.specs.Answers.{too_short, not_a_chart, answer_number}
+use Rattle.model.specs.Answers.{too_short, not_a_chart, Fed, fed_number}
 use Rattle.chart_value.specs.WellFormed.{well_formed}
 use Rattle.monitor_image.specs.MonitorImage.{monitor_size, monitor_bytes}
 use Rattle.chart_image.specs.ChartImage.{is_image, chart_value_of}
@@ -22,5 +21,5 @@ new_bytes l = cond (ltb (length l) monitor_size) l (monitor_bytes zero_monitor +
 pub record FedImage (image l : List ℕ) (e : Record) (number : ℕ) (n : List ℕ) : Type 0 where
   pub short : length l < monitor_size → (number ≡ too_short) × (n ≡ l)
   pub by_chart : monitor_size ≤ length l
-      → (a : Answer) × LiveFedBy (chart_value_of image) l e a n × (number ≡ answer_number a)
+      → (a : Fed) × LiveFedBy (chart_value_of image) l e a n × (number ≡ fed_number a)
   pub none : monitor_size ≤ length l → is_image image ≡ false → number ≡ not_a_chart

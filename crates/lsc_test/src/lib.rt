@@ -12,33 +12,30 @@ ghost use Rattle.breaks.specs.Breaks.{breaks_of};
 ghost use Rattle.chart_writer.specs.Save.{saved_answer, saved_buffer, saved_number, saved_size};
 ghost use Rattle.lsc_test.specs.Checks.{checked_count, asked_code};
 
-use breaks::BreakAnswer;
-use log_check::Checked;
+use chart_value::NotAChart;
+use log_check::JudgeRefusal;
 use model::{Message, Moment, Record, TOO_SHORT};
-use monitor::MadeAnswer;
 
 // What the check returns for a refused log: more than any log without a fault has.
 const REFUSED: u32 = 1_000_001;
 
 // The number of the answer to making a monitor.
-fn made_number(a: MadeAnswer) -> u8
+fn made_number(a: Result<(), NotAChart>) -> u8
     ensures { result ≡ made_number a }
 {
     match a {
-        MadeAnswer::Fresh => 0,
-        MadeAnswer::NoChart => model::NOT_A_CHART,
+        Ok(()) => 0,
+        Err(NotAChart) => model::NOT_A_CHART,
     }
 }
 
 // The number of the answer whether a log breaks a chart.
-fn asked_code(a: BreakAnswer) -> u8
+fn asked_code(a: Result<bool, JudgeRefusal>) -> u8
     ensures { result ≡ asked_code a }
 {
     match a {
-        BreakAnswer::No => 0,
-        BreakAnswer::Yes => 1,
-        BreakAnswer::NoChart => model::NOT_A_CHART,
-        BreakAnswer::Refused(k, _) => log_check::refusal_number(k),
+        Ok(yes) => u8::from(yes),
+        Err(refusal) => u8::from(refusal),
     }
 }
 
@@ -50,7 +47,7 @@ fn feed_image(chart: &[u8], bytes: &mut [u8], e: Record) -> u8
     if bytes.len() < monitor_image::MONITOR_SIZE {
         return TOO_SHORT;
     }
-    model::answer_number(live::feed_chart(chart_image::chart_at(chart), bytes, e))
+    model::fed_number(live::feed_chart(chart_image::chart_at(chart), bytes, e))
 }
 
 // Makes a monitor for the chart value in an image.
@@ -109,10 +106,9 @@ pub extern "C" fn lsc_test_check(log: &[u8]) -> u32
     ensures count { result ≡ checked_count (check_log log.now) }
     ensures unchanged { log.exit.now ≡ log.entry.now }
 {
-    let checked = log_check::check_log(log);
-    match checked {
-        Checked::Fine(n) => n,
-        Checked::Refused(_, _) => REFUSED,
+    match log_check::check_log(log) {
+        Ok(records) => records,
+        Err(_) => REFUSED,
     }
 }
 

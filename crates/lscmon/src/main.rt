@@ -2,16 +2,15 @@
 // to one byte past the limit, and writes what `respond` says.
 #![tactic(auto)]
 
-use respond::Response;
+use respond::{ROOM, TooShort};
 use std::io;
 
 fn main(rt: HostRuntime) -> io::Result<()> {
     let mut input = [0u8; 65537];
     let n = input::read_full(&mut rt.reader(), &mut input)?;
-    let mut out = [0u8; 223];
-    let response = respond::respond(&input[..n], &mut out);
-    match response {
-        Response::Written(m) => rt.write_all(&out[..m]),
-        Response::TooShort => Ok(()),
+    let mut out = [0u8; ROOM];
+    match respond::respond(&input[..n], &mut out) {
+        Ok(m) => rt.write_all(&out[..m]),
+        Err(TooShort) => Ok(()),
     }
 }

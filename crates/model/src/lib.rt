@@ -7,8 +7,8 @@ ghost use Rattle.wire.specs.Writing.{starting_with};
 ghost use Rattle.model.specs.Chart.{zero_term, zero_region, zero_chart, is_plain, is_bare, line_set, touched, touches};
 ghost use Rattle.model.specs.Chart.{most_lines, most_regions};
 ghost use Rattle.model.specs.Monitor.{no_cause, cause_of, zero_break, zero_monitor, time_of, stamp_of, at_moment};
-ghost use Rattle.model.specs.Answers.{feed_refusal_number, answer_number, zero_verdict};
-ghost use Rattle.model.specs.Numbers.{places, verdict_numbers, answer_cause};
+ghost use Rattle.model.specs.Answers.{feed_refusal_number, answer_number, fed_number, zero_verdict};
+ghost use Rattle.model.specs.Numbers.{places, verdict_numbers, answer_cause, fed_cause, relation_number};
 
 pub const LEAST_LINES: u8 = 2;
 
@@ -26,15 +26,15 @@ pub const MOST_RECORDS: u32 = 1_000_000;
 pub const CLOCK_PLACES: usize = MOST_CLOCKS as usize;
 
 // A moment (C15): the ticks since the log began.
-#[derive(Clone, Copy)]
+#[derive(Clone, Copy, Debug, PartialEq, Eq)]
 pub struct Moment(pub u32);
 
 // A length (C15): the ticks between two moments.
-#[derive(Clone, Copy)]
+#[derive(Clone, Copy, Debug, PartialEq, Eq)]
 pub struct Length(pub u32);
 
 // A raw stamp (L8): what a counter of 32 bits showed, which begins again at 0. It is neither a moment nor a length.
-#[derive(Clone, Copy)]
+#[derive(Clone, Copy, Debug, PartialEq, Eq)]
 pub struct Stamp(pub u32);
 
 impl Moment {
@@ -47,7 +47,7 @@ impl Moment {
     }
 }
 
-#[derive(Clone, Copy)]
+#[derive(Clone, Copy, Debug, PartialEq, Eq)]
 pub struct Message {
     pub source: u8,
     pub destination: u8,
@@ -55,13 +55,13 @@ pub struct Message {
 }
 
 // What a region waits for: a message, or, for a plain region, nothing; a plain region names its lines as a set.
-#[derive(Clone, Copy)]
+#[derive(Clone, Copy, Debug, PartialEq, Eq)]
 pub enum Event {
     Message(Message),
     Plain(u16),
 }
 
-#[derive(Clone, Copy)]
+#[derive(Clone, Copy, Debug, PartialEq, Eq)]
 pub enum Relation {
     Less,
     AtMost,
@@ -70,15 +70,30 @@ pub enum Relation {
     More,
 }
 
+// The relation's number: its byte in a chart, and its row in the table of conditions.
+impl From<Relation> for u8 {
+    ghost from_gives = { λ e n. n ≡ relation_number e };
+
+    fn from(e: Relation) -> u8 {
+        match e {
+            Relation::Less => 0,
+            Relation::AtMost => 1,
+            Relation::Equal => 2,
+            Relation::AtLeast => 3,
+            Relation::More => 4,
+        }
+    }
+}
+
 // The left side of a term: a clock, or the first clock minus the second.
-#[derive(Clone, Copy)]
+#[derive(Clone, Copy, Debug, PartialEq, Eq)]
 pub enum Left {
     Clock(u8),
     Difference(u8, u8),
 }
 
 // A term `left relation n`; n is the 32 bits of a signed number.
-#[derive(Clone, Copy)]
+#[derive(Clone, Copy, Debug, PartialEq, Eq)]
 pub struct Term {
     pub left: Left,
     pub relation: Relation,
@@ -86,7 +101,8 @@ pub struct Term {
 }
 
 // A region; `rest` is the mark of a place to rest (C20), `hot` its condition's temperature, `resets` a set of clocks.
-#[derive(Clone, Copy)]
+// Here and in a chart a count stands beside an array: a caller's value may hold any count, and M4 says which are charts.
+#[derive(Clone, Copy, Debug, PartialEq, Eq)]
 pub struct Region {
     pub event: Event,
     pub rest: bool,
@@ -97,7 +113,7 @@ pub struct Region {
 }
 
 // A chart: its regions in file order, of which the first `prechart` are the prechart's.
-#[derive(Clone, Copy)]
+#[derive(Clone, Copy, Debug, PartialEq, Eq)]
 pub struct Chart {
     pub lines: u8,
     pub clocks: u8,
@@ -147,10 +163,7 @@ pub fn zero_chart() -> Chart
 pub fn is_plain(e: Event) -> bool
     ensures { result ≡ is_plain e }
 {
-    match e {
-        Event::Plain(_) => true,
-        Event::Message(_) => false,
-    }
+    matches!(e, Event::Plain(_))
 }
 
 // No message, no term, no reset: C14 forbids it.
@@ -180,12 +193,13 @@ pub fn touched(e: Event) -> u16
 }
 
 // A record of the log: a message, or time alone.
-#[derive(Clone, Copy)]
+#[derive(Clone, Copy, Debug, PartialEq, Eq)]
 pub enum Record {
     Message(Message, Moment),
     Time(Moment),
 }
 
+// This, `stamp_of` and `at_moment` are functions as their definitions are: methods would be no plainer.
 pub fn time_of(e: Record) -> Moment
     ensures { result ≡ time_of e }
 {
@@ -196,7 +210,7 @@ pub fn time_of(e: Record) -> Moment
 }
 
 // A record of a log with raw stamps (L7), which has no moment of its own.
-#[derive(Clone, Copy)]
+#[derive(Clone, Copy, Debug, PartialEq, Eq)]
 pub enum RawRecord {
     Message(Message, Stamp),
     Time(Stamp),
@@ -222,14 +236,15 @@ pub fn at_moment(e: RawRecord, t: Moment) -> Record
 }
 
 // Where a round stands: the fired regions as a set, and each clock's reset moment.
-#[derive(Clone, Copy)]
+#[derive(Clone, Copy, Debug, PartialEq, Eq)]
 pub struct Place {
     pub fired: u32,
     pub resets: [Moment; CLOCK_PLACES],
 }
 
 // Which condition decided: its region and the first of its terms that fails, both counted from 1; zeros where none did.
-#[derive(Clone, Copy)]
+// No Option, here and below: a monitor that a caller hands in may hold any numbers, and M10 says which of them fit.
+#[derive(Clone, Copy, Debug, PartialEq, Eq)]
 pub struct Cause {
     pub region: u8,
     pub term: u8,
@@ -255,7 +270,7 @@ pub fn cause_of(i: usize, term: u8) -> Cause
 
 // Where and why a log is broken: the record's number, the reason and, for a condition, the cause; all zero if there is
 // no break.
-#[derive(Clone, Copy)]
+#[derive(Clone, Copy, Debug, PartialEq, Eq)]
 pub struct Break {
     pub at: u32,
     pub reason: u8,
@@ -274,7 +289,7 @@ pub fn no_break() -> Break
 }
 
 // Now, which is the time of the last record; how many records, kept and dropped rounds there were; the break.
-#[derive(Clone, Copy)]
+#[derive(Clone, Copy, Debug, PartialEq, Eq)]
 pub struct Tally {
     pub now: Moment,
     pub records: u32,
@@ -284,7 +299,7 @@ pub struct Tally {
 }
 
 // What a monitor holds.
-#[derive(Clone, Copy)]
+#[derive(Clone, Copy, Debug, PartialEq, Eq)]
 pub struct Monitor {
     pub place: Place,
     pub tally: Tally,
@@ -320,7 +335,7 @@ pub const TIME_FALLS: u8 = 22;
 pub const TOO_MANY_RECORDS: u8 = 23;
 
 // Why a record is refused.
-#[derive(Clone, Copy)]
+#[derive(Clone, Copy, Debug, PartialEq, Eq)]
 pub enum FeedRefusal {
     NotAChart,
     Unfit,
@@ -328,10 +343,10 @@ pub enum FeedRefusal {
     TooManyRecords,
 }
 
-// The answer to a record (T27); a break with its record and reason; a break and a drop with their cause.
-#[derive(Clone, Copy)]
+// The answer to a record that is not refused (T27); a break with its record and reason; a break and a drop with their
+// cause.
+#[derive(Clone, Copy, Debug, PartialEq, Eq)]
 pub enum Answer {
-    Refused(FeedRefusal),
     Broken(u32, u8, Cause),
     Kept,
     Dropped(Cause),
@@ -340,48 +355,70 @@ pub enum Answer {
     Quiet,
 }
 
-pub fn feed_refusal_number(k: FeedRefusal) -> u8
-    ensures { result ≡ feed_refusal_number k }
-{
-    match k {
-        FeedRefusal::NotAChart => NOT_A_CHART,
-        FeedRefusal::Unfit => NOT_FIT,
-        FeedRefusal::TimeFalls => TIME_FALLS,
-        FeedRefusal::TooManyRecords => TOO_MANY_RECORDS,
+impl From<FeedRefusal> for u8 {
+    ghost from_gives = { λ k n. n ≡ feed_refusal_number k };
+
+    fn from(k: FeedRefusal) -> u8 {
+        match k {
+            FeedRefusal::NotAChart => NOT_A_CHART,
+            FeedRefusal::Unfit => NOT_FIT,
+            FeedRefusal::TimeFalls => TIME_FALLS,
+            FeedRefusal::TooManyRecords => TOO_MANY_RECORDS,
+        }
     }
 }
 
-pub fn answer_number(a: Answer) -> u8
-    ensures { result ≡ answer_number a }
-{
-    match a {
-        Answer::Refused(k) => feed_refusal_number(k),
-        Answer::Broken(_, _, _) => 1,
-        Answer::Kept => 2,
-        Answer::Dropped(_) => 3,
-        Answer::Entered => 4,
-        Answer::Moved => 5,
-        Answer::Quiet => 6,
+impl From<Answer> for u8 {
+    ghost from_gives = { λ a n. n ≡ answer_number a };
+
+    fn from(a: Answer) -> u8 {
+        match a {
+            Answer::Broken(_, _, _) => 1,
+            Answer::Kept => 2,
+            Answer::Dropped(_) => 3,
+            Answer::Entered => 4,
+            Answer::Moved => 5,
+            Answer::Quiet => 6,
+        }
     }
 }
 
-// The cause that an answer has; zeros for every answer but broken and dropped.
-pub fn answer_cause(a: Answer) -> Cause
-    ensures { result ≡ answer_cause a }
-{
-    match a {
-        Answer::Refused(_) => no_cause(),
-        Answer::Broken(_, _, cause) => cause,
-        Answer::Kept => no_cause(),
-        Answer::Dropped(cause) => cause,
-        Answer::Entered => no_cause(),
-        Answer::Moved => no_cause(),
-        Answer::Quiet => no_cause(),
+impl Answer {
+    // The cause that the answer has; zeros for every answer but broken and dropped.
+    pub fn cause(self) -> Cause
+        ensures { result ≡ answer_cause self }
+    {
+        match self {
+            Answer::Broken(_, _, cause) | Answer::Dropped(cause) => cause,
+            _ => no_cause(),
+        }
     }
 }
 
-// What judging a log finds (J6).
-#[derive(Clone, Copy)]
+// The number of what a feed says: that of the answer, or of the refusal. A function and no From, since Result and u8
+// are both the library's.
+pub fn fed_number(fed: Result<Answer, FeedRefusal>) -> u8
+    ensures { result ≡ fed_number fed }
+{
+    match fed {
+        Ok(answer) => u8::from(answer),
+        Err(refusal) => u8::from(refusal),
+    }
+}
+
+// The cause that a feed gives out; zeros with a refusal.
+pub fn fed_cause(fed: Result<Answer, FeedRefusal>) -> Cause
+    ensures { result ≡ fed_cause fed }
+{
+    match fed {
+        Ok(answer) => answer.cause(),
+        Err(_) => no_cause(),
+    }
+}
+
+// What judging a log finds: the numbers of J6, all zero for a refused log (J5). Numbers and no enum for the standing too:
+// `put_verdict` takes any.
+#[derive(Clone, Copy, Debug, PartialEq, Eq)]
 pub struct Verdict {
     pub standing: u8,
     pub kept: u32,
@@ -412,19 +449,21 @@ pub fn zero_verdict() -> Verdict
 // How many places of a buffer a verdict or a refusal takes.
 pub const PLACES: usize = 8;
 
-// Puts eight numbers at the start of a buffer.
-pub fn put_eight(out: &mut [u64], a: u64, b: u64, c: u64, d: u64, e: u64, f: u64, g: u64, h: u64)
-    requires { places ≤ length out.old }
-    ensures { out.new ≡ starting_with (a ∷ b ∷ c ∷ d ∷ e ∷ f ∷ g ∷ h ∷ []) out.old }
-{
-    out[0] = a;
-    out[1] = b;
-    out[2] = c;
-    out[3] = d;
-    out[4] = e;
-    out[5] = f;
-    out[6] = g;
-    out[7] = h;
+impl From<Verdict> for [u64; PLACES] {
+    ghost from_gives = { λ v numbers. numbers ≡ verdict_numbers v };
+
+    fn from(v: Verdict) -> [u64; PLACES] {
+        [
+            u64::from(v.standing),
+            u64::from(v.kept),
+            u64::from(v.dropped),
+            u64::from(v.records),
+            u64::from(v.broken),
+            u64::from(v.reason),
+            u64::from(v.region),
+            u64::from(v.term),
+        ]
+    }
 }
 
 // Puts a verdict's numbers at the start of a buffer.
@@ -432,15 +471,5 @@ pub fn put_verdict(out: &mut [u64], v: Verdict)
     requires { places ≤ length out.old }
     ensures { out.new ≡ starting_with (verdict_numbers v) out.old }
 {
-    put_eight(
-        out,
-        v.standing as u64,
-        v.kept as u64,
-        v.dropped as u64,
-        v.records as u64,
-        v.broken as u64,
-        v.reason as u64,
-        v.region as u64,
-        v.term as u64,
-    );
+    wire::put_numbers(out, v.into());
 }

@@ -2,7 +2,6 @@
 use mathlib.Core.Path.{◌≡◌, ap, ◌∙◌}
 use mathlib.Core.Logic.{◌⊎◌, inl, inr}
 use mathlib.Core.Bool.{false, not, So, ◌&&◌}
-use mathlib.Core.List.{List}
 use Prim.Native.Nat.{ℕ, ◌+◌, ◌*◌, ◌-◌, ◌≤◌, ◌<◌}
 use native.Mathlib.Decide.{dec_lt}
 use native.Mathlib.Omega.{arith}
@@ -18,8 +17,10 @@ use Rattle.base.proofs.Facts.{count_bound, count_below_lem}
 use Rattle.rounds.specs.Chart.{Chart as Abstract}
 use Rattle.rounds.specs.Feeds.{no_ready_region, condition_fails}
 use Rattle.rounds.specs.Machine.{CauseIn}
-use Rattle.layout.specs.declared.Head.{Head}
-use Rattle.layout.specs.View.{terms_by, plan_chart, Words}
+use Rattle.layout.specs.declared.compiled.Plan.{Plan}
+use Rattle.layout.specs.View.{terms_by}
+use Rattle.layout.specs.Plans.{chart_of_plan}
+use Rattle.layout.proofs.Plans.{compiled}
 use Rattle.monitor.specs.Fit.{is_zero, cause_fits, break_fits}
 
 zero_of : (x : Cause) → So (is_zero x) → x ≡ no_cause
@@ -121,50 +122,47 @@ from_zero t n h = elim (dec_lt (t - 1) n) [
   | no l ↦ let m : n ≤ t - 1 = omega arith in let k : n < t = omega arith in rw (le-ltb (t - 1) n m, lt-leb t n k)
 ]
 
--- the cause by the words of a compiled chart that has n regions
-module _ (h : Head) (keys above resets terms : List ℕ) (x : Cause) {n : ℕ} (e : h.count ≡ n) where
-  abbrev compiled : Abstract
-  compiled = plan_chart h keys above resets terms
-
-  pub no_region : (x.region ≡ 0) ⊎ (n < x.region) → false ≡ cause_fits compiled x
+-- the cause by the words of a plan
+module _ (p : Plan) (x : Cause) where
+  pub no_region : (x.region ≡ 0) ⊎ (p.head.count < x.region) → false ≡ cause_fits (chart_of_plan p) x
   unfolding cause_fits
   no_region (inl z) = rw z
   no_region (inr l) = let a : 1 ≤ x.region = omega arith in
-      rw (e, le-leb 1 x.region a, lt-leb x.region n l)
+      rw (le-leb 1 x.region a, lt-leb x.region p.head.count l)
 
-  module _ (z : ¬ (x.region ≡ 0)) (l : x.region ≤ n) where
+  module _ (z : ¬ (x.region ≡ 0)) (l : x.region ≤ p.head.count) where
     some_region : 1 ≤ x.region
     some_region = omega (arith, z)
 
-    pub no_term : (x.term ≡ 0) ⊎ (most_terms < x.term) → false ≡ cause_fits compiled x
+    pub no_term : (x.term ≡ 0) ⊎ (most_terms < x.term) → false ≡ cause_fits (chart_of_plan p) x
     unfolding cause_fits
-    no_term (inl t) = rw (e, le-leb 1 x.region some_region, le-leb x.region n l, t)
+    no_term (inl t) = rw (le-leb 1 x.region some_region, le-leb x.region p.head.count l, t)
     no_term (inr k) =
         let a : 1 ≤ x.term = omega arith in
-        let b : terms_by terms (x.region - 1) < x.term = omega (
+        let b : terms_by p.terms (x.region - 1) < x.term = omega (
           arith,
           count_bound most_terms
-              (λ j. not (eqb (get_or terms ((x.region - 1) * most_terms + j) 0) 0)),
+              (λ j. not (eqb (get_or p.terms ((x.region - 1) * most_terms + j) 0) 0)),
         ) in
         rw (
-          e,
           le-leb 1 x.region some_region,
-          le-leb x.region n l,
+          le-leb x.region p.head.count l,
           le-leb 1 x.term a,
-          lt-leb x.term (terms_by terms (x.region - 1)) b,
+          lt-leb x.term (terms_by p.terms (x.region - 1)) b,
         )
 
-    pub by_word : Words h.clocks terms → ¬ (x.term ≡ 0) → x.term ≤ most_terms
-        → not (eqb (get_or terms ((x.region - 1) * most_terms + (x.term - 1)) 0) 0) ≡ cause_fits compiled x
+    pub by_word : ¬ (x.term ≡ 0) → x.term ≤ most_terms
+        → not (eqb (get_or p.terms ((x.region - 1) * most_terms + (x.term - 1)) 0) 0)
+        ≡ cause_fits (chart_of_plan p) x
     unfolding cause_fits
-    by_word W s b =
+    by_word s b =
         let a : 1 ≤ x.term = omega (arith, s) in
         let k : x.term - 1 < most_terms = omega arith in
-        rw (e, le-leb 1 x.region some_region, le-leb x.region n l, le-leb 1 x.term a)
-        (count_below_lem most_terms (λ j. not (eqb (get_or terms ((x.region - 1) * most_terms + j) 0) 0)) closed (x.term - 1) k
-        ∙ from_zero x.term (terms_by terms (x.region - 1)) a)
+        rw (le-leb 1 x.region some_region, le-leb x.region p.head.count l, le-leb 1 x.term a)
+        (count_below_lem most_terms (λ j. not (eqb (get_or p.terms ((x.region - 1) * most_terms + j) 0) 0)) closed (x.term - 1) k
+        ∙ from_zero x.term (terms_by p.terms (x.region - 1)) a)
       where
         closed : (j k : ℕ) → j ≤ k → k < most_terms
-            → not (eqb (get_or terms ((x.region - 1) * most_terms + j) 0) 0) ≡ false
-            → not (eqb (get_or terms ((x.region - 1) * most_terms + k) 0) 0) ≡ false
-        closed j k p q e = rw (W.ends (x.region - 1) j k p q (eqb-true _ _ (not-false _ e)))
+            → not (eqb (get_or p.terms ((x.region - 1) * most_terms + j) 0) 0) ≡ false
+            → not (eqb (get_or p.terms ((x.region - 1) * most_terms + k) 0) 0) ≡ false
+        closed j k q r e = rw ((compiled p).words.ends (x.region - 1) j k q r (eqb-true _ _ (not-false _ e)))

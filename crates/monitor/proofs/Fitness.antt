@@ -1,7 +1,7 @@
 -- The test of a monitor is the list of M10. Assumes nothing.
 use mathlib.Core.Path.{◌≡◌, refl, sym, ap, subst, ◌∙◌}
 use mathlib.Core.Logic.{inl, inr, ◌↔◌}
-use mathlib.Core.Bool.{Bool, true, false, not, So, ◌&&◌, ◌||◌}
+use mathlib.Core.Bool.{Bool, true, false, true≢false, false≢true, not, So, ◌&&◌, ◌||◌}
 use mathlib.Core.Option.{Option, none, some}
 use mathlib.Core.List.{List}
 use Prim.Native.Nat.{ℕ, ◌+◌, ◌*◌, ◌-◌, ◌≤◌, ◌<◌, ◌^◌}
@@ -20,7 +20,7 @@ use Rattle.model.specs.declared.Place.{Place}
 use Rattle.model.specs.declared.Monitor.{Monitor}
 use Rattle.model.specs.Chart.{most_clocks}
 use Rattle.model.specs.Answers.{most_records}
-use Rattle.base.specs.Lists.{all_below, first}
+use Rattle.base.specs.Lists.{all_below}
 use Rattle.rounds.specs.Chart.{Chart as Abstract, Accepted}
 use Rattle.rounds.specs.Rows.{plain, Ready, Full}
 use Rattle.rounds.specs.Machine.{full, ready_plain, Fit}
@@ -28,12 +28,12 @@ use Rattle.base.proofs.Bools.{split, clash, and_both, and_left, and_right, or_le
 use Rattle.base.proofs.Facts.{all_of, all_at, all_same}
 use Rattle.rounds.proofs.Machine.{full_true, full_false, plain_none, plain_is_none}
 use Rattle.layout.specs.declared.Head.{Head}
-use Rattle.firing.specs.declared.Found.{Found}
+use Rattle.std.specs.Prelude.{is_some, Some, None, Option as Found}
 use Rattle.firing.specs.Places.{moments_of}
 use Rattle.stepping.specs.Monitors.{monitor_at}
 use Rattle.layout.specs.View.{plan_chart, Compiled}
-use Rattle.firing.specs.Parts.{ready_by, found_of}
-use Rattle.firing.proofs.Ready.{lt_two_pow, subset_all, found_plain}
+use Rattle.firing.specs.Parts.{found_of}
+use Rattle.firing.proofs.Ready.{lt_two_pow, subset_all}
 use Rattle.monitor.specs.Fit.{closed_upward, is_none, rests_unless_broken, moments_fit, break_fits, counts_fit}
 use Rattle.monitor.specs.Fit.{place_fits, fits}
 use Rattle.monitor.proofs.Breaks.{break_of, of_break}
@@ -200,6 +200,12 @@ module _ (C : Abstract) (A : Accepted C) (m : Monitor) where
       → (r ≡ true) ↔ Fit C (monitor_at m)
   fit_exactly size r e = (λ p. fit_of size (sym e ∙ p), λ F. e ∙ of_fit F)
 
+found_none : (o : Found ℕ) (b : Bool) → is_some o ≡ not b → b ≡ is_none (found_of o)
+found_none (Some i) true e = absurd (true≢false e)
+found_none (Some i) false e = refl
+found_none None true e = refl
+found_none None false e = absurd (false≢true e)
+
 module _ {h : Head} {keys above resets terms : List ℕ} (K : Compiled h keys above resets terms) where
   abbrev compiled : Abstract
   compiled = plan_chart h keys above resets terms
@@ -213,19 +219,18 @@ module _ {h : Head} {keys above resets terms : List ℕ} (K : Compiled h keys ab
       (subset_all h.count (get_or above i 0) f (λ a p. omega (arith, K.accepted.downward a i p))))
 
   -- the tests of a place joined as the code joins them
-  pub tested : (x : Place) (t b : ℕ) (closed set all rests moments : Bool) (o : Found)
+  pub tested : (x : Place) (t b : ℕ) (closed set all rests moments : Bool) (o : Found ℕ)
       → closed ≡ all_below h.count (λ i. not (contains x.fired i) || is_subset (get_or above i 0) x.fired)
       → set ≡ within h.count x.fired
       → all ≡ all_below h.count (contains x.fired)
-      → found_of o ≡ first h.count (λ i. contains h.plain i && ready_by above x.fired i)
-      → rests ≡ is_none (found_of o)
+      → found_of o ≡ ready_plain compiled (contains x.fired)
+      → is_some o ≡ not rests
       → moments ≡ moments_fit h.clocks x.resets t
       → (closed && (set && (not all && ((not (eqb b 0) || rests) && moments)))) ≡ place_fits compiled x t b
   unfolding place_fits full rests_unless_broken
   tested x t b closed set all rests moments o e₁ e₂ e₃ f e₄ e₅ =
-      let n = found_plain K x.fired o refl f in
       λ i. (e₁ ∙ closed_same x.fired) i &&
-      (e₂ i && (not (e₃ i) && ((not (eqb b 0) || (e₄ ∙ ap is_none (sym n)) i) && e₅ i)))
+      (e₂ i && (not (e₃ i) && ((not (eqb b 0) || (found_none o rests e₄ ∙ ap is_none f) i) && e₅ i)))
 
   -- what `is_fit` promises, from the tests of the place and of the tally
   pub fit_test : (m : Monitor) → length m.place.resets ≡ most_clocks → (place counts break : Bool)

@@ -12,7 +12,7 @@ use Rattle.model.specs.declared.Monitor.{Monitor}
 use Rattle.model.specs.declared.Record.{Record}
 use Rattle.model.specs.Chart.{most_regions}
 use Rattle.model.specs.Monitor.{zero_monitor}
-use Rattle.model.specs.declared.Answer.TheVariants.{Refused}
+use Rattle.std.specs.Prelude.{Err}
 use Rattle.model.specs.declared.FeedRefusal.{FeedRefusal}
 use Rattle.model.specs.declared.FeedRefusal.TheVariants.{NotAChart, Unfit}
 use Rattle.model.specs.Answers.{time_falls, too_many_records, feed_refusal_number}
@@ -26,7 +26,7 @@ use Rattle.rounds.specs.Machine.{Monitor as AbstractMonitor, Step as AbstractSte
 use Rattle.rounds.specs.Demand3.{Demand3}
 use Rattle.rounds.proofs.Demand3.{demand_3}
 use Rattle.stepping.specs.declared.Step.{Step}
-use Rattle.stepping.specs.Answers.{answer_of}
+use Rattle.stepping.specs.Answers.{fed_answer}
 use Rattle.stepping.specs.Monitors.{monitor_at, step_of}
 use Rattle.stepping.proofs.Zeros.{zero_fresh}
 use Rattle.stepping.proofs.Back.{refuses_with}
@@ -88,7 +88,7 @@ module _ (c : Chart) (wf : well_formed c ≡ true) (A : Accepted (chart_of c)) w
       let a = answered_as (chart_of c) (after (chart_of c) (logged es)) (log_record e) in
       let n = stored_as (chart_of c) w.room w.clocks (D.stays_fit (logged (es ▸ e))) in
       record {
-        ans = x.ans ▸ answer_of a.answer;
+        ans = x.ans ▸ fed_answer a.answer;
         monitor = n.monitor;
         history = one_more e (record { answer = a.answer; next = n.monitor }) x.history
             ((λ i. record { answer = a.tells i; next = n.shows i }) ∙ sym (fed_after g e));
@@ -99,9 +99,9 @@ module _ (c : Chart) (wf : well_formed c ≡ true) (A : Accepted (chart_of c)) w
   never : {es : Snoc Record} {ans : Snoc AbstractAnswer} {m : Monitor} → Goes es ans m → (e : Record) (r : Step)
       → step_of r ≡ feed_of c m e
       → (k : FeedRefusal) → feed_refusal_number k ≢ time_falls → feed_refusal_number k ≢ too_many_records
-      → r.answer ≢ Refused k
+      → r.answer ≢ Err k
   never {es} g e r h k n l q = elim (refuses_with (chart_of c) (after (chart_of c) (logged es)) (log_record e)
-      (sym (ap (λ (x : AbstractStep). x.answer) (step_after g e r h)) ∙ ap answer_of q)) [ inl p ↦ n p | inr p ↦ l p ]
+      (sym (ap (λ (x : AbstractStep). x.answer) (step_after g e r h)) ∙ ap fed_answer q)) [ inl p ↦ n p | inr p ↦ l p ]
 
   pub feeding : Feeding c
   feeding = record {

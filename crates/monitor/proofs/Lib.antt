@@ -4,3 +4,4 @@ pub mod Feeding
 pub mod Owned
 pub mod Storing
 pub mod History
+pub mod Tests

@@ -19,17 +19,17 @@ use Rattle.model.specs.declared.Moment.{Moment}
 use Rattle.model.specs.declared.Tally.{Tally}
 use Rattle.model.specs.declared.Monitor.{Monitor}
 use Rattle.model.specs.Chart.{most_regions, most_clocks}
-use Rattle.model.specs.declared.Answer.{Answer}
-use Rattle.model.specs.declared.Answer.TheVariants.{Refused, Broken, Kept, Dropped, Entered, Moved, Quiet}
+use Rattle.std.specs.Prelude.{Ok, Err}
+use Rattle.model.specs.declared.Answer.TheVariants.{Broken, Kept, Dropped, Entered, Moved, Quiet}
 use Rattle.model.specs.declared.FeedRefusal.TheVariants.{TimeFalls, TooManyRecords}
-use Rattle.model.specs.Answers.{most_records}
+use Rattle.model.specs.Answers.{Fed, most_records}
 use Rattle.rounds.specs.Chart.{Chart as Abstract}
 use Rattle.rounds.specs.Rows.{LogRecord}
 use Rattle.rounds.specs.Tally.{Tally as AbstractTally}
 use Rattle.rounds.specs.Feeds.{Answer as AbstractAnswer, refused, broken_at, kept_now, dropped_now, entered, moved, quiet}
 use Rattle.rounds.specs.Machine.{Monitor as AbstractMonitor, Fit, accept, feed}
 use Rattle.base.proofs.Bools.{split, or_right}
-use Rattle.stepping.specs.Answers.{answer_of}
+use Rattle.stepping.specs.Answers.{fed_answer}
 use Rattle.firing.specs.Places.{moments_of}
 use Rattle.stepping.specs.Monitors.{monitor_at}
 use Rattle.stepping.proofs.Back.{NotRefused, accept_taken}
@@ -136,31 +136,31 @@ module _ (C : Abstract) (few : C.regions ≤ most_regions) (clocks : C.clocks �
 
 -- an answer that is given
 pub record AnsweredAs (a : AbstractAnswer) : Type 0 where
-  pub answer : Answer
-  pub tells : answer_of answer ≡ a
+  pub answer : Fed
+  pub tells : fed_answer answer ≡ a
 
 answered_so : (a : AbstractAnswer) → NotRefused a → AnsweredAs a
 unfolding NotRefused
 answered_so (refused k) t = absurd t
-answered_so (broken_at n k x) t = record { answer = Broken n k x; tells = refl }
-answered_so kept_now t = record { answer = Kept; tells = refl }
-answered_so (dropped_now x) t = record { answer = Dropped x; tells = refl }
-answered_so entered t = record { answer = Entered; tells = refl }
-answered_so moved t = record { answer = Moved; tells = refl }
-answered_so quiet t = record { answer = Quiet; tells = refl }
+answered_so (broken_at n k x) t = record { answer = Ok (Broken n k x); tells = refl }
+answered_so kept_now t = record { answer = Ok Kept; tells = refl }
+answered_so (dropped_now x) t = record { answer = Ok (Dropped x); tells = refl }
+answered_so entered t = record { answer = Ok Entered; tells = refl }
+answered_so moved t = record { answer = Ok Moved; tells = refl }
+answered_so quiet t = record { answer = Ok Quiet; tells = refl }
 
 pub answered_as : (C : Abstract) (m : AbstractMonitor) (e : LogRecord) → AnsweredAs (feed C m e).answer
 unfolding feed
 answered_as C m e = elim (split (eqb m.tally.broken.at 0)) [
   | inl p ↦ elim (split (ltb e.time m.tally.now)) [
-    | inl q ↦ record { answer = Refused TimeFalls; tells = rw (p, q) }
+    | inl q ↦ record { answer = Err TimeFalls; tells = rw (p, q) }
     | inr q ↦ elim (split (leb most_records m.tally.records)) [
-      | inl r ↦ record { answer = Refused TooManyRecords; tells = rw (p, q, r) }
+      | inl r ↦ record { answer = Err TooManyRecords; tells = rw (p, q, r) }
       | inr r ↦
           let t = answered_so (accept C m e).answer (accept_taken C m e) in
           record { answer = t.answer; tells = rw (p, q, r) t.tells }
     ]
   ]
   | inr p ↦
-      let b = m.tally.broken in record { answer = Broken b.at b.reason b.cause; tells = rw p }
+      let b = m.tally.broken in record { answer = Ok (Broken b.at b.reason b.cause); tells = rw p }
 ]

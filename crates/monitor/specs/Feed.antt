@@ -1,5 +1,5 @@
 -- Making a monitor and feeding it a record, as it is computed.
-use Rattle.std.specs.Prelude.{◌≡◌, cond, not, ℕ}
+use Rattle.std.specs.Prelude.{◌≡◌, cond, not, ℕ, Result, Ok, Err}
 use Rattle.model.specs.declared.Chart.{Chart}
 use Rattle.model.specs.declared.Monitor.{Monitor}
 use Rattle.model.specs.declared.Record.{Record}
@@ -13,16 +13,15 @@ use Rattle.chart_value.specs.View.{chart_of}
 use Rattle.rounds.specs.Feeds.{refused}
 use Rattle.rounds.specs.Machine as machine
 use Rattle.stepping.specs.Monitors.{monitor_at}
-use Rattle.monitor.specs.declared.MadeAnswer.{MadeAnswer}
-use Rattle.monitor.specs.declared.MadeAnswer.TheVariants.{Fresh, NoChart}
+use Rattle.chart_value.specs.declared.accepted.NotAChart as declared
 use Rattle.monitor.specs.declared.Made.{Made}
 use Rattle.monitor.specs.Stored.{Stored}
 use Rattle.monitor.specs.Fit.{fits}
 
 -- M8: 0 made, 20 no chart
-abbrev pub made_number : MadeAnswer → ℕ
-made_number Fresh = 0
-made_number NoChart = not_a_chart
+abbrev pub made_number : Result (Unit {0}) declared.NotAChart → ℕ
+made_number (Ok x) = 0
+made_number (Err e) = not_a_chart
 
 -- M8: making a monitor; with both answers it is a monitor of zeros.
 pub record MadeOf (c : Chart) (r : Made) : Type 0 where

@@ -1,17 +1,16 @@
 -- Lists of feeds, and that they give what the machine gives.
-use Rattle.std.specs.Prelude.{◌≡◌, ◌≢◌}
+use Rattle.std.specs.Prelude.{◌≡◌, ◌≢◌, Err}
 use Rattle.model.specs.declared.Chart.{Chart}
 use Rattle.model.specs.declared.Monitor.{Monitor}
 use Rattle.model.specs.declared.Record.{Record}
 use Rattle.model.specs.Monitor.{zero_monitor}
-use Rattle.model.specs.declared.Answer.TheVariants.{Refused}
 use Rattle.model.specs.declared.FeedRefusal.TheVariants.{NotAChart, Unfit}
 use Rattle.chart_value.specs.View.{chart_of}
 use Rattle.base.specs.Lists.{Snoc, ε, ◌▸◌}
 use Rattle.rounds.specs.Feeds.{Answer as AbstractAnswer}
 use Rattle.rounds.specs.Machine.{Fit, feed, after, answers}
 use Rattle.stepping.specs.declared.Step.{Step}
-use Rattle.stepping.specs.Answers.{answer_of}
+use Rattle.stepping.specs.Answers.{fed_answer}
 use Rattle.stepping.specs.Monitors.{monitor_at, step_of}
 use Rattle.monitor.specs.Feed.{feed_of}
 use Rattle.monitor.specs.Stored.{Stored}
@@ -23,7 +22,7 @@ pub data History (c : Chart) : Snoc Record → Snoc AbstractAnswer → Monitor �
   none_yet : History c ε ε zero_monitor
   one_more : {es : Snoc Record} {ans : Snoc AbstractAnswer} {m : Monitor} (e : Record) (r : Step) → History c es ans m
       → step_of r ≡ feed_of c m e
-      → History c (es ▸ e) (ans ▸ answer_of r.answer) r.next
+      → History c (es ▸ e) (ans ▸ fed_answer r.answer) r.next
 
 -- a list of feeds over the records, whose monitor is one that can be stored
 pub record HistoryOver (c : Chart) (es : Snoc Record) : Type 0 where
@@ -46,7 +45,7 @@ pub record Feeding (c : Chart) : Type 0 where
   -- W29: 20 and 21 never occur in it
   pub never_refused : {es : Snoc Record} {ans : Snoc AbstractAnswer} {m : Monitor} → History c es ans m
       → (e : Record) (r : Step) → step_of r ≡ feed_of c m e
-      → (r.answer ≢ Refused NotAChart) × (r.answer ≢ Refused Unfit)
+      → (r.answer ≢ Err NotAChart) × (r.answer ≢ Err Unfit)
 
 -- the view of a monitor fixes every field of it
 abbrev pub ViewTells : Type 0

@@ -1,15 +1,17 @@
 -- A monitor's image gives the monitor back. Assumes nothing.
-use mathlib.Core.Path.{◌≡◌, refl, ap, ◌∙◌}
+use mathlib.Core.Path.{◌≡◌, refl, sym, ap, ◌∙◌}
 use mathlib.Core.List.{List, [], ◌∷◌, ◌++◌}
 use Prim.Native.Nat.{ℕ, ◌≤◌, ◌<◌, ◌^◌}
 use native.Mathlib.Omega.{arith}
-use lib.ListN.{length, drop}
+use lib.ListN.{length, take, drop}
+use Rattle.std.specs.List.{flat_map}
+use Rattle.std.proofs.lemmas.List.{take_all}
 use Rattle.model.specs.declared.Moment.{Moment}
 use Rattle.model.specs.declared.Monitor.{Monitor}
 use Rattle.firing.specs.Places.{moments_of}
-use Rattle.wire.specs.Writing.{Wrote}
+use Rattle.wire.specs.Writing.{Wrote, word_bytes}
 use Rattle.wire.proofs.Writing.{word_back, at_start}
-use Rattle.monitor_image.specs.MonitorImage.{monitor_size, monitor_bytes, monitor_in}
+use Rattle.monitor_image.specs.MonitorImage.{monitor_size, words_bytes, moment_numbers, monitor_bytes, monitor_in}
 
 -- what the types say of a monitor's numbers
 pub record Small (m : Monitor) : Type 0 where
@@ -36,6 +38,12 @@ eight (a ∷ b ∷ c ∷ d ∷ e ∷ f ∷ []) h = absurd (omega arith)
 eight (a ∷ b ∷ c ∷ d ∷ e ∷ f ∷ g ∷ []) h = absurd (omega arith)
 eight (a ∷ b ∷ c ∷ d ∷ e ∷ f ∷ g ∷ k ∷ []) h = refl
 eight (a ∷ b ∷ c ∷ d ∷ e ∷ f ∷ g ∷ k ∷ x ∷ l) h = absurd (omega arith)
+
+-- their bytes
+pub all_moments : (r : List Moment) (k : ℕ) → length r ≡ 8 → 8 ≤ k
+    → flat_map (λ r. word_bytes r.0) (take k r) ≡ words_bytes (moment_numbers r)
+all_moments r k e h =
+    ap (λ (r : List Moment). flat_map (λ r. word_bytes r.0) r) (take_all k r (omega arith) ∙ sym (eight r e))
 
 -- the image gives the monitor
 pub monitor_read : (m : Monitor) (rest : List ℕ) → Small m → monitor_in (monitor_bytes m ++ rest) ≡ m

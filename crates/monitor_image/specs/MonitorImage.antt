@@ -1,6 +1,7 @@
 -- V1, V2: a monitor's image. Four bytes for each number, one each for the reason, the cause's region and its term; the
 -- most significant byte first (N3).
 use Rattle.std.specs.Prelude.{ℕ, List, [], ◌∷◌, ◌++◌, get_or}
+use Rattle.std.specs.List.{flat_map}
 use Rattle.wire.specs.Bytes.{word32}
 use Rattle.wire.specs.Writing.{word_bytes}
 use Rattle.model.specs.declared.Moment.{Moment}
@@ -10,8 +11,7 @@ use Rattle.firing.specs.Places.{moments_of}
 
 -- numbers one after the other
 abbrev pub words_bytes : List ℕ → List ℕ
-words_bytes [] = []
-words_bytes (x ∷ xs) = word_bytes x ++ words_bytes xs
+words_bytes = flat_map word_bytes
 
 abbrev pub monitor_size : ℕ
 monitor_size = 59

@@ -1,57 +1,66 @@
 // A monitor as bytes at the start of a buffer, and read from there; numbers with the most significant byte first.
 #![tactic(auto)]
 
-ghost use Rattle.std.specs.Prelude.{◌≡◌, ◌∷◌, [], ◌+◌, ◌≤◌, length};
+ghost use Rattle.std.specs.Prelude.{◌≡◌, ◌++◌, ◌+◌, ◌*◌, ◌≤◌, length};
+ghost use Rattle.arrayvec.specs.ArrayVec.{array_vec_len};
 ghost use Rattle.wire.specs.Writing.{Wrote};
 ghost use Rattle.monitor_image.specs.MonitorImage.{words_bytes, monitor_size, moment_numbers, tally_bytes};
 ghost use Rattle.monitor_image.specs.MonitorImage.{monitor_bytes};
 ghost use Rattle.monitor_image.specs.MonitorImage.{moment_in, moments_in, tally_in, monitor_in};
 
+use arrayvec::ArrayVec;
 use model::{Break, CLOCK_PLACES, Cause, Moment, Monitor, Place, Tally};
 
 // The bytes of a monitor.
 pub const MONITOR_SIZE: usize = 59;
 
-// Four numbers one after the other.
-fn put_four(out: &mut [u8], at: usize, a: u32, b: u32, c: u32, d: u32) -> usize
-    requires { at + 16 ≤ length out.old }
-    ensures { Wrote out.old at (words_bytes (a ∷ b ∷ c ∷ d ∷ [])) out.new result }
+type Image = ArrayVec<u8, MONITOR_SIZE>;
+
+// Appends numbers, one after the other.
+fn put_words(out: &mut Image, words: &[u32])
+    requires { array_vec_len out.old + 4 * length words.now ≤ monitor_size }
+    ensures items { out.new.items ≡ out.old.items ++ words_bytes words.now }
+    ensures len { array_vec_len out.new ≡ array_vec_len out.old + 4 * length words.now }
 {
-    let second = wire::put_word32(out, at, a);
-    let third = wire::put_word32(out, second, b);
-    let fourth = wire::put_word32(out, third, c);
-    wire::put_word32(out, fourth, d)
+    for n in words {
+        wire::append_word32(out, *n);
+    }
 }
 
-// The eight reset moments.
-fn put_moments(out: &mut [u8], at: usize, resets: [Moment; CLOCK_PLACES]) -> usize
-    requires { at + 32 ≤ length out.old }
-    ensures { Wrote out.old at (words_bytes (moment_numbers resets)) out.new result }
+// Appends the eight reset moments.
+fn put_moments(out: &mut Image, resets: &[Moment; CLOCK_PLACES])
+    requires { array_vec_len out.old + 32 ≤ monitor_size }
+    ensures items { out.new.items ≡ out.old.items ++ words_bytes (moment_numbers resets.now) }
+    ensures len { array_vec_len out.new ≡ array_vec_len out.old + 32 }
 {
-    let r0 = resets[0];
-    let r1 = resets[1];
-    let r2 = resets[2];
-    let r3 = resets[3];
-    let r4 = resets[4];
-    let r5 = resets[5];
-    let r6 = resets[6];
-    let r7 = resets[7];
-    let next = put_four(out, at, r0.0, r1.0, r2.0, r3.0);
-    put_four(out, next, r4.0, r5.0, r6.0, r7.0)
+    for r in resets {
+        wire::append_word32(out, r.0);
+    }
 }
 
-// The moment, the counts and the break.
-fn put_tally(out: &mut [u8], at: usize, x: Tally) -> usize
-    requires { at + 23 ≤ length out.old }
-    ensures { Wrote out.old at (tally_bytes x) out.new result }
+// Appends the moment, the counts and the break.
+fn put_tally(out: &mut Image, x: &Tally)
+    requires { array_vec_len out.old + 23 ≤ monitor_size }
+    ensures items { out.new.items ≡ out.old.items ++ tally_bytes x.entry.now }
+    ensures len { array_vec_len out.new ≡ array_vec_len out.old + 23 }
 {
-    let broken = x.broken;
-    let cause = broken.cause;
-    let second = put_four(out, at, x.now.0, x.records, x.kept, x.dropped);
-    let third = wire::put_word32(out, second, broken.at);
-    let fourth = wire::put_byte(out, third, broken.reason);
-    let fifth = wire::put_byte(out, fourth, cause.region);
-    wire::put_byte(out, fifth, cause.term)
+    put_words(out, &[x.now.0, x.records, x.kept, x.dropped, x.broken.at]);
+    out.push(x.broken.reason);
+    out.push(x.broken.cause.region);
+    out.push(x.broken.cause.term);
+}
+
+// The bytes of a monitor.
+#[tactic(auto, unfolding(crate::specs::MonitorImage::monitor_bytes))]
+fn image_of(m: &Monitor) -> Image
+    ensures items { result.items ≡ monitor_bytes m.now }
+    ensures len { array_vec_len result ≡ monitor_size }
+{
+    let mut image = ArrayVec::new();
+    wire::append_word32(&mut image, m.place.fired);
+    put_moments(&mut image, &m.place.resets);
+    put_tally(&mut image, &m.tally);
+    image
 }
 
 // The monitor at the start of the buffer: read from there it is the same.
@@ -60,12 +69,8 @@ pub fn put_monitor(out: &mut [u8], m: Monitor) -> usize
     ensures image { Wrote out.old 0 (monitor_bytes m) out.new result }
     ensures back { monitor_in out.new ≡ m }
 {
-    let at = m.place;
-    let resets = at.resets;
-    let tally = m.tally;
-    let second = wire::put_word32(out, 0, at.fired);
-    let third = put_moments(out, second, resets);
-    put_tally(out, third, tally)
+    let image = image_of(&m);
+    wire::put_bytes(out, 0, image.as_slice())
 }
 
 // The moment in four bytes.
@@ -115,6 +120,7 @@ fn tally_at(bytes: &[u8]) -> Tally
 }
 
 // The monitor whose image starts the bytes; a byte past the end reads as 0.
+#[tactic(auto, unfolding(crate::specs::MonitorImage::monitor_in))]
 pub fn monitor_at(bytes: &[u8]) -> Monitor
     ensures value { result ≡ monitor_in bytes.now }
     ensures unchanged { bytes.exit.now ≡ bytes.entry.now }

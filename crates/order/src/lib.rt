@@ -7,95 +7,70 @@ ghost use Rattle.order.specs.Order.{is_over, with_over, gathered, above_sets, ab
 
 use model::{Chart, MOST_REGIONS};
 
-// O1, O2: whether region a is over b.
-fn is_over(lines: &[u16; MOST_REGIONS], prechart: usize, a: usize, b: usize) -> bool
-    requires { (a < most_regions) × (b < most_regions) }
-    ensures { result ≡ is_over (λ i. get_or lines.now i 0) prechart a b }
-{
-    let x = lines[a];
-    let y = lines[b];
-    if prechart <= b {
-        if a < prechart {
-            return true;
-        }
-        return (a < b) & ((x & y) != 0);
-    }
-    (a < b) & ((x & y) != 0)
+// What decides the order: the lines that each region touches, and the first main region.
+#[derive(Clone, Copy)]
+struct Steps {
+    lines: [u16; MOST_REGIONS],
+    prechart: usize,
 }
 
-// The set; with region a and those above it, if a is over b.
-fn with_over<'a>(
-    lines: &'a [u16; MOST_REGIONS],
-    prechart: usize,
-    above: &'a [u32; MOST_REGIONS],
-    set: u32,
-    a: usize,
-    b: usize,
-) -> u32
-    requires { (a < most_regions) × (b < most_regions) }
-    ensures { result ≡ with_over (λ i. get_or lines.now i 0) prechart above.now set a b }
-{
-    let more = bitset::join(bitset::insert(set, a as u32), above[a]);
-    if is_over(lines, prechart, a, b) {
-        more
-    } else {
+impl Steps {
+    // O1, O2: whether region a is over b.
+    #[tactic(auto, unfolding(crate::specs::Order::is_over))]
+    fn is_over(&self, a: usize, b: usize) -> bool
+        requires { (a < most_regions) × (b < most_regions) }
+        ensures { result ≡ is_over (λ i. get_or self.now.lines i 0) self.now.prechart a b }
+    {
+        let across = (a < self.prechart) & (self.prechart <= b);
+        let one_half = (b < self.prechart) | (self.prechart <= a);
+        across | ((a < b) & (one_half & ((self.lines[a] & self.lines[b]) != 0)))
+    }
+
+    // The set; with region a and those above it, if a is over b.
+    fn with_over(&self, above: &[u32; MOST_REGIONS], set: u32, a: usize, b: usize) -> u32
+        requires { (a < most_regions) × (b < most_regions) }
+        ensures { result ≡ with_over (λ i. get_or self.now.lines i 0) self.now.prechart above.now set a b }
+    {
+        let more = bitset::join(bitset::insert(set, a as u32), above[a]);
+        if self.is_over(a, b) { more } else { set }
+    }
+
+    // The regions above b. Regions with lower numbers have their sets already.
+    #[tactic(auto, unfolding(crate::specs::Order::gathered))]
+    fn gather(&self, above: &[u32; MOST_REGIONS], b: usize) -> u32
+        requires { b < most_regions }
+        ensures { result ≡ gathered (λ i. get_or self.now.lines i 0) self.now.prechart above.now b b }
+    {
+        let mut set = 0;
+        for a in 0..b {
+            set = self.with_over(above, set, a, b);
+        }
         set
     }
-}
 
-// The regions above b. Regions with lower numbers have their sets already.
-fn gather<'a>(
-    lines: &'a [u16; MOST_REGIONS],
-    prechart: usize,
-    above: &'a [u32; MOST_REGIONS],
-    b: usize,
-) -> u32
-    requires { b < most_regions }
-    ensures { result ≡ gathered (λ i. get_or lines.now i 0) prechart above.now b b }
-{
-    let mut set: u32 = 0;
-    let mut a: usize = 0;
-    while a < b {
-        set = with_over(lines, prechart, above, set, a, b);
-        a += 1;
+    // The sets of the first `count` regions; the others are empty.
+    #[tactic(auto, unfolding(crate::specs::Order::above_sets))]
+    fn sets(&self, count: usize) -> [u32; MOST_REGIONS]
+        requires { count ≤ most_regions }
+        ensures { result ≡ above_sets (λ i. get_or self.now.lines i 0) self.now.prechart count }
+    {
+        let mut above = [0; MOST_REGIONS];
+        for b in 0..count {
+            above[b] = self.gather(&above, b);
+        }
+        above
     }
-    set
-}
-
-// The sets of the first `count` regions; the others are empty.
-fn sets_of(lines: [u16; MOST_REGIONS], prechart: usize, count: usize) -> [u32; MOST_REGIONS]
-    requires { count ≤ most_regions }
-    ensures { result ≡ above_sets (λ i. get_or lines i 0) prechart count }
-{
-    let mut above = [0u32; MOST_REGIONS];
-    let mut b: usize = 0;
-    while b < count {
-        above[b] = gather(&lines, prechart, &above, b);
-        b += 1;
-    }
-    above
 }
 
 // The lines that each region touches.
 fn lines_of(c: Chart) -> [u16; MOST_REGIONS]
     ensures { (i : ℕ) → i < most_regions → get_or result i 0 ≡ touched_at c i }
 {
-    let mut lines = [0u16; MOST_REGIONS];
-    let mut i: usize = 0;
-    while i < MOST_REGIONS {
-        let r = c.regions[i];
-        let e = r.event;
-        lines[i] = model::touched(e);
-        i += 1;
+    let mut lines = [0; MOST_REGIONS];
+    for (i, g) in c.regions.iter().enumerate() {
+        lines[i] = model::touched(g.event);
     }
     lines
-}
-
-fn used(count: u8) -> usize
-    ensures { result ≡ min count most_regions }
-{
-    let n = count as usize;
-    if n < MOST_REGIONS { n } else { MOST_REGIONS }
 }
 
 // For each region the set of those above it.
@@ -103,6 +78,9 @@ pub fn above_sets(c: Chart) -> [u32; MOST_REGIONS]
     ensures sets { result ≡ above_of c }
     ensures order { Decides c result }
 {
-    let lines = lines_of(c);
-    sets_of(lines, c.prechart as usize, used(c.count))
+    let steps = Steps {
+        lines: lines_of(c),
+        prechart: usize::from(c.prechart),
+    };
+    steps.sets(usize::from(c.count).min(MOST_REGIONS))
 }

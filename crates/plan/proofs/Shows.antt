@@ -7,7 +7,7 @@ use native.Mathlib.Omega.{arith}
 use native.Mathlib.Decide.{dec_lt}
 use borrow.Author.Tests.{lt-ltb, le-ltb, ltb-false, ne_eqb}
 use lib.Dec.{eqb, ltb}
-use lib.ListN.{length, get_or, set, replicate, length-set}
+use lib.ListN.{length, get_or, set, replicate}
 use Rattle.bitset.specs.Set.{contains, inserted}
 use Rattle.bitset.proofs.Laws.{contains_empty}
 use Rattle.base.proofs.Filled.{Filled, filled_none, filled_next}
@@ -23,10 +23,9 @@ use Rattle.chart_value.specs.WellFormed.{left_fits}
 use Rattle.chart_value.specs.View.{code_of, key_of, region_of, chart_of}
 use Rattle.chart_value.proofs.Facts.{WellFormed}
 use Rattle.chart_value.proofs.Order.{fits_at}
-use Rattle.layout.specs.View.{failing_by, terms_by, plan_chart, InChart, Words}
-use Rattle.plan.specs.declared.Plan.{Plan}
+use Rattle.layout.specs.View.{failing_by, terms_by, plan_chart, InChart, Words, Compiled}
+use Rattle.layout.specs.declared.Head.{Head}
 use Rattle.plan.specs.Words.{word_of, word_at}
-use Rattle.plan.specs.Plan.{Compiles}
 use Rattle.plan.proofs.Words.{word_is, word_holds, word_named, words_fail, words_count}
 use Rattle.plan.proofs.Members.{Gathered, gathered_below, gathered_none, gathered_next}
 
@@ -73,32 +72,15 @@ above_shows c a b = by (ltb b c.count) refl
 abbrev pub words_of : Chart → ℕ → ℕ
 words_of c k = word_at (region_at c (k / most_terms)) (k % most_terms)
 
--- the words of one region more
-module _ (c : Chart) (i : ℕ) where
-  one_word : (j k next : ℕ) {out : List ℕ} (v : ℕ) → j < most_terms → k ≡ i * most_terms + j → next ≡ k + 1
-      → Filled 0 (words_of c) k out → k < length out
-      → v ≡ word_at (region_at c i) j → Filled 0 (words_of c) next (set out k v)
-  one_word j k next v h a b F l e =
-      let d : k / most_terms ≡ i = omega arith in
-      let m : k % most_terms ≡ j = omega arith in
-      rw b (filled_next v F l (rw (d, m) e))
-
-  words_next : {out : List ℕ} (v₀ v₁ v₂ v₃ : ℕ) → Filled 0 (words_of c) (i * most_terms) out
-      → i * most_terms + 3 < length out
-      → v₀ ≡ word_at (region_at c i) 0 → v₁ ≡ word_at (region_at c i) 1 → v₂ ≡ word_at (region_at c i) 2
-      → v₃ ≡ word_at (region_at c i) 3
-      → Filled 0 (words_of c) ((i + 1) * most_terms)
-      (set (set (set (set out (i * most_terms) v₀) (i * most_terms + 1) v₁) (i * most_terms + 2) v₂)
-      (i * most_terms + 3) v₃)
-  words_next {out} v₀ v₁ v₂ v₃ F l e₀ e₁ e₂ e₃ =
-      let k = i * most_terms in
-      one_word 3 (k + 3) ((i + 1) * most_terms) v₃ (omega arith) refl (omega arith)
-      (one_word 2 (k + 2) (k + 3) v₂ (omega arith) refl (omega arith)
-      (one_word 1 (k + 1) (k + 2) v₁ (omega arith) refl (omega arith)
-      (one_word 0 k (k + 1) v₀ (omega arith) (omega arith) refl F (omega arith) e₀)
-      (simp length-set (omega arith)) e₁)
-      (simp length-set (omega arith)) e₂)
-      (simp length-set (omega arith)) e₃
+-- one word more
+pub word_next : (c : Chart) (i j v : ℕ) {out : List ℕ} → j < most_terms → Filled 0 (words_of c) (i * most_terms + j) out
+    → i * most_terms + j < length out → v ≡ word_at (region_at c i) j
+    → Filled 0 (words_of c) (i * most_terms + (j + 1)) (set out (i * most_terms + j) v)
+word_next c i j v h F l e =
+    let d : (i * most_terms + j) / most_terms ≡ i = omega arith in
+    let m : (i * most_terms + j) % most_terms ≡ j = omega arith in
+    let n : i * most_terms + j + 1 ≡ i * most_terms + (j + 1) = omega arith in
+    rw n at (filled_next v F l (rw (d, m) e))
 
 module _ (c : Chart) (w : WellFormed c) (terms : List ℕ) (F : Filled 0 (words_of c) (c.count * most_terms) terms) where
   -- the words of region i
@@ -207,59 +189,52 @@ parts_none = record {
 }
 
 -- one region more
-module _ {c : Chart} {i plain hot : ℕ} {keys resets terms : List ℕ} (P : Parts c i plain hot keys resets terms) where
-  pub parts_next : (p h k s v₀ v₁ v₂ v₃ : ℕ) → i < length keys → i < length resets → i * most_terms + 3 < length terms
-      → p ≡ cond (is_plain (region_at c i).event) (inserted plain i) plain
-      → h ≡ cond (region_at c i).hot (inserted hot i) hot
-      → k ≡ key_of (region_at c i).event → s ≡ (region_at c i).resets
-      → v₀ ≡ word_at (region_at c i) 0 → v₁ ≡ word_at (region_at c i) 1 → v₂ ≡ word_at (region_at c i) 2
-      → v₃ ≡ word_at (region_at c i) 3
-      → Parts c (i + 1) p h (set keys i k) (set resets i s)
-      (set (set (set (set terms (i * most_terms) v₀) (i * most_terms + 1) v₁) (i * most_terms + 2) v₂)
-      (i * most_terms + 3) v₃)
-  parts_next p h k s v₀ v₁ v₂ v₃ a b d ep eh ek es e₀ e₁ e₂ e₃ = record {
-    plain_set = gathered_next p P.plain_set ep;
-    hot_set = gathered_next h P.hot_set eh;
-    key_at = filled_next k P.key_at a ek;
-    resets_at = filled_next s P.resets_at b es;
-    word_at_lem = words_next c i v₀ v₁ v₂ v₃ P.word_at_lem d e₀ e₁ e₂ e₃;
-  }
+pub parts_next : {c : Chart} {i plain hot : ℕ} {keys resets terms : List ℕ} (P : Parts c i plain hot keys resets terms)
+    (p h k s n : ℕ) {out : List ℕ} → i < length keys → i < length resets
+    → p ≡ cond (is_plain (region_at c i).event) (inserted plain i) plain
+    → h ≡ cond (region_at c i).hot (inserted hot i) hot
+    → k ≡ key_of (region_at c i).event → s ≡ (region_at c i).resets
+    → n ≡ (i + 1) * most_terms → Filled 0 (words_of c) n out
+    → Parts c (i + 1) p h (set keys i k) (set resets i s) out
+parts_next P p h k s n a b ep eh ek es e F = record {
+  plain_set = gathered_next p P.plain_set ep;
+  hot_set = gathered_next h P.hot_set eh;
+  key_at = filled_next k P.key_at a ek;
+  resets_at = filled_next s P.resets_at b es;
+  word_at_lem = rw (← e) F;
+}
 
 -- the parts together
-module _ (c : Chart) (p : Plan) (w : WellFormed c) (accepted : Accepted (chart_of c))
-    (heading : (p.head.count ≡ c.count) × (p.head.prechart ≡ c.prechart) × (p.head.clocks ≡ c.clocks))
-    (above : p.above ≡ above_of c)
-    (P : Parts c c.count p.head.plain p.head.hot p.keys p.resets p.terms) where
-  above_set : (a b : ℕ) → contains (get_or p.above b 0) a ≡ (chart_of c).above a b
-  above_set a b = ap (λ (l : List ℕ). contains (get_or l b 0) a) above ∙ above_shows c a b
+module _ (c : Chart) (w : WellFormed c) (accepted : Accepted (chart_of c)) {h : Head} {keys above resets terms : List ℕ}
+    (heading : (h.count ≡ c.count) × (h.prechart ≡ c.prechart) × (h.clocks ≡ c.clocks)) (sets : above ≡ above_of c)
+    (P : Parts c c.count h.plain h.hot keys resets terms) where
+  above_set : (a b : ℕ) → contains (get_or above b 0) a ≡ (chart_of c).above a b
+  above_set a b = ap (λ (l : List ℕ). contains (get_or l b 0) a) sets ∙ above_shows c a b
 
-  shows : plan_chart p.head p.keys p.above p.resets p.terms ≡ chart_of c
+  pub shows : plan_chart h keys above resets terms ≡ chart_of c
   shows =
       λ x. record {
         regions = heading.0 x;
         prechart = heading.1 x;
-        key = λ i. keys_show c p.keys P.key_at i x;
+        key = λ i. keys_show c keys P.key_at i x;
         above = λ a b. above_set a b x;
         clocks = heading.2 x;
-        resets = λ i k. resets_show c p.resets P.resets_at i k x;
-        terms = λ i. terms_show c w p.terms P.word_at_lem i x;
-        failing = λ i v. failing_shows c w p.terms P.word_at_lem i v x;
-        hot = λ i. hot_shows c p.head.hot P.hot_set i x;
+        resets = λ i k. resets_show c resets P.resets_at i k x;
+        terms = λ i. terms_show c w terms P.word_at_lem i x;
+        failing = λ i v. failing_shows c w terms P.word_at_lem i v x;
+        hot = λ i. hot_shows c h.hot P.hot_set i x;
       }
 
-  pub compiles : Compiles c p
-  compiles = record {
-    shows = shows;
-    compiled = record {
-      regions = rw heading.0 w.room;
-      clocks = rw heading.2 w.clocks;
-      plain = λ i h. plain_shows c p.head.plain P.plain_set i (rw heading.0 at h)
-          ∙ ap (λ (k : ℕ). eqb k 0) (sym (keys_show c p.keys P.key_at i));
-      within = record {
-        few = rw heading.0 w.room;
-        own = λ i m. rw heading.0 (gathered_below P.plain_set i m);
-      };
-      words = rw heading.2 (words_are c w p.terms P.word_at_lem);
-      accepted = subst Accepted (sym shows) accepted;
+  pub compiled : Compiled h keys above resets terms
+  compiled = record {
+    regions = rw heading.0 w.room;
+    clocks = rw heading.2 w.clocks;
+    plain = λ i l. plain_shows c h.plain P.plain_set i (rw heading.0 at l)
+        ∙ ap (λ (k : ℕ). eqb k 0) (sym (keys_show c keys P.key_at i));
+    within = record {
+      few = rw heading.0 w.room;
+      own = λ i m. rw heading.0 (gathered_below P.plain_set i m);
     };
+    words = rw heading.2 (words_are c w terms P.word_at_lem);
+    accepted = subst Accepted (sym shows) accepted;
   }

@@ -1,20 +1,18 @@
 // A chart compiled into numbers for stepping: it shows the same abstract chart as the chart's value.
 #![tactic(auto)]
 
-ghost use Rattle.std.specs.Prelude.{◌≡◌, true, cond, ◌<◌, ◌≤◌};
+ghost use Rattle.std.specs.Prelude.{◌≡◌, cond, ◌<◌, ◌≤◌};
 ghost use Rattle.bitset.specs.Set.{inserted};
 ghost use Rattle.model.specs.Chart.{most_regions, most_terms};
-ghost use Rattle.chart_value.specs.WellFormed.{well_formed};
 ghost use Rattle.chart_value.specs.View.{code_of, key_of};
 ghost use Rattle.plan.specs.Words.{first_clock, second_clock, word_of, word_at};
 ghost use Rattle.plan.specs.Slots.{slot_count, slot_of, Slotted};
 ghost use Rattle.plan.specs.Plan.{Compiles};
 ghost use Rattle.chart_value.specs.Records.{record_code};
 
-use layout::{Head, NUMBER_PLACE, ROW_PLACE, SECOND_PLACE, TERM_PLACES};
-use model::{
-    Chart, Event, Left, MOST_CLOCKS, MOST_REGIONS, MOST_TERMS, Message, Record, Region, Term,
-};
+use chart_value::AcceptedChart;
+use layout::{Head, NUMBER_PLACE, Plan, ROW_PLACE, SECOND_PLACE, TERM_PLACES};
+use model::{Event, Left, MOST_CLOCKS, MOST_REGIONS, MOST_TERMS, Message, Record, Region, Term};
 
 // A message's code: one more than label, source and destination at their places.
 pub const LABEL_PLACE: u64 = 0x1_0000;
@@ -33,39 +31,18 @@ const LOW_WORD: u64 = 0x1_0000_0000;
 
 const HIGHEST_BYTE: u64 = 0x100_0000;
 
-// A compiled chart: each region's key, the regions above it, the clocks that it resets, and four words of terms.
-#[derive(Clone, Copy)]
-pub struct Plan {
-    pub head: Head,
-    pub keys: [u64; MOST_REGIONS],
-    pub above: [u32; MOST_REGIONS],
-    pub resets: [u32; MOST_REGIONS],
-    pub terms: [u64; TERM_PLACES],
-}
-
-// The same number in 64 bits.
-fn wide8(x: u8) -> u64
-    ensures value { result ≡ x }
-    ensures bound { result < 256 }
-{
-    x as u64
-}
-
-fn wide16(x: u16) -> u64
-    ensures value { result ≡ x }
-    ensures bound { result < 65536 }
-{
-    x as u64
-}
-
 // One number for a message; it is never 0.
 pub fn code_of(m: Message) -> u64
     ensures { result ≡ code_of m }
 {
-    wide16(m.label) * LABEL_PLACE + wide8(m.source) * SOURCE_PLACE + wide8(m.destination) + 1
+    u64::from(m.label) * LABEL_PLACE
+        + u64::from(m.source) * SOURCE_PLACE
+        + u64::from(m.destination)
+        + 1
 }
 
-// The code of a record's message, 0 for a record of time.
+// The code of a record's message, 0 for a record of time. No Option<Message> for it and for
+// key_of: that is three functions and definitions in place of these two, which the theory names.
 pub fn record_code(r: Record) -> u64
     ensures { result ≡ record_code r }
 {
@@ -75,7 +52,7 @@ pub fn record_code(r: Record) -> u64
     }
 }
 
-// The code of a region's message, 0 for a plain region.
+// The code of a region's message, 0 for a plain region: see record_code.
 fn key_of(e: Event) -> u64
     ensures { result ≡ key_of e }
 {
@@ -85,32 +62,26 @@ fn key_of(e: Event) -> u64
     }
 }
 
-// The same set of clocks, in 32 bits.
-fn clock_set(set: u8) -> u32
-    ensures { result ≡ set }
-{
-    set as u32
-}
-
 // The set; with i, if b holds.
 fn insert_if(set: u32, i: usize, b: bool) -> u32
     requires { i < most_regions }
     ensures { result ≡ cond b (inserted set i) set }
 {
     if b {
-        return bitset::insert(set, i as u32);
+        bitset::insert(set, i as u32)
+    } else {
+        set
     }
-    set
 }
 
-// The clock of a term, or the first of two.
+// The clock of a term, or the first of two. Each clock by itself and no pair of them: a word's definition names each.
 fn first_clock(l: Left) -> u64
     ensures value { result ≡ first_clock l }
     ensures bound { result < 256 }
 {
     match l {
-        Left::Clock(k) => wide8(k),
-        Left::Difference(a, _) => wide8(a),
+        Left::Clock(k) => u64::from(k),
+        Left::Difference(a, _) => u64::from(a),
     }
 }
 
@@ -121,7 +92,7 @@ fn second_clock(l: Left) -> u64
 {
     match l {
         Left::Clock(_) => NO_CLOCK,
-        Left::Difference(_, b) => wide8(b),
+        Left::Difference(_, b) => u64::from(b),
     }
 }
 
@@ -129,21 +100,20 @@ fn second_clock(l: Left) -> u64
 fn word_of(t: Term) -> u64
     ensures { result ≡ word_of t }
 {
-    let l = t.left;
-    let e = t.relation;
-    let high = condition::biased(t.n) * NUMBER_PLACE + condition::row_bits(e) * ROW_PLACE;
-    high + second_clock(l) * SECOND_PLACE + first_clock(l)
+    let high = condition::biased(t.n) * NUMBER_PLACE + condition::row_bits(t.relation) * ROW_PLACE;
+    high + second_clock(t.left) * SECOND_PLACE + first_clock(t.left)
 }
 
 // The word of term j; 0 where there is no such term.
-fn word_at(g: Region, j: usize) -> u64
+fn word_at(g: &Region, j: usize) -> u64
     requires { j < most_terms }
-    ensures { result ≡ word_at g j }
+    ensures { result ≡ word_at g.now j }
 {
-    if j < g.count as usize {
-        return word_of(g.terms[j]);
+    if j < usize::from(g.count) {
+        word_of(g.terms[j])
+    } else {
+        0
     }
-    0
 }
 
 // The slot of a message's code.
@@ -155,57 +125,49 @@ pub fn slot_of(code: u64) -> usize
 }
 
 // For each slot the set of the regions whose key has it.
-pub fn slots_of(count: usize, keys: &[u64; MOST_REGIONS]) -> [u32; SLOTS]
-    requires { count ≤ most_regions }
-    ensures { Slotted count keys.now result }
+pub fn slots_of(plan: &Plan) -> [u32; SLOTS]
+    ensures { Slotted plan.now.head.count plan.now.keys result }
 {
     let mut slots = [0u32; SLOTS];
-    let mut i: usize = 0;
-    while i < count {
-        let k = slot_of(keys[i]);
+    for i in 0..plan.head.count {
+        let k = slot_of(plan.keys[i]);
         slots[k] = bitset::insert(slots[k], i as u32);
-        i += 1;
     }
     slots
 }
 
 // The chart as numbers, region by region; a region's terms have four places.
-pub fn compile(c: Chart) -> Plan
-    requires { well_formed c ≡ true }
-    ensures { Compiles c result }
+pub fn compile(accepted: &AcceptedChart) -> Plan
+    ensures { Compiles accepted.now.chart result }
 {
-    let count = c.count as usize;
+    let c = &accepted.chart;
+    let count = usize::from(c.count);
     let mut plain: u32 = 0;
     let mut hot: u32 = 0;
     let mut keys = [0u64; MOST_REGIONS];
     let mut resets = [0u32; MOST_REGIONS];
     let mut terms = [0u64; TERM_PLACES];
-    let mut i: usize = 0;
-    while i < count {
-        let g = c.regions[i];
-        let e = g.event;
-        plain = insert_if(plain, i, model::is_plain(e));
+    for i in 0..count {
+        let g = &c.regions[i];
+        plain = insert_if(plain, i, model::is_plain(g.event));
         hot = insert_if(hot, i, g.hot);
-        keys[i] = key_of(e);
-        resets[i] = clock_set(g.resets);
-        let k = i * MOST_TERMS;
-        terms[k] = word_at(g, 0);
-        terms[k + 1] = word_at(g, 1);
-        terms[k + 2] = word_at(g, 2);
-        terms[k + 3] = word_at(g, 3);
-        i += 1;
+        keys[i] = key_of(g.event);
+        resets[i] = u32::from(g.resets);
+        for j in 0..MOST_TERMS {
+            terms[i * MOST_TERMS + j] = word_at(g, j);
+        }
     }
     let head = Head {
         count,
-        prechart: c.prechart as usize,
-        clocks: c.clocks as usize,
+        prechart: usize::from(c.prechart),
+        clocks: usize::from(c.clocks),
         plain,
         hot,
     };
     Plan {
         head,
         keys,
-        above: order::above_sets(c),
+        above: order::above_sets(*c),
         resets,
         terms,
     }

@@ -21,7 +21,7 @@ use Rattle.model.specs.declared.Monitor.{Monitor}
 use Rattle.model.specs.declared.Record.TheVariants as a-record
 use Rattle.model.specs.declared.FeedRefusal.TheVariants.{NotAChart, Unfit, TimeFalls, TooManyRecords}
 use Rattle.model.specs.Chart.{region_at}
-use Rattle.model.specs.Answers.{answer_number}
+use Rattle.model.specs.Answers.{fed_number}
 use Rattle.chart_value.specs.WellFormed.{well_formed}
 use Rattle.chart_value.specs.View.{chart_of}
 use Rattle.rounds.specs.Machine as machine
@@ -31,19 +31,19 @@ use Rattle.stepping.specs.Monitors.{step_of}
 use Rattle.stepping.proofs.Answers.{told_number_lem}
 use Rattle.monitor.specs.Fit.{fits}
 use Rattle.monitor.specs.Feed.{feed_of}
-use Rattle.preview.specs.declared.PreviewAnswer.{PreviewAnswer}
-use Rattle.preview.specs.declared.PreviewAnswer.TheVariants.{Shown, TooShort, Refused}
-use Rattle.preview.specs.Preview.{preview_number, foreseen_of, foreseen, preview_bytes, preview_of, is_shown}
+use Rattle.std.specs.Prelude.{Ok, Err}
+use Rattle.preview.specs.declared.PreviewRefusal.TheVariants.{TooShort, Feed}
+use Rattle.preview.specs.Preview.{Previewed, preview_number, foreseen_of, foreseen, preview_bytes, preview_of, is_shown}
 use Rattle.preview.specs.Preview.{buffer_of}
 
 -- only with 0 is anything shown
-pub zero_shown : (a : PreviewAnswer) → preview_number a ≡ 0 → is_shown a ≡ true
-zero_shown Shown e = refl
-zero_shown TooShort e = absurd (omega arith)
-zero_shown (Refused NotAChart) e = absurd (omega arith)
-zero_shown (Refused Unfit) e = absurd (omega arith)
-zero_shown (Refused TimeFalls) e = absurd (omega arith)
-zero_shown (Refused TooManyRecords) e = absurd (omega arith)
+pub zero_shown : (a : Previewed) → preview_number a ≡ 0 → is_shown a ≡ true
+zero_shown (Ok u) e = refl
+zero_shown (Err TooShort) e = absurd (omega arith)
+zero_shown (Err (Feed NotAChart)) e = absurd (omega arith)
+zero_shown (Err (Feed Unfit)) e = absurd (omega arith)
+zero_shown (Err (Feed TimeFalls)) e = absurd (omega arith)
+zero_shown (Err (Feed TooManyRecords)) e = absurd (omega arith)
 
 -- there is a byte for each region
 enough : (c : Chart) (m : Monitor) (t : Moment) (room : ℕ) → is_shown (preview_of c m t room) ≡ true → c.count ≤ room
@@ -86,7 +86,7 @@ module _ (c : Chart) (m : Monitor) (t : Moment) (l : List ℕ) (s : is_shown (pr
 
   -- a message region's byte is the number of the answer to its message, fed
   pub byte_fed : (i : ℕ) → i < c.count → (x : Message) → (region_at c i).event ≡ event.Message x → (r : Step)
-      → step_of r ≡ feed_of c m (a-record.Message x t) → get_or (buffer_of c m t l) i 0 ≡ answer_number r.answer
+      → step_of r ≡ feed_of c m (a-record.Message x t) → get_or (buffer_of c m t l) i 0 ≡ fed_number r.answer
   byte_fed i h x e r q =
       shown_byte i h
       ∙ ap (λ (y : Event). foreseen_of c m t y) e

@@ -18,21 +18,21 @@ use Rattle.model.specs.declared.Moment.{Moment}
 use Rattle.model.specs.declared.Monitor.{Monitor}
 use Rattle.model.specs.declared.Record.TheVariants as a-record
 use Rattle.model.specs.declared.FeedRefusal.TheVariants.{NotAChart, Unfit}
-use Rattle.model.specs.declared.Answer.{Answer}
 use Rattle.model.specs.Chart.{region_at, zero_region}
-use Rattle.model.specs.Answers.{answer_number}
+use Rattle.model.specs.Answers.{Fed, fed_number}
 use Rattle.chart_value.specs.WellFormed.{well_formed}
 use Rattle.chart_value.specs.View.{key_of, chart_of}
 use Rattle.rounds.specs.Chart.{Chart as Abstract}
 use Rattle.rounds.specs.Machine as machine
-use Rattle.stepping.specs.Answers.{answer_of, told_number}
+use Rattle.stepping.specs.Answers.{fed_answer, told_number}
 use Rattle.stepping.specs.Monitors.{monitor_at, record_of}
 use Rattle.stepping.proofs.Answers.{told_number_lem}
 use Rattle.monitor.specs.Fit.{fits}
 use Rattle.monitor.proofs.Feeding.{fed_on}
-use Rattle.preview.specs.declared.PreviewAnswer.{PreviewAnswer}
-use Rattle.preview.specs.declared.PreviewAnswer.TheVariants.{TooShort, Refused}
-use Rattle.preview.specs.Preview.{foreseen_of, foreseen, preview_bytes, timely, preview_of, is_shown, buffer_of}
+use Rattle.std.specs.Prelude.{Err}
+use Rattle.preview.specs.declared.PreviewRefusal.TheVariants.{TooShort, Feed}
+use Rattle.preview.specs.Preview.{Previewed, foreseen_of, foreseen, preview_bytes, timely, shown_if, preview_of, is_shown}
+use Rattle.preview.specs.Preview.{buffer_of}
 use Rattle.preview.specs.Parts.{shown_by}
 
 -- a region's byte: that of a plain one, and that of a message
@@ -40,8 +40,8 @@ pub shown_plain : (C : Abstract) (m : Monitor) (t : Moment) (code : ℕ) → cod
 unfolding shown_by
 shown_plain C m t code e = rw e refl
 
-pub shown_message : (C : Abstract) (m : Monitor) (t : Moment) (code : ℕ) → ¬ (code ≡ 0) → (a : Answer)
-    → answer_of a ≡ (machine.feed C (monitor_at m) (record_of code t.0)).answer → answer_number a ≡ shown_by C m t code
+pub shown_message : (C : Abstract) (m : Monitor) (t : Moment) (code : ℕ) → ¬ (code ≡ 0) → (a : Fed)
+    → fed_answer a ≡ (machine.feed C (monitor_at m) (record_of code t.0)).answer → fed_number a ≡ shown_by C m t code
 unfolding shown_by
 shown_message C m t code n a e = rw (ne_eqb code 0 n) (sym (told_number_lem a) ∙ ap told_number e)
 
@@ -67,33 +67,33 @@ front_whole {l} {f} {i} {out} F n e h =
 
 -- the tests in their order; with a refusal the buffer stays
 module _ (c : Chart) (m : Monitor) (t : Moment) (l : List ℕ) where
-  abbrev pub Gives : PreviewAnswer → List ℕ → Type 0
+  abbrev pub Gives : Previewed → List ℕ → Type 0
   Gives r out = (r ≡ preview_of c m t (length l)) × (out ≡ buffer_of c m t l)
 
-  pub stays : (r : PreviewAnswer) → is_shown r ≡ false → r ≡ preview_of c m t (length l) → Gives r l
+  pub stays : (r : Previewed) → is_shown r ≡ false → r ≡ preview_of c m t (length l) → Gives r l
   unfolding buffer_of
   stays r s e = (e, rw (← e, s))
 
-  pub no_chart : well_formed c ≡ false → Gives (Refused NotAChart) l
+  pub no_chart : well_formed c ≡ false → Gives (Err (Feed NotAChart)) l
   unfolding preview_of
-  no_chart w = stays (Refused NotAChart) refl (rw w)
+  no_chart w = stays (Err (Feed NotAChart)) refl (rw w)
 
   module _ (w : well_formed c ≡ true) (C : Abstract) (same : C ≡ chart_of c) where
     fits_as : {b : Bool} → fits C m ≡ b → fits (chart_of c) m ≡ b
     fits_as e = ap (λ (C : Abstract). fits C m) (sym same) ∙ e
 
-    pub not_fit_lem : fits C m ≡ false → Gives (Refused Unfit) l
+    pub not_fit_lem : fits C m ≡ false → Gives (Err (Feed Unfit)) l
     unfolding preview_of
-    not_fit_lem f = stays (Refused Unfit) refl (rw (w, fits_as f))
+    not_fit_lem f = stays (Err (Feed Unfit)) refl (rw (w, fits_as f))
 
     module _ (f : fits C m ≡ true) where
-      pub too_short_case : length l < C.regions → Gives TooShort l
+      pub too_short_case : length l < C.regions → Gives (Err TooShort) l
       unfolding preview_of
       too_short_case h =
           let q : length l < c.count = rw (ap (λ (C : Abstract). C.regions) (sym same)) h in
-          stays TooShort refl (rw (w, fits_as f, lt-ltb (length l) c.count q))
+          stays (Err TooShort) refl (rw (w, fits_as f, lt-ltb (length l) c.count q))
 
-      module _ (h : C.regions ≤ length l) (r : PreviewAnswer) (e : r ≡ timely m.tally t) where
+      module _ (h : C.regions ≤ length l) (r : Previewed) (e : r ≡ shown_if (timely m.tally t)) where
         pub on_time : r ≡ preview_of c m t (length l)
         unfolding preview_of
         on_time =

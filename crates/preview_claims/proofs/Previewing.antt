@@ -23,10 +23,8 @@ use Rattle.model.specs.declared.Monitor.{Monitor}
 use Rattle.model.specs.declared.Record.TheVariants as a-record
 use Rattle.model.specs.declared.FeedRefusal.{FeedRefusal}
 use Rattle.model.specs.declared.FeedRefusal.TheVariants.{NotAChart, Unfit, TimeFalls, TooManyRecords}
-use Rattle.model.specs.declared.Answer.{Answer}
-use Rattle.model.specs.declared.Answer.TheVariants as answer
 use Rattle.model.specs.Chart.{most_clocks, region_at}
-use Rattle.model.specs.Answers.{most_records, feed_refusal_number}
+use Rattle.model.specs.Answers.{Fed, most_records, feed_refusal_number}
 use Rattle.chart_value.specs.Given.{Given}
 use Rattle.chart_value.specs.WellFormed.{well_formed}
 use Rattle.chart_value.specs.View.{key_of, code_of, chart_of}
@@ -41,16 +39,16 @@ use Rattle.paper.specs.Taken as case
 use Rattle.paper.specs.Taken.{Status, Offered, Taken, Acceptable}
 use Rattle.paper.specs.Demand2.{Demand2}
 use Rattle.paper.proofs.Demand2.{demand_2}
-use Rattle.stepping.specs.Answers.{answer_of, told_number}
+use Rattle.stepping.specs.Answers.{fed_answer, told_number}
 use Rattle.stepping.specs.Monitors.{monitor_at, step_of}
 use Rattle.stepping.proofs.Answers.{answer_told}
 use Rattle.monitor.specs.Fit.{fits}
 use Rattle.monitor.specs.Feed.{feed_of}
 use Rattle.monitor.proofs.Fitness.{of_fit, fit_exactly}
 use Rattle.monitor.proofs.History.{feeding}
-use Rattle.preview.specs.declared.PreviewAnswer.{PreviewAnswer}
-use Rattle.preview.specs.declared.PreviewAnswer.TheVariants.{Shown, TooShort, Refused}
-use Rattle.preview.specs.Preview.{foreseen_of, timely, preview_of, is_shown, buffer_of}
+use Rattle.std.specs.Prelude.{Ok, Err}
+use Rattle.preview.specs.declared.PreviewRefusal.TheVariants.{TooShort, Feed}
+use Rattle.preview.specs.Preview.{Previewed, foreseen_of, timely, shown_if, preview_of, is_shown, buffer_of}
 use Rattle.preview.proofs.Laws.{Gives, no_chart, not_fit_lem, too_short_case, on_time, untimely}
 use Rattle.preview.proofs.Bytes.{same_size, shown_byte, byte_beyond, byte_fed}
 use Rattle.preview_claims.specs.declared.Pressed.{Pressed}
@@ -113,7 +111,7 @@ own_message c t i h x e =
 abbrev Timely : Monitor → Moment → Type 0
 Timely m t = (m.tally.broken.at ≢ 0) ⊎ ((m.tally.now.0 ≤ t.0) × (m.tally.records < most_records))
 
-timely_shown : (m : Monitor) (t : Moment) → Timely m t → Shown ≡ timely m.tally t
+timely_shown : (m : Monitor) (t : Moment) → Timely m t → Ok tt ≡ shown_if (timely m.tally t)
 timely_shown m t T = elim (split (eqb m.tally.broken.at 0)) [
   | inr b ↦ rw b
   | inl b ↦ ⊎_elim (λ n. absurd (n (eqb-true _ _ b)))
@@ -125,27 +123,23 @@ message_in : Event → Message → Message
 message_in (event.Message x) d = x
 message_in (event.Plain z) d = d
 
-refusal_in : PreviewAnswer → FeedRefusal → FeedRefusal
-refusal_in Shown d = d
-refusal_in TooShort d = d
-refusal_in (Refused k) d = k
+refusal_in : Previewed → FeedRefusal → FeedRefusal
+refusal_in (Ok u) d = d
+refusal_in (Err TooShort) d = d
+refusal_in (Err (Feed k)) d = k
 
-told_alike : (j k : FeedRefusal) → Refused j ≡ Refused k → refused (feed_refusal_number j) ≡ refused (feed_refusal_number k)
+told_alike : (j k : FeedRefusal) → ◌≡◌ {A = Previewed} (Err (Feed j)) (Err (Feed k))
+    → refused (feed_refusal_number j) ≡ refused (feed_refusal_number k)
 unfolding refusal_in
-told_alike j k e = ap (λ (a : PreviewAnswer). refused (feed_refusal_number (refusal_in a j))) e
+told_alike j k e = ap (λ (a : Previewed). refused (feed_refusal_number (refusal_in a j))) e
 
 same_refusal : (j k : FeedRefusal) → refused (feed_refusal_number j) ≡ refused (feed_refusal_number k) → j ≡ k
 same_refusal j k e =
-    ap (λ (a : Answer). fed_refusal a j) (answer_told (answer.Refused j) (answer.Refused k) e)
+    ap {A = Fed} (λ a. fed_refusal a j) (answer_told (Err j) (Err k) e)
   where
-    fed_refusal : Answer → FeedRefusal → FeedRefusal
-    fed_refusal (answer.Refused f) d = f
-    fed_refusal (answer.Broken n f x) d = d
-    fed_refusal answer.Kept d = d
-    fed_refusal (answer.Dropped x) d = d
-    fed_refusal answer.Entered d = d
-    fed_refusal answer.Moved d = d
-    fed_refusal answer.Quiet d = d
+    fed_refusal : Fed → FeedRefusal → FeedRefusal
+    fed_refusal (Err f) d = f
+    fed_refusal (Ok a) d = d
 
 module _ (c : Chart) (G : (well_formed c ≡ true) ↔ Given c) (m : Monitor)
     (places : length m.place.resets ≡ most_clocks) (t : Moment) where
@@ -214,7 +208,7 @@ module _ (c : Chart) (G : (well_formed c ≡ true) ↔ Given c) (m : Monitor)
   -- of every chart value, monitor and buffer
   module _ (l : List ℕ) where
     -- a case that applies gives what the tests give
-    only : (s : PreviewAnswer) (k : List ℕ) → PreviewsAs c m t l s k → Gives c m t l s k
+    only : (s : Previewed) (k : List ℕ) → PreviewsAs c m t l s k → Gives c m t l s k
     only s k (preview.not_given n) = elim (split (well_formed c)) [
       | inl w ↦ absurd (n (G.0 w))
       | inr w ↦ no_chart c m t l w
@@ -225,13 +219,13 @@ module _ (c : Chart) (G : (well_formed c ≡ true) ↔ Given c) (m : Monitor)
     ]
     only s k (preview.too_short_case g F h) = too_short_case c m t l (G.1 g) (chart_of c) refl (passes_fit g F) h
     only s k (preview.time_falls_case g F h b q) =
-        untimely c m t l (G.1 g) (chart_of c) refl (passes_fit g F) h (Refused TimeFalls)
+        untimely c m t l (G.1 g) (chart_of c) refl (passes_fit g F) h (Err (Feed TimeFalls))
         (rw (eq-eqb _ _ b, lt-ltb _ _ q)) refl
     only s k (preview.too_many g F h b q r) =
-        untimely c m t l (G.1 g) (chart_of c) refl (passes_fit g F) h (Refused TooManyRecords)
+        untimely c m t l (G.1 g) (chart_of c) refl (passes_fit g F) h (Err (Feed TooManyRecords))
         (rw (eq-eqb _ _ b, le-ltb _ _ q, le-leb _ _ r)) refl
     only s k (preview.shows g F h T n S) =
-        let e = on_time c m t l (G.1 g) (chart_of c) refl (passes_fit g F) h Shown (timely_shown m t T) in
+        let e = on_time c m t l (G.1 g) (chart_of c) refl (passes_fit g F) h (Ok tt) (timely_shown m t T) in
         let y : is_shown (preview_of c m t (length l)) ≡ true = sym (ap is_shown e) in (
           e,
           ext_get_or 0 n (buffer_of c m t l) (S.size ∙ sym (same_size c m t l y))
@@ -241,17 +235,17 @@ module _ (c : Chart) (G : (well_formed c ≡ true) ↔ Given c) (m : Monitor)
               ]),
         )
 
-    as_given : {r : PreviewAnswer} {n : List ℕ} → PreviewsAs c m t l r n → Gives c m t l r n
+    as_given : {r : Previewed} {n : List ℕ} → PreviewsAs c m t l r n → Gives c m t l r n
         → PreviewsAs c m t l (preview_of c m t (length l)) (buffer_of c m t l)
     as_given {r} {n} P e =
         subst (λ (k : List ℕ). PreviewsAs c m t l (preview_of c m t (length l)) k) e.1
-        (subst (λ (s : PreviewAnswer). PreviewsAs c m t l s n) e.0 P)
+        (subst (λ (s : Previewed). PreviewsAs c m t l s n) e.0 P)
 
     -- one of them applies
     module _ (g : Given c) (F : Fit (chart_of c) (monitor_at m)) (h : c.count ≤ length l) where
       given_shown : Timely m t → PreviewsAs c m t l (preview_of c m t (length l)) (buffer_of c m t l)
       given_shown T =
-          let e = on_time c m t l (G.1 g) (chart_of c) refl (passes_fit g F) h Shown (timely_shown m t T) in
+          let e = on_time c m t l (G.1 g) (chart_of c) refl (passes_fit g F) h (Ok tt) (timely_shown m t T) in
           let y : is_shown (preview_of c m t (length l)) ≡ true = sym (ap is_shown e) in
           as_given (preview.shows g F h T (buffer_of c m t l) (record {
             size = same_size c m t l y;
@@ -293,11 +287,11 @@ module _ (c : Chart) (G : (well_formed c ≡ true) ↔ Given c) (m : Monitor)
           ]
     ]
 
-    module _ (r : PreviewAnswer) (n : List ℕ) (e : r ≡ preview_of c m t (length l)) (q : n ≡ buffer_of c m t l) where
+    module _ (r : Previewed) (n : List ℕ) (e : r ≡ preview_of c m t (length l)) (q : n ≡ buffer_of c m t l) where
       holds : PreviewsAs c m t l r n
       holds =
           subst (λ (k : List ℕ). PreviewsAs c m t l r k) (sym q)
-          (subst (λ (s : PreviewAnswer). PreviewsAs c m t l s (buffer_of c m t l)) (sym e) given_case)
+          (subst (λ (s : Previewed). PreviewsAs c m t l s (buffer_of c m t l)) (sym e) given_case)
 
       pub previews_just : PreviewsJust c m t l r n
       previews_just = record {
@@ -306,7 +300,7 @@ module _ (c : Chart) (G : (well_formed c ≡ true) ↔ Given c) (m : Monitor)
       }
 
     -- a refusal to show is a refusal to feed
-    refused_alike : {s : PreviewAnswer} {n : List ℕ} → PreviewsAs c m t l s n → (k : FeedRefusal) → s ≡ Refused k
+    refused_alike : {s : Previewed} {n : List ℕ} → PreviewsAs c m t l s n → (k : FeedRefusal) → s ≡ Err (Feed k)
         → (x : Message) → (feed_of c m (a-record.Message x t)).answer ≡ refused (feed_refusal_number k)
     unfolding feed_of feed
     refused_alike (preview.not_given n) k q x = elim (split (well_formed c)) [
@@ -325,24 +319,24 @@ module _ (c : Chart) (G : (well_formed c ≡ true) ↔ Given c) (m : Monitor)
     refused_alike (preview.shows g F h T n S) k q x = let y : ◌≡◌ {A = ℕ} 0 1 = cc in absurd (omega arith)
 
     -- and the other way, where the buffer has room
-    refused_back : {s : PreviewAnswer} {n : List ℕ} → PreviewsAs c m t l s n → (k : FeedRefusal) (x : Message)
-        → (feed_of c m (a-record.Message x t)).answer ≡ refused (feed_refusal_number k) → s ≢ TooShort → s ≡ Refused k
+    refused_back : {s : Previewed} {n : List ℕ} → PreviewsAs c m t l s n → (k : FeedRefusal) (x : Message)
+        → (feed_of c m (a-record.Message x t)).answer ≡ refused (feed_refusal_number k) → s ≢ Err TooShort → s ≡ Err (Feed k)
     refused_back (preview.not_given n) k x q z =
-        ap Refused (same_refusal NotAChart k (sym (refused_alike (preview.not_given n) NotAChart refl x) ∙ q))
+        ap {B = Previewed} (λ (f : FeedRefusal). Err (Feed f)) (same_refusal NotAChart k (sym (refused_alike (preview.not_given n) NotAChart refl x) ∙ q))
     refused_back (preview.unfit g u) k x q z =
-        ap Refused (same_refusal Unfit k (sym (refused_alike (preview.unfit g u) Unfit refl x) ∙ q))
+        ap {B = Previewed} (λ (f : FeedRefusal). Err (Feed f)) (same_refusal Unfit k (sym (refused_alike (preview.unfit g u) Unfit refl x) ∙ q))
     refused_back (preview.too_short_case g F h) k x q z = absurd (z refl)
     refused_back (preview.time_falls_case g F h b p) k x q z =
-        ap Refused
+        ap {B = Previewed} (λ (f : FeedRefusal). Err (Feed f))
         (same_refusal TimeFalls k (sym (refused_alike (preview.time_falls_case g F h b p) TimeFalls refl x) ∙ q))
     refused_back (preview.too_many g F h b p r) k x q z =
-        ap Refused
+        ap {B = Previewed} (λ (f : FeedRefusal). Err (Feed f))
         (same_refusal TooManyRecords k
         (sym (refused_alike (preview.too_many g F h b p r) TooManyRecords refl x) ∙ q))
     refused_back (preview.shows g F h T n S) k x q z = absurd (clash (ap is_refusal q) (unrefused g F T x))
 
     -- each byte of the message is in range
-    ranged : {s : PreviewAnswer} {n : List ℕ} → PreviewsAs c m t l s n → s ≡ Shown → (x : Message) (i : ℕ)
+    ranged : {s : Previewed} {n : List ℕ} → PreviewsAs c m t l s n → s ≡ Ok tt → (x : Message) (i : ℕ)
         → i < c.count → (region_at c i).event ≡ event.Message x → InRange (get_or n i 0)
     ranged (preview.not_given n) q x i b e = let y : ◌≡◌ {A = ℕ} 0 1 = cc in absurd (omega arith)
     ranged (preview.unfit g u) q x i b e = let y : ◌≡◌ {A = ℕ} 0 1 = cc in absurd (omega arith)
@@ -362,6 +356,6 @@ module _ (c : Chart) (G : (well_formed c ≡ true) ↔ Given c) (m : Monitor)
               ap (λ (k : List ℕ). get_or k i 0) q
               ∙ byte_fed c m t l (sym (ap is_shown e) ∙ ap is_shown s) i b x v r.fed f;
           range = λ s i b v. ranged P s x i b v;
-          refused = λ k s. answer_told r.fed.answer (answer.Refused k) (a ∙ refused_alike P k s x);
-          refuses = λ k s z. refused_back P k x (sym a ∙ ap answer_of s) z;
+          refused = λ k s. answer_told r.fed.answer (Err k) (a ∙ refused_alike P k s x);
+          refuses = λ k s z. refused_back P k x (sym a ∙ ap fed_answer s) z;
         }

@@ -4,11 +4,16 @@
 ghost use Rattle.preview_claims.specs.Previews.{PreviewsJust, Foretold};
 
 use model::{Chart, Message, Moment, Monitor, Record};
-use preview::PreviewAnswer;
+use preview::PreviewRefusal;
 use stepping::Step;
 
 // Showing what would be answered: every chart value, monitor, moment and buffer.
-pub fn preview_regions(chart: Chart, m: Monitor, t: Moment, out: &mut [u8]) -> PreviewAnswer
+pub fn preview_regions(
+    chart: Chart,
+    m: Monitor,
+    t: Moment,
+    out: &mut [u8],
+) -> Result<(), PreviewRefusal>
     ensures { PreviewsJust chart m t out.old result out.new }
 {
     preview::preview(chart, m, t, out)
@@ -17,7 +22,7 @@ pub fn preview_regions(chart: Chart, m: Monitor, t: Moment, out: &mut [u8]) -> P
 // What showing answers, and what feeding then gives.
 #[derive(Clone, Copy)]
 pub struct Pressed {
-    pub shown: PreviewAnswer,
+    pub shown: Result<(), PreviewRefusal>,
     pub fed: Step,
 }
 

@@ -1,11 +1,11 @@
 // V18: one record of a log, read and put as six numbers. 0 is success, 12 a buffer with too few places.
 #![tactic(auto)]
 
-ghost use Rattle.std.specs.Prelude.{◌≡◌, [], ◌∷◌, ◌≤◌, length};
+ghost use Rattle.std.specs.Prelude.{◌≡◌, ◌≤◌, length};
 ghost use Rattle.wire.specs.Writing.{starting_with};
 ghost use Rattle.log_reader.specs.Next.{next_at};
 ghost use Rattle.record_numbers.specs.Numbers.{record_places, message_numbers, time_numbers, plain_numbers};
-ghost use Rattle.record_numbers.specs.Numbers.{raw_numbers, record_numbers, next_number, read_number, read_out};
+ghost use Rattle.record_numbers.specs.Numbers.{raw_numbers, record_numbers, read_number, read_out};
 
 use log_reader::Next;
 use model::{Message, RawRecord, Record, TOO_SHORT};
@@ -24,33 +24,20 @@ const RAW_MESSAGE: u64 = 3;
 
 const RAW_TIME: u64 = 4;
 
-// Puts six numbers at the start of a buffer.
-fn put_six(out: &mut [u64], a: u64, b: u64, c: u64, d: u64, e: u64, f: u64)
-    requires { record_places ≤ length out.old }
-    ensures { out.new ≡ starting_with (a ∷ b ∷ c ∷ d ∷ e ∷ f ∷ []) out.old }
-{
-    out[0] = a;
-    out[1] = b;
-    out[2] = c;
-    out[3] = d;
-    out[4] = e;
-    out[5] = f;
-}
-
 // Puts the numbers of a message, by its kind.
 fn put_message(out: &mut [u64], kind: u64, m: Message, time: u32, past: usize)
     requires { record_places ≤ length out.old }
     ensures { out.new ≡ starting_with (message_numbers kind m time past) out.old }
 {
-    put_six(
-        out,
+    let numbers = [
         kind,
-        m.source as u64,
-        m.destination as u64,
-        m.label as u64,
-        time as u64,
+        u64::from(m.source),
+        u64::from(m.destination),
+        u64::from(m.label),
+        u64::from(time),
         past as u64,
-    );
+    ];
+    wire::put_numbers(out, numbers);
 }
 
 // Likewise those of a record of time.
@@ -58,7 +45,7 @@ fn put_time(out: &mut [u64], kind: u64, time: u32, past: usize)
     requires { record_places ≤ length out.old }
     ensures { out.new ≡ starting_with (time_numbers kind time past) out.old }
 {
-    put_six(out, kind, 0, 0, 0, time as u64, past as u64);
+    wire::put_numbers(out, [kind, 0, 0, 0, u64::from(time), past as u64]);
 }
 
 // Puts the numbers of a record.
@@ -83,26 +70,15 @@ fn put_raw(out: &mut [u64], e: RawRecord, past: usize)
     }
 }
 
-// Puts the numbers of what was read at a place, and gives the number to return.
-fn put_next(out: &mut [u64], place: usize, next: Next) -> u8
+// Puts the numbers of what stands at a place.
+fn put_next(out: &mut [u64], place: usize, next: Next)
     requires { record_places ≤ length out.old }
-    ensures number { result ≡ next_number next }
-    ensures numbers { out.new ≡ starting_with (record_numbers place next) out.old }
+    ensures { out.new ≡ starting_with (record_numbers place (Ok next)) out.old }
 {
     match next {
-        Next::End => {
-            put_time(out, NO_RECORD, 0, place);
-            0
-        }
-        Next::Refused(k) => log_reader::number(k),
-        Next::Handed(e, past) => {
-            put_record(out, e, past);
-            0
-        }
-        Next::Raw(e, past) => {
-            put_raw(out, e, past);
-            0
-        }
+        Next::End => put_time(out, NO_RECORD, 0, place),
+        Next::Handed(e, past) => put_record(out, e, past),
+        Next::Raw(e, past) => put_raw(out, e, past),
     }
 }
 
@@ -115,5 +91,11 @@ pub fn read(log: &[u8], place: usize, out: &mut [u64]) -> u8
     if out.len() < RECORD_PLACES {
         return TOO_SHORT;
     }
-    put_next(out, place, log_reader::read_record(log, place))
+    match log_reader::read_record(log, place) {
+        Ok(next) => {
+            put_next(out, place, next);
+            0
+        }
+        Err(why) => u8::from(why),
+    }
 }

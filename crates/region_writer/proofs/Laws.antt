@@ -2,15 +2,10 @@
 use mathlib.Core.Path.{◌≡◌, refl, sym, ap, ◌∙◌}
 use mathlib.Core.Bool.{Bool, true, false, cond}
 use mathlib.Core.List.{List, [], ◌∷◌, ◌++◌}
-use Prim.Native.Nat.{ℕ, zero, suc, ◌+◌, ◌/◌, ◌%◌, ◌≤◌, ◌<◌}
+use Prim.Native.Nat.{ℕ, zero, suc, ◌+◌}
 use native.Mathlib.Numerals.{add-one}
 use native.Mathlib.Omega.{arith}
-use mir.Val.{Val}
-use denote.Laws.{Is}
-use denote.Struct.Declared.{row}
-use Rattle.model.specs.contracts.Term as term
 use lib.Dec.{eqb}
-use lib.ListN.{length}
 use Rattle.model.specs.declared.Region.{Region}
 use Rattle.model.specs.declared.Event.{Event}
 use Rattle.model.specs.declared.Event.TheVariants.{Message, Plain}
@@ -19,24 +14,9 @@ use Rattle.model.specs.declared.Left.{Left}
 use Rattle.model.specs.declared.Left.TheVariants.{Clock, Difference}
 use Rattle.model.specs.Chart.{term_at}
 use Rattle.chart_command.specs.Bytes.{hot_byte, rest_byte, resets_byte}
-use Rattle.wire.specs.Writing.{Wrote, word_bytes}
-use Rattle.wire.proofs.Writing.{then, spelled}
-use Rattle.chart_value.specs.Writer.{four, left_bytes, term_bytes, event_bytes, terms_bytes, flag_bytes, resets_bytes}
-use Rattle.chart_value.specs.Writer.{relation_byte, region_bytes}
+use Rattle.chart_value.specs.Writer.{left_bytes, term_bytes, event_bytes, terms_bytes, flag_bytes, resets_bytes}
+use Rattle.chart_value.specs.Writer.{region_bytes}
 use Rattle.region_writer.specs.Parts.{marks_bytes}
-
--- a piece of at most n bytes
-pub piece : {l t u m : List ℕ} {i j : ℕ} (n : ℕ) → t ≡ u → length t ≤ n → Wrote l i t m j
-    → Wrote l i u m j × (j ≤ i + n)
-piece n e h w = (spelled e w, omega (arith, w.next))
-
--- a number in four bytes
-word : (n : ℕ) → n < 4294967296 → word_bytes n ≡ four n []
-word n h =
-    let a : n / 0x100_0000 % 256 ≡ n / 65536 / 256 = omega arith in
-    let b : n / 0x100 % 256 ≡ n % 65536 / 256 = omega arith in
-    let d : n % 256 ≡ n % 65536 % 256 = omega arith in
-    λ i. a i ∷ n / 0x1_0000 % 256 ∷ b i ∷ d i ∷ []
 
 -- what follows a piece may be joined to it before or after
 left_join : (l : Left) (s rest : List ℕ) → left_bytes l s ++ rest ≡ left_bytes l (s ++ rest)
@@ -79,17 +59,6 @@ region_join g s rest =
     ∙ ap (flag_bytes hot_byte g.hot)
     (resets_join g.resets _ rest ∙ ap (resets_bytes g.resets) (flag_join rest_byte g.rest s rest))))
 
--- a term from its parts
-pub term_parts : (t : Term) → t.n < 4294967296
-    → left_bytes t.left [] ++ (relation_byte t.relation ∷ word_bytes t.n) ≡ term_bytes t []
-term_parts t h =
-    ap (λ (s : List ℕ). left_bytes t.left [] ++ (relation_byte t.relation ∷ s)) (word t.n h)
-    ∙ left_join t.left [] (relation_byte t.relation ∷ four t.n [])
-
--- a term's number has 32 bits
-pub owned_number : (t : Term) (vs : List Val) → Is (row term.the_type) t vs → t.n < 4294967296
-owned_number t vs p = p.1.1.1.1.0.1
-
 -- one term more
 terms_last : (g : Region) (n j k : ℕ) → k ≡ j + n → (s : List ℕ)
     → terms_bytes g n j (term_bytes (term_at g k) s) ≡ terms_bytes g (suc n) j s
@@ -99,21 +68,13 @@ terms_last g zero j k e s =
     ap (λ (x : ℕ). term_bytes (term_at g x) s) d
 terms_last g (suc n) j k e s = ap (term_bytes (term_at g j)) (terms_last g n (suc j) k (omega arith) s)
 
-pub terms_next : {l m o : List ℕ} {i p q : ℕ} (g : Region) (n : ℕ) → Wrote l i (terms_bytes g n 0 []) m p
-    → Wrote m p (term_bytes (term_at g n) []) o q → Wrote l i (terms_bytes g (n + 1) 0 []) o q
-terms_next g n a b =
-    spelled
-    (terms_join g n 0 [] (term_bytes (term_at g n) [])
+pub terms_next : (g : Region) (n : ℕ) → terms_bytes g n 0 [] ++ term_bytes (term_at g n) [] ≡ terms_bytes g (n + 1) 0 []
+terms_next g n =
+    terms_join g n 0 [] (term_bytes (term_at g n) [])
     ∙ terms_last g n 0 n (omega arith) []
-    ∙ ap (λ (k : ℕ). terms_bytes g k 0 []) (sym (add-one n)))
-    (then a b)
+    ∙ ap (λ (k : ℕ). terms_bytes g k 0 []) (sym (add-one n))
 
--- what follows the terms, and a region, from its parts
-pub marks_parts : (hot : Bool) (resets : ℕ) (rest : Bool)
-    → flag_bytes hot_byte hot [] ++ (resets_bytes resets [] ++ flag_bytes rest_byte rest []) ≡ marks_bytes hot resets rest
-marks_parts hot resets rest =
-    flag_join hot_byte hot [] _ ∙ ap (flag_bytes hot_byte hot) (resets_join resets [] (flag_bytes rest_byte rest []))
-
+-- a region from its parts
 pub region_parts : (g : Region)
     → event_bytes g.event [] ++ (terms_bytes g g.count 0 [] ++ marks_bytes g.hot g.resets g.rest)
     ≡ region_bytes g []

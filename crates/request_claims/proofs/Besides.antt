@@ -1,7 +1,7 @@
 -- Yes and no beside judging. Assumes nothing.
 use mathlib.Core.Path.{◌≡◌, refl, sym, ap, subst, ◌∙◌}
 use mathlib.Core.Logic.{◌≢◌, inl, inr, ◌↔◌}
-use mathlib.Core.Bool.{true}
+use mathlib.Core.Bool.{true, false}
 use mathlib.Core.List.{List}
 use Prim.Native.Nat.{ℕ}
 use native.Mathlib.Decide.{ℕ_discrete}
@@ -22,18 +22,15 @@ use Rattle.log_clock.specs.declared.MomentRefusal.TheVariants.{Mixed, Falls, Too
 use Rattle.log_clock.specs.Records.{records_in}
 use Rattle.log_check.specs.declared.LogRefusal.{LogRefusal}
 use Rattle.log_check.specs.declared.LogRefusal.TheVariants.{NoRecord, NoMoment, TooManyRecords}
-use Rattle.log_check.specs.declared.Checked.{Checked}
-use Rattle.log_check.specs.declared.Checked.TheVariants as checked
-use Rattle.log_check.specs.Refusal.{log_refusal_number}
+use Rattle.std.specs.Prelude.{Ok, Err}
+use Rattle.log_check.specs.Refusal.{log_refusal_number, Checked}
 use Rattle.log_check.specs.Check.{check_log}
 use Rattle.log_check.specs.Sound.{sound_records}
 use Rattle.log_check.proofs.Laws.{is_fine}
 use Rattle.log_check.proofs.Sound.{all_sound}
 use Rattle.judge.specs.Said as judge
 use Rattle.judge.specs.Judge.{by_check, judge_of}
-use Rattle.breaks.specs.declared.BreakAnswer.{BreakAnswer}
-use Rattle.breaks.specs.declared.BreakAnswer.TheVariants.{Yes, No}
-use Rattle.breaks.specs.Numbers.{break_number, break_offset}
+use Rattle.breaks.specs.Numbers.{BreakAnswer, break_number, break_offset}
 use Rattle.breaks.specs.Breaks.{by_fault, answer_by, breaks_of}
 use Rattle.claims.specs.Demand1.{JudgesAs}
 use Rattle.claims.specs.Demand1 as judging
@@ -52,18 +49,18 @@ no_zero TooManyRecords z = omega (arith, z)
 
 -- beside judging
 module _ (c : Chart) (s : List ℕ) where
-  fine_yes : (n : ℕ) → check_log s ≡ checked.Fine n
-      → (answer_by (after (chart_of c) (logged (sound_records s))) (checked.Fine n) ≡ Yes) ↔ Broken c (records_in s)
+  fine_yes : (n : ℕ) → check_log s ≡ Ok n
+      → (answer_by (after (chart_of c) (logged (sound_records s))) (Ok n) ≡ Ok true) ↔ Broken c (records_in s)
   fine_yes n e =
       let q : sound_records s ≡ records_in s = all_sound s (ap is_fine e) in
-      subst (λ (es : Snoc Record). (answer_by (after (chart_of c) (logged (sound_records s))) (checked.Fine n) ≡ Yes)
+      subst (λ (es : Snoc Record). (answer_by (after (chart_of c) (logged (sound_records s))) (Ok n) ≡ Ok true)
       ↔ Broken c es) q (
-        (λ y z. let w : No ≡ Yes = sym (unbroken_by c s (sound_records s) z (checked.Fine n)) ∙ y in
+        (λ y z. let w : ◌≡◌ {A = BreakAnswer} (Ok false) (Ok true) = sym (unbroken_by c s (sound_records s) z (Ok n)) ∙ y in
             let v : ◌≡◌ {A = ℕ} 0 1 = cc in omega arith),
-        λ b. broken_by c s (sound_records s) b (checked.Fine n),
+        λ b. broken_by c s (sound_records s) b (Ok n),
       )
 
-  as_judged : (judge_of c s).number ≡ 0 → (breaks_of c s ≡ Yes) ↔ ((judge_of c s).verdict.broken ≢ 0)
+  as_judged : (judge_of c s).number ≡ 0 → (breaks_of c s ≡ Ok true) ↔ ((judge_of c s).verdict.broken ≢ 0)
   unfolding judge_of breaks_of
   as_judged = elim (split (well_formed c)) [
     | inl w ↦ rw w (by (check_log s) refl)
@@ -71,21 +68,21 @@ module _ (c : Chart) (s : List ℕ) where
   ]
     where
       by : (x : Checked) → check_log s ≡ x → (by_check c s x).number ≡ 0
-          → (answer_by (after (chart_of c) (logged (sound_records s))) x ≡ Yes) ↔ ((by_check c s x).verdict.broken ≢ 0)
-      by (checked.Fine n) e z = fine_yes n e
-      by (checked.Refused k o) e z = absurd (no_zero k z)
+          → (answer_by (after (chart_of c) (logged (sound_records s))) x ≡ Ok true) ↔ ((by_check c s x).verdict.broken ≢ 0)
+      by (Ok n) e z = fine_yes n e
+      by (Err f) e z = absurd (no_zero f.why z)
 
-  as_refused : breaks_of c s ≢ Yes
+  as_refused : breaks_of c s ≢ Ok true
       → (break_number (breaks_of c s) ≡ (judge_of c s).number) × (break_offset (breaks_of c s) ≡ (judge_of c s).offset)
   unfolding judge_of breaks_of
   as_refused = elim (split (well_formed c)) [ inl w ↦ rw w by | inr w ↦ rw w (λ n. (refl, refl)) ]
     where
       same : (x : Checked) → (break_number (by_fault x) ≡ (by_check c s x).number)
           × (break_offset (by_fault x) ≡ (by_check c s x).offset)
-      same (checked.Fine n) = (refl, refl)
-      same (checked.Refused k o) = (refl, refl)
+      same (Ok n) = (refl, refl)
+      same (Err f) = (refl, refl)
 
-      by : answer_by (after (chart_of c) (logged (sound_records s))) (check_log s) ≢ Yes
+      by : answer_by (after (chart_of c) (logged (sound_records s))) (check_log s) ≢ Ok true
           → (break_number (answer_by (after (chart_of c) (logged (sound_records s))) (check_log s))
           ≡ (by_check c s (check_log s)).number)
           × (break_offset (answer_by (after (chart_of c) (logged (sound_records s))) (check_log s))
@@ -106,13 +103,13 @@ module _ (c : Chart) (s : List ℕ) where
     is_asked : b ≡ breaks_of c s
     is_asked = (breaks_just c s G (breaks_of c s) refl).only b B
 
-    pub beside_judged : r.number ≡ 0 → (b ≡ Yes) ↔ (r.verdict.broken ≢ 0)
+    pub beside_judged : r.number ≡ 0 → (b ≡ Ok true) ↔ (r.verdict.broken ≢ 0)
     beside_judged z =
-        subst (λ (x : judge.Said). (b ≡ Yes) ↔ (x.verdict.broken ≢ 0)) (sym is_judged)
-        (subst (λ (a : BreakAnswer). (a ≡ Yes) ↔ ((judge_of c s).verdict.broken ≢ 0)) (sym is_asked)
+        subst (λ (x : judge.Said). (b ≡ Ok true) ↔ (x.verdict.broken ≢ 0)) (sym is_judged)
+        (subst (λ (a : BreakAnswer). (a ≡ Ok true) ↔ ((judge_of c s).verdict.broken ≢ 0)) (sym is_asked)
         (as_judged (sym (ap (λ (x : judge.Said). x.number) is_judged) ∙ z)))
 
-    pub beside_refused : b ≢ Yes → (break_number b ≡ r.number) × (break_offset b ≡ r.offset)
+    pub beside_refused : b ≢ Ok true → (break_number b ≡ r.number) × (break_offset b ≡ r.offset)
     beside_refused n =
         let R = as_refused (λ z. n (is_asked ∙ z)) in (
           ap break_number is_asked ∙ R.0 ∙ ap (λ (x : judge.Said). x.number) (sym is_judged),
@@ -124,7 +121,7 @@ given_test : (c : Chart) → Given c → (well_formed c ≡ true) ↔ Given c
 given_test c g = ((λ w. g), λ h. (reads-fine h.bytes c h.accepted).fine)
 
 pub breaks_judged : (c : Chart) (s : List ℕ) (r : judge.Said) (b : BreakAnswer) → JudgesAs c s r → BreaksAs c s b
-    → r.number ≡ 0 → (b ≡ Yes) ↔ (r.verdict.broken ≢ 0)
+    → r.number ≡ 0 → (b ≡ Ok true) ↔ (r.verdict.broken ≢ 0)
 breaks_judged c s r b (judging.not_given n) B z = absurd (omega (arith, z))
 breaks_judged c s r b (judging.refuses g W f F) B z =
     beside_judged c s (given_test c g) r b (judging.refuses g W f F) B z
@@ -132,10 +129,10 @@ breaks_judged c s r b (judging.judges g W F) B z =
     beside_judged c s (given_test c g) r b (judging.judges g W F) B z
 
 pub breaks_refused : (c : Chart) (s : List ℕ) (r : judge.Said) (b : BreakAnswer) → JudgesAs c s r → BreaksAs c s b
-    → b ≢ Yes → (break_number b ≡ r.number) × (break_offset b ≡ r.offset)
+    → b ≢ Ok true → (break_number b ≡ r.number) × (break_offset b ≡ r.offset)
 breaks_refused c s r b (judging.not_given n) B z = none B z
   where
-    none : {a : BreakAnswer} → BreaksAs c s a → a ≢ Yes → (break_number a ≡ not_a_chart) × (break_offset a ≡ 0)
+    none : {a : BreakAnswer} → BreaksAs c s a → a ≢ Ok true → (break_number a ≡ not_a_chart) × (break_offset a ≡ 0)
     none (case.not_given m) y = (refl, refl)
     none (case.refuses g W u f F) y = absurd (n g)
     none (case.breaks g e W u v) y = absurd (n g)

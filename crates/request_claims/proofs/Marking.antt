@@ -23,8 +23,8 @@ use Rattle.rounds.specs.Machine.{Monitor as AbstractMonitor, prechart_done, Fit,
 use Rattle.paper.specs.Taken.{Taken, status_of, Acceptable}
 use Rattle.stepping.specs.Monitors.{monitor_at}
 use Rattle.log_clock.specs.Records.{records_in}
-use Rattle.log_check.specs.declared.Checked.{Checked}
-use Rattle.log_check.specs.declared.Checked.TheVariants as checked
+use Rattle.std.specs.Prelude.{Ok, Err}
+use Rattle.log_check.specs.Refusal.{Checked}
 use Rattle.log_check.specs.Check.{check_log}
 use Rattle.judge.specs.Judge.{judge_of, by_check}
 use Rattle.judge.specs.Said as judge
@@ -82,7 +82,7 @@ module _ (c d : Chart) (a : Alike c d) (g : Given c) (h : Given d) where
       (subst (λ (C : Abstract). Fit C (monitor_at k)) same F)
 
   check_alike : (s : List ℕ) (k : Checked) → SaidAlike (by_check c s k) (by_check d s k)
-  check_alike s (checked.Refused k offset) = record {
+  check_alike s (Err f) = record {
     number = refl;
     offset = refl;
     standing = refl;
@@ -94,7 +94,7 @@ module _ (c d : Chart) (a : Alike c d) (g : Given c) (h : Given d) where
     region = refl;
     term = refl;
   }
-  check_alike s (checked.Fine n) = record {
+  check_alike s (Ok n) = record {
     number = refl;
     offset = refl;
     standing =

@@ -1,5 +1,5 @@
 -- How the operations that were asked for later stand to the ones before, on one page.
-use Rattle.std.specs.Prelude.{◌≡◌, ◌≢◌, ◌↔◌, List, ℕ}
+use Rattle.std.specs.Prelude.{◌≡◌, ◌≢◌, ◌↔◌, true, List, ℕ, Ok}
 use Rattle.model.specs.declared.Chart.{Chart}
 use Rattle.model.specs.declared.Monitor.{Monitor}
 use Rattle.model.specs.declared.Record.{Record}
@@ -10,9 +10,7 @@ use Rattle.chart_value.specs.Writer.{chart_bytes}
 use Rattle.chart_value.specs.Marks.{Alike}
 use Rattle.rounds.specs.Feeds.{Answer as AbstractAnswer}
 use Rattle.judge.specs.Said as judge
-use Rattle.breaks.specs.declared.BreakAnswer.{BreakAnswer}
-use Rattle.breaks.specs.declared.BreakAnswer.TheVariants.{Yes}
-use Rattle.breaks.specs.Numbers.{break_number, break_offset}
+use Rattle.breaks.specs.Numbers.{BreakAnswer, break_number, break_offset}
 use Rattle.feed_claims.specs.Feeds.{FeedsAs}
 use Rattle.claims.specs.Demand1.{JudgesAs}
 use Rattle.break_claims.specs.Breaks.{BreaksAs}
@@ -21,10 +19,10 @@ use Rattle.request_claims.specs.Marks.{SaidAlike}
 pub record Requests : Type 0 where
   -- K5: of a log that judging accepts the answer is yes exactly if its verdict has a break
   pub breaks_judged : (c : Chart) (log : List ℕ) (r : judge.Said) (b : BreakAnswer) → JudgesAs c log r → BreaksAs c log b
-      → r.number ≡ 0 → (b ≡ Yes) ↔ (r.verdict.broken ≢ 0)
+      → r.number ≡ 0 → (b ≡ Ok true) ↔ (r.verdict.broken ≢ 0)
   -- and where the answer is not yes, number and offset are those that judging has
   pub breaks_refused : (c : Chart) (log : List ℕ) (r : judge.Said) (b : BreakAnswer) → JudgesAs c log r
-      → BreaksAs c log b → b ≢ Yes → (break_number b ≡ r.number) × (break_offset b ≡ r.offset)
+      → BreaksAs c log b → b ≢ Ok true → (break_number b ≡ r.number) × (break_offset b ≡ r.offset)
   -- D5: the writer's bytes are read as the chart, and two charts are equal exactly if their bytes are
   pub saved_read : (c : Chart) → Given c → read_chart (chart_bytes c) ≡ accepted_as c
   pub bytes_tell : (c d : Chart) → Given c → Given d → (c ≡ d) ↔ (chart_bytes c ≡ chart_bytes d)

@@ -4,139 +4,97 @@
 // and how many differ.
 #![tactic(auto)]
 
-ghost use Rattle.std.specs.Prelude.{◌≤◌, IfOk, length};
-
-use hexadecimal::{COLON, LINE_FEED};
-use respond::Response;
+use hexadecimal::COLON;
+use respond::{ROOM, TooShort};
 use std::fs::File;
-use std::io;
 use std::rt::Files;
+use std::{fmt, io};
 
 const HASH: u8 = b'#';
 
 const EQUALS: u8 = b'=';
 
-fn put(rt: &impl Print, text: &[u8]) -> io::Result<()> {
-    rt.write_all(text)
+// How many cases ran, and how many of them differ.
+#[derive(Clone, Copy)]
+struct Tally {
+    cases: usize,
+    differ: usize,
 }
 
-fn put_number(rt: &impl Print, n: usize) -> io::Result<()> {
-    rt.print(n)
-}
-
-fn is_refusal(line: &[u8]) -> bool {
-    if line.len() == 0 {
-        return false;
+impl fmt::Display for Tally {
+    fn fmt<W: fmt::Write>(&self, f: &mut fmt::Formatter<W>) -> fmt::Result {
+        write!(f, "{} cases, {} differ", self.cases, self.differ)
     }
-    line[0] == b'r'
 }
 
 // Whether the text is a refusal's one line, or the header and then the line.
 fn agrees(text: &[u8], line: &[u8]) -> bool {
-    let start: usize = 0;
-    let first = hexadecimal::find(text, start, text.len(), LINE_FEED);
-    if first == text.len() {
-        return false;
-    }
-    let second = first + 1;
-    if is_refusal(line) {
-        return second == text.len() && check::same(&text[start..first], line);
-    }
-    let end = hexadecimal::find(text, second, text.len(), LINE_FEED);
-    if end == text.len() {
-        return false;
-    }
-    let header = b"STANDING KEPT DROPPED RECORDS BREAK REASON REGION TERM";
-    end + 1 == text.len()
-        && check::same(&text[start..first], header)
-        && check::same(&text[second..end], line)
+    let header: &[u8] = b"STANDING KEPT DROPPED RECORDS BREAK REASON REGION TERM\n";
+    let said = if line.starts_with(b"r") {
+        Some(text)
+    } else {
+        text.strip_prefix(header)
+    };
+    said.and_then(|rest| rest.strip_suffix(b"\n")) == Some(line)
 }
 
-// 0 if the text is as expected; otherwise 1, and it says what was printed.
-fn compare(rt: &impl Print, name: &[u8], text: &[u8], line: &[u8]) -> io::Result<usize>
-    ensures { IfOk result (λ n. n ≤ 1) }
-{
+// Whether the text is not as expected; if so, it says what was printed.
+fn compare(rt: &impl Print, name: &[u8], text: &[u8], line: &[u8]) -> io::Result<bool> {
     if agrees(text, line) {
-        return Ok(0);
+        return Ok(false);
     }
-    put(rt, name)?;
-    put(rt, b" printed ")?;
-    put(rt, text)?;
-    Ok(1)
+    rt.write_all(name)?;
+    rt.write_all(b" printed ")?;
+    rt.write_all(text)?;
+    Ok(true)
 }
 
-fn run(rt: &impl Print, name: &[u8], input: &[u8], line: &[u8]) -> io::Result<usize>
-    ensures { IfOk result (λ n. n ≤ 1) }
-{
-    let mut out = [0u8; 223];
-    let response = respond::respond(input, &mut out);
-    match response {
-        Response::Written(n) => compare(rt, name, &out[..n], line),
-        Response::TooShort => Ok(1),
+fn run(rt: &impl Print, name: &[u8], input: &[u8], line: &[u8]) -> io::Result<bool> {
+    let mut out = [0u8; ROOM];
+    match respond::respond(input, &mut out) {
+        Ok(n) => compare(rt, name, &out[..n], line),
+        Err(TooShort) => Ok(true),
     }
 }
 
-fn run_digits(rt: &impl Print, name: &[u8], digits: &[u8], line: &[u8]) -> io::Result<usize>
-    ensures { IfOk result (λ n. n ≤ 1) }
-{
+fn run_digits(rt: &impl Print, name: &[u8], digits: &[u8], line: &[u8]) -> io::Result<bool> {
     let mut input = [0u8; 2048];
     let n = hexadecimal::put_bytes(digits, &mut input);
     run(rt, name, &input[..n], line)
 }
 
-// One case, which stands from `at` to `end`.
-fn differs(rt: &impl Print, text: &[u8], at: usize, end: usize) -> io::Result<usize>
-    requires { (at ≤ end) × (end ≤ length text.now) }
-    ensures { IfOk result (λ n. n ≤ 1) }
-{
-    let colon = hexadecimal::find(text, at, end, COLON);
-    let equals = hexadecimal::find(text, colon, end, EQUALS);
-    if end - equals < 2 {
-        put(rt, &text[at..end])?;
-        put(rt, b" is no case\n")?;
-        return Ok(1);
-    }
-    let start = equals + 2;
-    run_digits(
-        rt,
-        &text[at..colon],
-        &text[colon..equals],
-        &text[start..end],
-    )
+// Whether the case of a line differs.
+fn differs(rt: &impl Print, case: &[u8]) -> io::Result<bool> {
+    let (name, rest) = hexadecimal::split_before(case, COLON);
+    let (digits, rest) = hexadecimal::split_before(rest, EQUALS);
+    let [_, _, line @ ..] = rest else {
+        rt.write_all(case)?;
+        rt.write_all(b" is no case\n")?;
+        return Ok(true);
+    };
+    run_digits(rt, name, digits, line)
 }
 
-fn put_result(rt: &impl Print, name: &[u8], cases: usize, differ: usize) -> io::Result<()> {
-    put(rt, name)?;
-    put(rt, b": ")?;
-    put_number(rt, cases)?;
-    put(rt, b" cases, ")?;
-    put_number(rt, differ)?;
-    put(rt, b" differ\n")
-}
-
-fn run_text(rt: &impl Print, name: &[u8], text: &[u8]) -> io::Result<()> {
-    let mut at: usize = 0;
-    let mut cases: usize = 0;
-    let mut differ: usize = 0;
-    while at < text.len() {
-        let end = hexadecimal::find(text, at, text.len(), LINE_FEED);
-        if text[at] != HASH {
-            cases += 1;
-            differ += differs(rt, text, at, end)?;
+fn run_text(rt: &impl Print, text: &[u8]) -> io::Result<Tally> {
+    let mut tally = Tally {
+        cases: 0,
+        differ: 0,
+    };
+    for line in hexadecimal::lines(text) {
+        if line.first() != Some(&HASH) {
+            tally.cases += 1;
+            tally.differ += usize::from(differs(rt, line)?);
         }
-        if end == text.len() {
-            return put_result(rt, name, cases, differ);
-        }
-        at = end + 1;
     }
-    put_result(rt, name, cases, differ)
+    Ok(tally)
 }
 
 fn run_file(rt: &(impl Files + Print), name: &str) -> io::Result<()> {
     let mut file = File::open(rt, name)?;
     let mut text = [0u8; 65536];
     let n = input::read_full(&mut file, &mut text)?;
-    run_text(rt, name.as_bytes(), &text[..n])
+    let tally = run_text(rt, &text[..n])?;
+    println!(rt; "{name}: {tally}")
 }
 
 // The longest input, and one byte more: too long for a line of text.
@@ -150,15 +108,22 @@ fn run_long(rt: &impl Print) -> io::Result<()> {
         &too_long,
         b"refused input 40 at 0",
     )?;
-    put_result(rt, b"long", 2, first + second)
+    let differ = usize::from(first) + usize::from(second);
+    let tally = Tally { cases: 2, differ };
+    println!(rt; "long: {tally}")
 }
 
 fn main(rt: HostRuntime) -> io::Result<()> {
-    run_file(&rt, "charts")?;
-    run_file(&rt, "logs")?;
-    run_file(&rt, "relations")?;
-    run_file(&rt, "second_offers")?;
-    run_file(&rt, "raw_logs")?;
-    run_file(&rt, "rests")?;
+    let names = [
+        "charts",
+        "logs",
+        "relations",
+        "second_offers",
+        "raw_logs",
+        "rests",
+    ];
+    for name in names {
+        run_file(&rt, name)?;
+    }
     run_long(&rt)
 }

@@ -123,11 +123,6 @@ module _ (c : Chart) (fired : ℕ → Bool) where
         last_found true o = refl
         last_found false o = refl
 
--- after the last region
-pub all_regions : {c : Chart} {fired : ℕ → Bool} {n : ℕ} {l : Lines} → LinesBelow c fired n l → n ≡ c.count
-    → LinesBelow c fired c.count l
-all_regions {c} {fired} {n} {l} L e = subst (λ (m : ℕ). LinesBelow c fired m l) e L
-
 -- each line below the chart's number of lines asked of the sets
 pub lines_asked : (c : Chart) (fired : ℕ → Bool) (l : Lines) → c.lines ≤ most_lines → LinesBelow c fired c.count l
     → {n : ℕ} {b : Bool} → AllSoFar (λ k. not (contains l.counting k) || contains l.cold k) n b → n ≡ c.lines

@@ -16,25 +16,18 @@ pub struct Lines {
     pub cold: u32,
 }
 
-// One region more, the last so far on the lines that it touches.
-fn one_more(l: Lines, touched: u32, fired: bool, rest: bool) -> Lines
-    ensures { OneMore l touched fired rest result }
-{
-    if !fired {
-        return Lines {
-            counting: bitset::join(l.counting, touched),
-            cold: l.cold,
-        };
-    }
-    if rest {
-        return Lines {
-            counting: l.counting,
-            cold: bitset::join(l.cold, touched),
-        };
-    }
-    Lines {
-        counting: l.counting,
-        cold: l.cold & bitset::others(touched),
+impl Lines {
+    // One region more, the last so far on the lines that it touches.
+    fn add(&mut self, touched: u32, fired: bool, rest: bool)
+        ensures { OneMore self.old touched fired rest self.new }
+    {
+        if !fired {
+            self.counting = bitset::join(self.counting, touched);
+        } else if rest {
+            self.cold = bitset::join(self.cold, touched);
+        } else {
+            self.cold &= bitset::others(touched);
+        }
     }
 }
 
@@ -43,18 +36,14 @@ fn lines_of(c: Chart, fired: u32) -> Lines
     requires { (c.prechart ≤ c.count) × (c.count ≤ most_regions) }
     ensures { LinesBelow c (contains fired) c.count result }
 {
-    let count = c.count as usize;
     let mut l = Lines {
         counting: 0,
         cold: 0,
     };
-    let mut i = c.prechart as usize;
-    while i < count {
-        let g = c.regions[i];
-        let e = g.event;
-        let touched = model::touched(e) as u32;
-        l = one_more(l, touched, bitset::member(fired, i as u32), g.rest);
-        i += 1;
+    for i in usize::from(c.prechart)..usize::from(c.count) {
+        let g = &c.regions[i];
+        let touched = u32::from(model::touched(g.event));
+        l.add(touched, bitset::member(fired, i as u32), g.rest);
     }
     l
 }
@@ -66,12 +55,9 @@ pub fn rests(c: Chart, fired: u32) -> bool
     ensures exactly { RestsExactly c (contains fired) }
 {
     let l = lines_of(c, fired);
-    let lines = c.lines as u32;
     let mut ok = true;
-    let mut k: u32 = 0;
-    while k < lines {
-        ok = ok & (!bitset::member(l.counting, k) | bitset::member(l.cold, k));
-        k += 1;
+    for k in 0..u32::from(c.lines) {
+        ok &= !bitset::member(l.counting, k) | bitset::member(l.cold, k);
     }
     ok
 }

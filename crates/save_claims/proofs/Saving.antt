@@ -4,6 +4,7 @@ use mathlib.Core.Logic.{◌↔◌, inl, inr}
 use mathlib.Core.Bool.{Bool, true, false}
 use mathlib.Core.List.{List}
 use Prim.Native.Nat.{ℕ, ◌≤◌}
+use Rattle.std.specs.Prelude.{Result, Ok, Err}
 use native.Mathlib.Omega.{arith}
 use borrow.Author.Tests.{ltb-true, ltb-false, lt-ltb, le-ltb}
 use lib.Dec.{ltb}
@@ -19,8 +20,8 @@ use Rattle.chart_value.specs.WellFormed.{well_formed}
 use Rattle.chart_value.specs.Writer.{chart_bytes}
 use Rattle.chart_value.proofs.Sound.{sound}
 use Rattle.chart_value.proofs.RoundTrip.{round_trip}
-use Rattle.chart_writer.specs.declared.ChartWritten.{ChartWritten}
-use Rattle.chart_writer.specs.declared.ChartWritten.TheVariants.{Written, NotAChart, TooShort}
+use Rattle.chart_writer.specs.declared.SaveRefusal.{SaveRefusal}
+use Rattle.chart_writer.specs.declared.SaveRefusal.TheVariants.{NotAChart, TooShort}
 use Rattle.chart_writer.specs.Save.{saved_answer, saved_buffer}
 use Rattle.save_claims.specs.Saves as save
 use Rattle.save_claims.specs.Saves.{SavesAs, SavesJust, written_length}
@@ -35,14 +36,13 @@ bytes_tell c d g h = (
   λ e. ap (λ (x : Said). x.chart) (sym (saved_read c g) ∙ ap read_chart e ∙ saved_read d h),
 )
 
-written? : ChartWritten → Bool
-written? (Written n) = true
-written? NotAChart = false
-written? (TooShort n) = false
+written? : Result ℕ SaveRefusal → Bool
+written? (Ok n) = true
+written? (Err k) = false
 
 module _ (c : Chart) (G : (well_formed c ≡ true) ↔ Given c) (l : List ℕ) where
   -- each case has what is computed
-  as_computed : {s : ChartWritten} {k : List ℕ} → SavesAs c l s k → (s ≡ saved_answer c l) × (k ≡ saved_buffer c l)
+  as_computed : {s : Result ℕ SaveRefusal} {k : List ℕ} → SavesAs c l s k → (s ≡ saved_answer c l) × (k ≡ saved_buffer c l)
   as_computed (save.not_given u) = elim (split (well_formed c)) [
     | inl w ↦ absurd (u (G.0 w))
     | inr w ↦ (rw w refl, rw w refl)
@@ -57,11 +57,11 @@ module _ (c : Chart) (G : (well_formed c ≡ true) ↔ Given c) (l : List ℕ) w
       (rw (w, f) refl, rw (w, f) (starting_only (chart_bytes c) l n h H.size H.bytes H.rest))
 
   -- and one of them applies
-  along : {s : ChartWritten} {k : List ℕ} → SavesAs c l s k → SavesAs c l (saved_answer c l) (saved_buffer c l)
+  along : {s : Result ℕ SaveRefusal} {k : List ℕ} → SavesAs c l s k → SavesAs c l (saved_answer c l) (saved_buffer c l)
   along {s} {k} S =
       let p = as_computed S in
       subst (λ (m : List ℕ). SavesAs c l (saved_answer c l) m) p.1
-      (subst (λ (r : ChartWritten). SavesAs c l r k) p.0 S)
+      (subst (λ (r : Result ℕ SaveRefusal). SavesAs c l r k) p.0 S)
 
   applies : SavesAs c l (saved_answer c l) (saved_buffer c l)
   applies = elim (split (well_formed c)) [
@@ -78,12 +78,12 @@ module _ (c : Chart) (G : (well_formed c ≡ true) ↔ Given c) (l : List ℕ) w
     ]
   ]
 
-  module _ (r : ChartWritten) (n : List ℕ) (e : r ≡ saved_answer c l) (q : n ≡ saved_buffer c l) where
+  module _ (r : Result ℕ SaveRefusal) (n : List ℕ) (e : r ≡ saved_answer c l) (q : n ≡ saved_buffer c l) where
     pub saves_just : SavesJust c l r n
     saves_just = record {
       holds =
           subst (λ (m : List ℕ). SavesAs c l r m) (sym q)
-          (subst (λ (s : ChartWritten). SavesAs c l s (saved_buffer c l)) (sym e) applies);
+          (subst (λ (s : Result ℕ SaveRefusal). SavesAs c l s (saved_buffer c l)) (sym e) applies);
       only = λ s k S. let p = as_computed S in (p.0 ∙ sym e, p.1 ∙ sym q);
     }
 
@@ -92,10 +92,10 @@ module _ (c : Chart) (G : (well_formed c ≡ true) ↔ Given c) (l : List ℕ) w
         → (written_length r ≤ length n) × (written? r ≡ true → take (written_length r) n ≡ chart_bytes c)
     unfolding written?
     by_room w true f =
-        let a : r ≡ TooShort (length (chart_bytes c)) = e ∙ rw (w, f) refl in
+        let a : r ≡ Err (TooShort (length (chart_bytes c))) = e ∙ rw (w, f) refl in
         (rw a (omega arith), λ h. clash h (ap written? a))
     by_room w false f =
-        let a : r ≡ Written (length (chart_bytes c)) = e ∙ rw (w, f) refl in
+        let a : r ≡ Ok (length (chart_bytes c)) = e ∙ rw (w, f) refl in
         let b : n ≡ starting_with (chart_bytes c) l = q ∙ rw (w, f) refl in
         let h = ltb-false (length l) (length (chart_bytes c)) f in (
           rw (a, b, starting_size (chart_bytes c) l h) h,
@@ -106,7 +106,7 @@ module _ (c : Chart) (G : (well_formed c ≡ true) ↔ Given c) (l : List ℕ) w
         → (written_length r ≤ length n) × (written? r ≡ true → read_chart (take (written_length r) n) ≡ accepted_as c)
     unfolding written?
     by_chart false w =
-        let a : r ≡ NotAChart = e ∙ rw w refl in
+        let a : r ≡ Err NotAChart = e ∙ rw w refl in
         (rw a (omega arith), λ h. clash h (ap written? a))
     by_chart true w =
         let p = by_room w (ltb (length l) (length (chart_bytes c))) refl in
@@ -115,6 +115,6 @@ module _ (c : Chart) (G : (well_formed c ≡ true) ↔ Given c) (l : List ℕ) w
     pub in_buffer : written_length r ≤ length n
     in_buffer = (by_chart (well_formed c) refl).0
 
-    pub read_back : (k : ℕ) → r ≡ Written k → read_chart (take (written_length r) n) ≡ accepted_as c
+    pub read_back : (k : ℕ) → r ≡ Ok k → read_chart (take (written_length r) n) ≡ accepted_as c
     unfolding written?
     read_back k h = (by_chart (well_formed c) refl).1 (ap written? h)

@@ -8,11 +8,11 @@ ghost use Rattle.chart_writer.specs.Save.{most_bytes};
 ghost use Rattle.save_claims.specs.Saves.{SavesJust, written_length, ReadBack};
 
 use chart_reader::ChartRead;
-use chart_writer::ChartWritten;
+use chart_writer::SaveRefusal;
 use model::Chart;
 
 // Saving a chart: every chart value and buffer. No chart has more than 1,317 bytes.
-pub fn save_chart(chart: Chart, out: &mut [u8]) -> ChartWritten
+pub fn save_chart(chart: Chart, out: &mut [u8]) -> Result<usize, SaveRefusal>
     ensures saves { SavesJust chart out.old result out.new }
     ensures most { Given chart → length (chart_bytes chart) ≤ most_bytes }
 {
@@ -22,19 +22,15 @@ pub fn save_chart(chart: Chart, out: &mut [u8]) -> ChartWritten
 // What saving answers, and what is then read from the bytes that were written.
 #[derive(Clone, Copy)]
 pub struct Resaved {
-    pub saved: ChartWritten,
+    pub saved: Result<usize, SaveRefusal>,
     pub read: ChartRead,
 }
 
 // The length that was written; 0 after a refusal.
-fn written_length(a: ChartWritten) -> usize
-    ensures { result ≡ written_length a }
+fn written_length(saved: Result<usize, SaveRefusal>) -> usize
+    ensures { result ≡ written_length saved }
 {
-    match a {
-        ChartWritten::Written(n) => n,
-        ChartWritten::NotAChart => 0,
-        ChartWritten::TooShort(_) => 0,
-    }
+    saved.unwrap_or(0)
 }
 
 // Saves a chart, then reads what was written, after a refusal nothing: every chart value and buffer.

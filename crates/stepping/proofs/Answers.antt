@@ -5,11 +5,11 @@ use Prim.Native.Nat.{ℕ}
 use lib.Dec.{eqb}
 use Rattle.model.specs.declared.FeedRefusal.{FeedRefusal}
 use Rattle.model.specs.declared.FeedRefusal.TheVariants.{NotAChart, Unfit, TimeFalls, TooManyRecords}
-use Rattle.model.specs.declared.Answer.{Answer}
-use Rattle.model.specs.declared.Answer.TheVariants.{Refused, Broken, Kept, Dropped, Entered, Moved, Quiet}
-use Rattle.model.specs.Answers.{feed_refusal_number, answer_number}
+use Rattle.model.specs.declared.Answer.TheVariants.{Broken, Kept, Dropped, Entered, Moved, Quiet}
+use Rattle.std.specs.Prelude.{Ok, Err}
+use Rattle.model.specs.Answers.{feed_refusal_number, Fed, fed_number}
 use Rattle.rounds.specs.Feeds.{Answer as AbstractAnswer, refused, broken_at, kept_now, dropped_now, entered, moved, quiet}
-use Rattle.stepping.specs.Answers.{answer_of, told_number}
+use Rattle.stepping.specs.Answers.{fed_answer, told_number}
 
 -- the refusal with a number
 feed_refusal : ℕ → FeedRefusal
@@ -22,34 +22,34 @@ feed_refusal_lem Unfit = refl
 feed_refusal_lem TimeFalls = refl
 feed_refusal_lem TooManyRecords = refl
 
--- the answer that is shown so
-ans : AbstractAnswer → Answer
-ans (refused k) = Refused (feed_refusal k)
-ans (broken_at n k x) = Broken n k x
-ans kept_now = Kept
-ans (dropped_now x) = Dropped x
-ans entered = Entered
-ans moved = Moved
-ans quiet = Quiet
+-- what is shown so
+ans : AbstractAnswer → Fed
+ans (refused k) = Err (feed_refusal k)
+ans (broken_at n k x) = Ok (Broken n k x)
+ans kept_now = Ok Kept
+ans (dropped_now x) = Ok (Dropped x)
+ans entered = Ok Entered
+ans moved = Ok Moved
+ans quiet = Ok Quiet
 
-answered_answer : (x : Answer) → ans (answer_of x) ≡ x
+answered_answer : (x : Fed) → ans (fed_answer x) ≡ x
 unfolding ans
-answered_answer (Refused k) = ap Refused (feed_refusal_lem k)
-answered_answer (Broken n k x) = refl
-answered_answer Kept = refl
-answered_answer (Dropped x) = refl
-answered_answer Entered = refl
-answered_answer Moved = refl
-answered_answer Quiet = refl
+answered_answer (Err k) = ap {B = Fed} (λ (f : FeedRefusal). Err f) (feed_refusal_lem k)
+answered_answer (Ok (Broken n k x)) = refl
+answered_answer (Ok Kept) = refl
+answered_answer (Ok (Dropped x)) = refl
+answered_answer (Ok Entered) = refl
+answered_answer (Ok Moved) = refl
+answered_answer (Ok Quiet) = refl
 
-pub answer_told : (x y : Answer) → answer_of x ≡ answer_of y → x ≡ y
+pub answer_told : (x y : Fed) → fed_answer x ≡ fed_answer y → x ≡ y
 answer_told x y e = sym (answered_answer x) ∙ ap ans e ∙ answered_answer y
 
-pub told_number_lem : (x : Answer) → told_number (answer_of x) ≡ answer_number x
-told_number_lem (Refused k) = refl
-told_number_lem (Broken n k x) = refl
-told_number_lem Kept = refl
-told_number_lem (Dropped x) = refl
-told_number_lem Entered = refl
-told_number_lem Moved = refl
-told_number_lem Quiet = refl
+pub told_number_lem : (x : Fed) → told_number (fed_answer x) ≡ fed_number x
+told_number_lem (Err k) = refl
+told_number_lem (Ok (Broken n k x)) = refl
+told_number_lem (Ok Kept) = refl
+told_number_lem (Ok (Dropped x)) = refl
+told_number_lem (Ok Entered) = refl
+told_number_lem (Ok Moved) = refl
+told_number_lem (Ok Quiet) = refl

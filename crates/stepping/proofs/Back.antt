@@ -7,8 +7,7 @@ use native.Mathlib.Omega.{arith}
 use lib.Dec.{eqb, ltb, leb}
 use Rattle.model.specs.declared.Cause.{Cause}
 use Rattle.model.specs.declared.Monitor.{Monitor}
-use Rattle.model.specs.declared.Answer.{Answer}
-use Rattle.model.specs.Answers.{time_falls, too_many_records, most_records}
+use Rattle.model.specs.Answers.{Fed, time_falls, too_many_records, most_records}
 use Rattle.base.proofs.Bools.{split}
 use Rattle.rounds.specs.Chart.{Chart}
 use Rattle.rounds.specs.Rows.{LogRecord, chart_message}
@@ -17,7 +16,7 @@ use Rattle.rounds.specs.Machine.{Monitor as AbstractMonitor, Step as AbstractSte
 use Rattle.rounds.specs.Machine.{take_message, prechart_done, go_on, keep_round, drop_round, break_round, conclude, offer}
 use Rattle.rounds.specs.Machine.{missed, fits_opening, reopened, accept, feed}
 use Rattle.stepping.specs.declared.Step.{Step}
-use Rattle.stepping.specs.Answers.{answer_of, HandsBack}
+use Rattle.stepping.specs.Answers.{fed_answer, HandsBack}
 
 unfoldable pub NotRefused : AbstractAnswer → Type 0
 NotRefused (refused k) = ⊥
@@ -81,15 +80,11 @@ refuses_with C m e {k} h = elim (split (eqb m.tally.broken.at 0)) [
     clashes e = let z : ◌≡◌ {A = ℕ} 0 1 = cc in omega arith
 
 pub taken_back : (C : Chart) (v : AbstractMonitor) (e : LogRecord) (m : Monitor) (r : Step)
-    → answer_of r.answer ≡ (accept C v e).answer
+    → fed_answer r.answer ≡ (accept C v e).answer
     → m.tally.broken.at ≡ 0 → HandsBack m r
 unfolding NotRefused
 taken_back C v e m r q z = record {
   refused =
-      λ k p. absurd (subst (λ (a : Answer). NotRefused (answer_of a)) p (subst NotRefused (sym q) (accept_taken C v e)));
+      λ k p. absurd (subst (λ (a : Fed). NotRefused (fed_answer a)) p (subst NotRefused (sym q) (accept_taken C v e)));
   broken = λ n. absurd (n z);
 }
-
--- the monitor itself is handed back
-pub same_back : (m : Monitor) (r : Step) → r.next ≡ m → HandsBack m r
-same_back m r e = record { refused = λ k p. e; broken = λ n. e }

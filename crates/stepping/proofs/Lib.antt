@@ -1,5 +1,5 @@
-pub mod Scan
 pub mod Again
+pub mod Scan
 pub mod Back
 pub mod Zeros
 pub mod Answers

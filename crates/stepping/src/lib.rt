@@ -1,11 +1,10 @@
-// One record taken by a fit monitor. The chart is compiled: its head, and four arrays that are lent beside it.
+// One record taken by a fit monitor, over a compiled chart.
 #![tactic(auto)]
 
-ghost use Rattle.std.specs.Prelude.{◌≡◌, ◌≢◌, ◌&&◌, not, cond, List, ℕ, ◌<◌, ◌≤◌, ◌+◌, ◌*◌};
+ghost use Rattle.std.specs.Prelude.{◌≡◌, ◌≢◌, ◌&&◌, not, cond, ℕ, ◌<◌, ◌≤◌, ◌+◌, ◌*◌};
 ghost use Rattle.std.proofs.Math.Bool.{So};
 ghost use Rattle.std.proofs.Math.Option.{none};
 ghost use Rattle.bitset.specs.Set.{contains};
-ghost use Rattle.model.specs.Chart.{most_regions, most_clocks};
 ghost use Rattle.model.specs.Answers.{most_records};
 ghost use Rattle.rounds.specs.Chart.{Chart};
 ghost use Rattle.rounds.specs.Rows.{chart_message};
@@ -13,29 +12,34 @@ ghost use Rattle.rounds.specs.Feeds.{entered, moved};
 ghost use Rattle.rounds.specs.Tally.{counted_as, counted as tallied, counted_kept, counted_dropped, counted_broken};
 ghost use Rattle.rounds.specs.Machine.{stuck, ready_for, go_on, keep_round, drop_round, break_round, conclude as concluded};
 ghost use Rattle.rounds.specs.Machine.{reopened as reopens, accept as accepted, feed as fed, Fit};
-ghost use Rattle.layout.specs.View.{plan_chart, Compiled, Covers};
-ghost use Rattle.firing.specs.declared.Rest.TheVariants.{Fails as FailsAt};
+ghost use Rattle.layout.specs.View.{Covers};
+ghost use Rattle.layout.specs.Plans.{chart_of_plan};
 ghost use Rattle.firing.specs.Places.{place_at};
 ghost use Rattle.firing.specs.Parts.{move_of};
 ghost use Rattle.stepping.specs.Answers.{answer_of, HandsBack};
-ghost use Rattle.stepping.specs.Monitors.{break_at, tally_at, monitor_at, step_of, record_of};
+ghost use Rattle.stepping.specs.Monitors.{break_at, tally_at, monitor_at, answered_of, step_of, record_of};
 ghost use Rattle.stepping.specs.Parts.{Offerable, Decides};
 
-use firing::{Found, Rest, Settled, Sought};
-use layout::{Head, TERM_PLACES};
-use model::{
-    Answer, Break, Cause, FeedRefusal, MOST_RECORDS, MOST_REGIONS, Moment, Monitor, Place, Tally,
-};
+use firing::{Settled, Sought};
+use layout::Plan;
+use model::{Answer, Break, Cause, FeedRefusal, MOST_RECORDS, Moment, Monitor, Place, Tally};
 
 // The reasons of a break.
 pub const NO_READY_REGION: u8 = 1;
 
 pub const CONDITION_FAILS: u8 = 2;
 
-// What a feed gives.
+// What a record that is taken gives: the answer, and the monitor after it.
+#[derive(Clone, Copy)]
+pub struct Answered {
+    pub answer: Answer,
+    pub next: Monitor,
+}
+
+// What a feed gives. A refusal gives the monitor as it came, so the monitor stands beside the answer and not in it.
 #[derive(Clone, Copy)]
 pub struct Step {
-    pub answer: Answer,
+    pub answer: Result<Answer, FeedRefusal>,
     pub next: Monitor,
 }
 
@@ -53,7 +57,8 @@ fn counted_as(x: Tally, t: Moment, kept: u32, dropped: u32, broken: Break) -> Ta
     }
 }
 
-// A record is counted, and the round runs on.
+// A record is counted, and the round runs on. This and the next three are no methods, as `Tally` is of crate `model`,
+// and stay apart, as each is a definition of the theory.
 fn counted(x: Tally, t: Moment) -> Tally
     requires { x.records < most_records }
     ensures { tally_at result ≡ tallied (tally_at x) t.0 }
@@ -91,56 +96,53 @@ fn counted_broken(x: Tally, t: Moment, reason: u8, cause: Cause) -> Tally
 }
 
 // The round runs on at a place.
-fn go_on(m: Monitor, t: Moment, answer: Answer, place: Place) -> Step
+fn go_on(m: Monitor, t: Moment, answer: Answer, place: Place) -> Answered
     requires { m.tally.records < most_records }
-    ensures { (C : Chart) (code : ℕ) → step_of result
+    ensures { (C : Chart) (code : ℕ) → answered_of result
         ≡ go_on C (monitor_at m) (record_of code t.0) (answer_of answer) (place_at place) }
 {
     let tally = counted(m.tally, t);
-    Step {
+    Answered {
         answer,
         next: Monitor { place, tally },
     }
 }
 
-// The round is kept.
-fn keep_round(clocks: usize, m: Monitor, t: Moment) -> Step
-    requires clocks_le_most_clocks { clocks ≤ most_clocks }
-    requires records_lt_most_records { (m.tally.records < most_records) × (m.tally.kept ≤ 2 * m.tally.records + 1) }
-    ensures { (C : Chart) (code : ℕ) → C.clocks ≡ clocks
-        → step_of result ≡ keep_round C (monitor_at m) (record_of code t.0) }
+// The round is kept. This and the next two stay apart, as each is a definition of the theory.
+fn keep_round(plan: &Plan, m: Monitor, t: Moment) -> Answered
+    requires { (m.tally.records < most_records) × (m.tally.kept ≤ 2 * m.tally.records + 1) }
+    ensures { (code : ℕ) → answered_of result ≡ keep_round (chart_of_plan plan.now) (monitor_at m) (record_of code t.0) }
 {
-    let place = firing::opening(clocks, t);
+    let place = firing::opening(plan.head.clocks, t);
     let tally = counted_kept(m.tally, t);
-    Step {
+    Answered {
         answer: Answer::Kept,
         next: Monitor { place, tally },
     }
 }
 
 // The round is dropped; the cause is in the answer alone (T32).
-fn drop_round(clocks: usize, m: Monitor, t: Moment, cause: Cause) -> Step
-    requires clocks_le_most_clocks { clocks ≤ most_clocks }
-    requires records_lt_most_records { (m.tally.records < most_records) × (m.tally.dropped ≤ 2 * m.tally.records + 1) }
-    ensures { (C : Chart) (code : ℕ) → C.clocks ≡ clocks
-        → step_of result ≡ drop_round C (monitor_at m) (record_of code t.0) cause }
+fn drop_round(plan: &Plan, m: Monitor, t: Moment, cause: Cause) -> Answered
+    requires { (m.tally.records < most_records) × (m.tally.dropped ≤ 2 * m.tally.records + 1) }
+    ensures { (code : ℕ)
+        → answered_of result ≡ drop_round (chart_of_plan plan.now) (monitor_at m) (record_of code t.0) cause }
 {
-    let place = firing::opening(clocks, t);
+    let place = firing::opening(plan.head.clocks, t);
     let tally = counted_dropped(m.tally, t);
-    Step {
+    Answered {
         answer: Answer::Dropped(cause),
         next: Monitor { place, tally },
     }
 }
 
 // The round is broken, with this place (T24, T25).
-fn break_round(m: Monitor, t: Moment, reason: u8, cause: Cause, place: Place) -> Step
+fn break_round(m: Monitor, t: Moment, reason: u8, cause: Cause, place: Place) -> Answered
     requires { m.tally.records < most_records }
-    ensures { (C : Chart) (code : ℕ) → step_of result
+    ensures { (C : Chart) (code : ℕ) → answered_of result
         ≡ break_round C (monitor_at m) (record_of code t.0) reason cause (place_at place) }
 {
     let tally = counted_broken(m.tally, t, reason, cause);
-    Step {
+    Answered {
         answer: Answer::Broken(tally.broken.at, reason, cause),
         next: Monitor { place, tally },
     }
@@ -151,75 +153,61 @@ fn entered_or_moved(before: bool, after: bool) -> Answer
     ensures { answer_of result ≡ cond (not before && after) entered moved }
 {
     if !before & after {
-        return Answer::Entered;
+        Answer::Entered
+    } else {
+        Answer::Moved
     }
-    Answer::Moved
 }
 
 // T18 and T19: no ready region has the chart message.
-fn unplaced(h: Head, m: Monitor, t: Moment) -> Step
-    requires prechart_le_most_regions { (h.prechart ≤ most_regions) × (h.clocks ≤ most_clocks) }
-    requires records_lt_most_records { (m.tally.records < most_records)
-        × (m.tally.kept + m.tally.dropped ≤ 2 * m.tally.records + 1) }
-    ensures { (keys above resets terms : List ℕ) (code : ℕ)
-        → step_of result ≡ concluded (plan_chart h keys above resets terms) (monitor_at m) (record_of code t.0) stuck }
+fn unplaced(plan: &Plan, m: Monitor, t: Moment) -> Answered
+    requires { (m.tally.records < most_records) × (m.tally.kept + m.tally.dropped ≤ 2 * m.tally.records + 1) }
+    ensures { (code : ℕ)
+        → answered_of result ≡ concluded (chart_of_plan plan.now) (monitor_at m) (record_of code t.0) stuck }
 {
-    let place = m.place;
-    if firing::all_fired(h.prechart, place.fired) {
-        return break_round(m, t, NO_READY_REGION, model::no_cause(), place);
+    if firing::all_fired(plan.head.prechart, m.place.fired) {
+        return break_round(m, t, NO_READY_REGION, model::no_cause(), m.place);
     }
-    drop_round(h.clocks, m, t, model::no_cause())
+    drop_round(plan, m, t, model::no_cause())
 }
 
 // T17, T21, T28, T29: what follows from the end of steps 3 and 4.
-fn conclude(h: Head, m: Monitor, t: Moment, s: Settled) -> Step
-    requires count_le_most_regions { (h.count ≤ most_regions) × (h.prechart ≤ most_regions) × (h.clocks ≤ most_clocks) }
-    requires records_lt_most_records { (m.tally.records < most_records)
-        × (m.tally.kept + m.tally.dropped ≤ 2 * m.tally.records + 1) }
-    requires by_index { (i term : ℕ) → s.rest ≡ FailsAt i term → i < most_regions }
-    ensures { (keys above resets terms : List ℕ) (code : ℕ)
-        → step_of result
-        ≡ concluded (plan_chart h keys above resets terms) (monitor_at m) (record_of code t.0) (move_of s) }
+fn conclude(plan: &Plan, m: Monitor, t: Moment, s: Settled) -> Answered
+    requires { (m.tally.records < most_records) × (m.tally.kept + m.tally.dropped ≤ 2 * m.tally.records + 1) }
+    ensures { (code : ℕ)
+        → answered_of result ≡ concluded (chart_of_plan plan.now) (monitor_at m) (record_of code t.0) (move_of s) }
 {
-    let rest = s.rest;
     let place = s.place;
-    let from = m.place;
-    match rest {
-        Rest::Fails(i, term) => {
-            let cause = model::cause_of(i, term);
-            if bitset::member(h.hot, i as u32) {
-                return break_round(m, t, CONDITION_FAILS, cause, place);
-            }
-            drop_round(h.clocks, m, t, cause)
+    if let Some(failure) = s.failure {
+        let cause = model::cause_of(failure.region, failure.term);
+        if bitset::member(plan.head.hot, failure.region as u32) {
+            return break_round(m, t, CONDITION_FAILS, cause, place);
         }
-        Rest::Rests => {
-            if firing::all_fired(h.count, place.fired) {
-                return keep_round(h.clocks, m, t);
-            }
-            let before = firing::all_fired(h.prechart, from.fired);
-            let after = firing::all_fired(h.prechart, place.fired);
-            go_on(m, t, entered_or_moved(before, after), place)
-        }
+        return drop_round(plan, m, t, cause);
     }
+    if firing::all_fired(plan.head.count, place.fired) {
+        return keep_round(plan, m, t);
+    }
+    let before = firing::all_fired(plan.head.prechart, m.place.fired);
+    let after = firing::all_fired(plan.head.prechart, place.fired);
+    go_on(m, t, entered_or_moved(before, after), place)
 }
 
 // T34: the monitor between two offers of a record: at the opening, with one more drop.
-fn reopened(clocks: usize, m: Monitor, t: Moment) -> Monitor
-    requires clocks_le_most_clocks { clocks ≤ most_clocks }
-    requires records_lt_most_records { (m.tally.records < most_records) × (m.tally.dropped ≤ 2 * m.tally.records) }
-    ensures { (C : Chart) (code : ℕ) → C.clocks ≡ clocks
-        → monitor_at result ≡ reopens C (monitor_at m) (record_of code t.0) }
+fn reopened(plan: &Plan, m: Monitor, t: Moment) -> Monitor
+    requires { (m.tally.records < most_records) × (m.tally.dropped ≤ 2 * m.tally.records) }
+    ensures { (code : ℕ)
+        → monitor_at result ≡ reopens (chart_of_plan plan.now) (monitor_at m) (record_of code t.0) }
 {
     let x = m.tally;
-    let broken = x.broken;
     let tally = Tally {
         now: t,
         records: x.records,
         kept: x.kept,
         dropped: x.dropped + 1,
-        broken,
+        broken: x.broken,
     };
-    let place = firing::opening(clocks, t);
+    let place = firing::opening(plan.head.clocks, t);
     Monitor { place, tally }
 }
 
@@ -232,33 +220,20 @@ pub struct Offer {
 
 // T33: the offer that decides if no ready region has the chart message: the second one, or the first. With nothing
 // fired, none has it at the opening either.
-fn offer_again<'a>(
-    h: Head,
-    keys: &'a [u64; MOST_REGIONS],
-    above: &'a [u32; MOST_REGIONS],
-    among: u32,
-    m: Monitor,
-    code: u64,
-    t: Moment,
-) -> Offer
-    requires prechart_le_most_regions { (h.prechart ≤ most_regions) × (h.clocks ≤ most_clocks) }
+fn offer_again(plan: &Plan, among: u32, m: Monitor, code: u64, t: Moment) -> Offer
     requires offerable { Offerable m t.0 }
-    requires covers { Covers h.count keys.now code among }
-    ensures { (resets terms : List ℕ) → Compiled h keys.now above.now resets terms
-        → let C = plan_chart h keys.now above.now resets terms in
-        So (chart_message C (record_of code t.0))
-        → ready_for C (contains m.place.fired) (record_of code t.0) ≡ none
-        → Decides C m (record_of code t.0) result }
+    requires covers { Covers plan.now.head.count plan.now.keys code among }
+    ensures { So (chart_message (chart_of_plan plan.now) (record_of code t.0))
+        → ready_for (chart_of_plan plan.now) (contains m.place.fired) (record_of code t.0) ≡ none
+        → Decides (chart_of_plan plan.now) m (record_of code t.0) result }
 {
-    let place = m.place;
-    if firing::all_fired(h.prechart, place.fired) | (place.fired == 0) {
+    if firing::all_fired(plan.head.prechart, m.place.fired) | (m.place.fired == 0) {
         return Offer {
             sought: Sought::Unready,
             monitor: m,
         };
     }
-    let f = firing::ready_for(keys, above, among, 0, code);
-    let Found::At(i) = f else {
+    let Some(i) = firing::ready_for(&plan.keys, &plan.above, among, 0, code) else {
         return Offer {
             sought: Sought::Unready,
             monitor: m,
@@ -266,120 +241,75 @@ fn offer_again<'a>(
     };
     Offer {
         sought: Sought::Ready(i),
-        monitor: reopened(h.clocks, m, t),
+        monitor: reopened(plan, m, t),
     }
 }
 
 // The offer that decides what a message does. The steps after it have one caller, so that the compiler takes them in.
-fn deciding_offer<'a>(
-    h: Head,
-    keys: &'a [u64; MOST_REGIONS],
-    above: &'a [u32; MOST_REGIONS],
-    among: u32,
-    m: Monitor,
-    code: u64,
-    t: Moment,
-) -> Offer
-    requires prechart_le_most_regions { (h.prechart ≤ most_regions) × (h.clocks ≤ most_clocks) }
+fn deciding_offer(plan: &Plan, among: u32, m: Monitor, code: u64, t: Moment) -> Offer
     requires offerable { Offerable m t.0 }
-    requires covers { Covers h.count keys.now code among }
+    requires covers { Covers plan.now.head.count plan.now.keys code among }
     requires code_nonzero { code ≢ 0 }
-    ensures { (resets terms : List ℕ) → Compiled h keys.now above.now resets terms
-        → Decides (plan_chart h keys.now above.now resets terms) m (record_of code t.0) result }
+    ensures { Decides (chart_of_plan plan.now) m (record_of code t.0) result }
 {
-    let place = m.place;
-    let sought = firing::seek(keys, above, among, place.fired, code);
+    let sought = firing::seek(plan, among, m.place.fired, code);
     match sought {
-        Sought::Unready => offer_again(h, keys, above, among, m, code, t),
-        Sought::Ready(i) => Offer {
-            sought: Sought::Ready(i),
-            monitor: m,
-        },
-        Sought::Foreign => Offer {
-            sought: Sought::Foreign,
-            monitor: m,
-        },
+        Sought::Unready => offer_again(plan, among, m, code, t),
+        Sought::Ready(_) | Sought::Foreign => Offer { sought, monitor: m },
     }
 }
 
 // A record that is neither refused nor after a break; code 0 is a record of time. Every region that has its message is
-// in `among`.
-pub fn accept<'a>(
-    h: Head,
-    keys: &'a [u64; MOST_REGIONS],
-    above: &'a [u32; MOST_REGIONS],
-    among: u32,
-    resets: &'a [u32; MOST_REGIONS],
-    terms: &'a [u64; TERM_PLACES],
-    m: Monitor,
-    code: u64,
-    t: Moment,
-) -> Step
-    requires compiled { Compiled h keys.now above.now resets.now terms.now }
+// in `among`. Code and moment come apart, and in no struct: the functions below it take the one or the other.
+pub fn accept(plan: &Plan, among: u32, m: Monitor, code: u64, t: Moment) -> Answered
     requires offerable { Offerable m t.0 }
-    requires covers { Covers h.count keys.now code among }
-    ensures { step_of result
-        ≡ accepted (plan_chart h keys.now above.now resets.now terms.now)
-        (monitor_at m) (record_of code t.0) }
+    requires covers { Covers plan.now.head.count plan.now.keys code among }
+    ensures { answered_of result ≡ accepted (chart_of_plan plan.now) (monitor_at m) (record_of code t.0) }
 {
     if code == 0 {
-        let place = m.place;
-        return go_on(m, t, Answer::Quiet, place);
+        return go_on(m, t, Answer::Quiet, m.place);
     }
-    let o = deciding_offer(h, keys, above, among, m, code, t);
-    let n = o.monitor;
-    let place = n.place;
-    let sought = o.sought;
-    match sought {
-        Sought::Foreign => go_on(n, t, Answer::Quiet, place),
-        Sought::Unready => unplaced(h, n, t),
+    let offer = deciding_offer(plan, among, m, code, t);
+    let n = offer.monitor;
+    match offer.sought {
+        Sought::Foreign => go_on(n, t, Answer::Quiet, n.place),
+        Sought::Unready => unplaced(plan, n, t),
         Sought::Ready(i) => {
-            let s = firing::take_region(h, keys, above, resets, terms, place, i, t);
-            conclude(h, n, t, s)
+            let s = firing::take_region(plan, n.place, i, t);
+            conclude(plan, n, t, s)
         }
     }
 }
 
 // Feeding a record to a fit monitor; code 0 is a record of time.
-pub fn feed_fit<'a>(
-    h: Head,
-    keys: &'a [u64; MOST_REGIONS],
-    above: &'a [u32; MOST_REGIONS],
-    among: u32,
-    resets: &'a [u32; MOST_REGIONS],
-    terms: &'a [u64; TERM_PLACES],
-    m: Monitor,
-    code: u64,
-    t: Moment,
-) -> Step
-    requires compiled { Compiled h keys.now above.now resets.now terms.now }
-    requires fit { Fit (plan_chart h keys.now above.now resets.now terms.now) (monitor_at m) }
-    requires covers { Covers h.count keys.now code among }
-    ensures step { step_of result
-        ≡ fed (plan_chart h keys.now above.now resets.now terms.now)
-        (monitor_at m) (record_of code t.0) }
+pub fn feed_fit(plan: &Plan, among: u32, m: Monitor, code: u64, t: Moment) -> Step
+    requires fit { Fit (chart_of_plan plan.now) (monitor_at m) }
+    requires covers { Covers plan.now.head.count plan.now.keys code among }
+    ensures step { step_of result ≡ fed (chart_of_plan plan.now) (monitor_at m) (record_of code t.0) }
     ensures back { HandsBack m result }
 {
-    let tally = m.tally;
-    let broken = tally.broken;
+    let broken = m.tally.broken;
     if broken.at != 0 {
-        let cause = broken.cause;
         return Step {
-            answer: Answer::Broken(broken.at, broken.reason, cause),
+            answer: Ok(Answer::Broken(broken.at, broken.reason, broken.cause)),
             next: m,
         };
     }
-    if t.0 < tally.now.0 {
+    if t.0 < m.tally.now.0 {
         return Step {
-            answer: Answer::Refused(FeedRefusal::TimeFalls),
+            answer: Err(FeedRefusal::TimeFalls),
             next: m,
         };
     }
-    if MOST_RECORDS <= tally.records {
+    if MOST_RECORDS <= m.tally.records {
         return Step {
-            answer: Answer::Refused(FeedRefusal::TooManyRecords),
+            answer: Err(FeedRefusal::TooManyRecords),
             next: m,
         };
     }
-    accept(h, keys, above, among, resets, terms, m, code, t)
+    let taken = accept(plan, among, m, code, t);
+    Step {
+        answer: Ok(taken.answer),
+        next: taken.next,
+    }
 }

@@ -1,11 +1,11 @@
 // The standing and the verdict of a monitor for a chart.
 #![tactic(auto)]
 
-ghost use Rattle.std.specs.Prelude.{◌≡◌, true};
-ghost use Rattle.chart_value.specs.WellFormed.{well_formed};
+ghost use Rattle.std.specs.Prelude.{◌≡◌};
 ghost use Rattle.verdict.specs.Parts.{standing_by, verdict_by};
 
-use model::{Chart, Monitor, Verdict};
+use chart_value::AcceptedChart;
+use model::{Monitor, Verdict};
 
 const BROKEN: u8 = 3;
 
@@ -17,10 +17,10 @@ const OWED: u8 = 2;
 
 const RESTING: u8 = 4;
 
-fn standing(chart: Chart, m: Monitor) -> u8
-    requires { well_formed chart ≡ true }
-    ensures { result ≡ standing_by chart m }
+fn standing(accepted: &AcceptedChart, m: Monitor) -> u8
+    ensures { result ≡ standing_by accepted.now.chart m }
 {
+    let chart = &accepted.chart;
     let place = m.place;
     if m.tally.broken.at != 0 {
         return BROKEN;
@@ -31,22 +31,21 @@ fn standing(chart: Chart, m: Monitor) -> u8
     if !firing::all_fired(chart.prechart as usize, place.fired) {
         return IN_PRECHART;
     }
-    if resting::rests(chart, place.fired) {
+    if resting::rests(*chart, place.fired) {
         return RESTING;
     }
     OWED
 }
 
 // The verdict of a monitor for a chart.
-pub fn verdict_of(chart: Chart, m: Monitor) -> Verdict
-    requires { well_formed chart ≡ true }
-    ensures { result ≡ verdict_by chart m }
+pub fn verdict_of(accepted: &AcceptedChart, m: Monitor) -> Verdict
+    ensures { result ≡ verdict_by accepted.now.chart m }
 {
     let tally = m.tally;
     let broken = tally.broken;
     let cause = broken.cause;
     Verdict {
-        standing: standing(chart, m),
+        standing: standing(accepted, m),
         kept: tally.kept,
         dropped: tally.dropped,
         records: tally.records,

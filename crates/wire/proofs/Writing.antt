@@ -1,18 +1,18 @@
 -- Texts put one after the other, and numbers that their bytes give back. Assumes nothing.
 use mathlib.Core.Path.{◌≡◌, refl, sym, ap, ◌∙◌, subst}
-use mathlib.Core.Bool.{true, false, cond}
-use mathlib.Core.List.{List, [], ◌∷◌, ◌++◌}
+use mathlib.Core.Bool.{cond}
+use mathlib.Core.List.{List, [], ◌∷◌, ◌++◌, append_assoc}
 use Prim.Native.Nat.{ℕ, suc, ◌+◌, ◌-◌, ◌*◌, ◌/◌, ◌%◌, ◌^◌, ◌≤◌, ◌<◌}
 use native.Mathlib.Decide.{dec_lt}
 use native.Mathlib.Nat.{add-zero, add-suc, suc-add}
-use native.Mathlib.Numerals.{add-one}
 use native.Mathlib.Omega.{arith}
-use borrow.Author.Tests.{lt-ltb, le-ltb, le-leb, lt-leb}
-use lib.Dec.{leb}
+use borrow.Author.Tests.{le-ltb}
+use borrow.Rule.Slice.PartMut.{put_mid, Post-is}
 use lib.ListN.{length, get_or, set, take, drop, length-append, length-drop, length-set, get_or-append}
-use lib.Seq.{sets, sets-eq, take-suc, ext_get_or, get_or-append-add, get_or-drop}
+use lib.Seq.{sets, sets-eq, length-sets, ext_get_or, get_or-append-add, get_or-drop}
+use Rattle.std.specs.Int.{w64, to_be_bytes}
 use Rattle.wire.specs.Bytes.{word64}
-use Rattle.wire.specs.Writing.{Wrote, starting_with, writer_buffer, half_bytes, word_bytes, long_bytes}
+use Rattle.wire.specs.Writing.{Wrote, starting_with, writer_buffer, long_bytes}
 
 sets_append : (l : List ℕ) (i : ℕ) (t u : List ℕ) → sets l i (t ++ u) ≡ sets (sets l i t) (i + length t) u
 sets_append l i [] u = ap (λ (k : ℕ). sets l k u) (sym (add-zero i))
@@ -42,9 +42,16 @@ one l i a j e = record { next = e; bytes = refl; size = length-set l i a }
 pub spelled : {l t u m : List ℕ} {i j : ℕ} → t ≡ u → Wrote l i t m j → Wrote l i u m j
 spelled {l} {t} {u} {m} {i} {j} e w = subst (λ (x : List ℕ). Wrote l i x m j) e w
 
--- one byte more of a text
-pub take_more : (s : List ℕ) (i : ℕ) → i < length s → take i s ++ (get_or s i 0 ∷ []) ≡ take (i + 1) s
-take_more s i h = sym (ap (λ (k : ℕ). take k s) (add-one i) ∙ take-suc s i 0 h)
+-- a text copied into a part of the buffer
+pub in_middle : {l t u : List ℕ} {i : ℕ} → i + length t ≤ length l → u ≡ t
+    → Wrote l i t (put_mid i (i + length t - i) l u) (i + length t)
+in_middle {l} {t} {u} {i} h e =
+    let s : put_mid i (i + length t - i) l u ≡ sets l i t =
+    ap (λ (x : List ℕ). put_mid i (i + length t - i) l x) e
+    ∙ ap (λ (x : List ℕ). take i l ++ (t ++ x)) (Post-is i (i + length t) l (omega arith))
+    ∙ sym (append_assoc (take i l) t (drop (i + length t) l))
+    ∙ sym (sets-eq t l i h) in
+    record { next = refl; bytes = s; size = ap length s ∙ length-sets l i t }
 
 -- what was written at the start of a buffer with room for it
 pub at_start : {l t n : List ℕ} {j : ℕ} → Wrote l 0 t n j → length t ≤ length l → n ≡ t ++ drop (length t) l
@@ -56,24 +63,13 @@ pub take_front : (t u : List ℕ) → take (length t) (t ++ u) ≡ t
 take_front [] u = refl
 take_front (a ∷ t) u = ap (λ (x : List ℕ). a ∷ x) (take_front t u)
 
--- its length, and it can be taken from there
+-- its length
 pub counted : {l t n : List ℕ} {j : ℕ} → Wrote l 0 t n j → j ≡ length t
 counted w = omega (arith, w.next)
 
-pub taken_back : {l t n : List ℕ} {j : ℕ} → Wrote l 0 t n j → length t ≤ length l → take j n ≡ t
-taken_back {l} {t} w h = (λ i. take (counted w i) (at_start w h i)) ∙ take_front t (drop (length t) l)
-
--- a writer's buffer: without room for the text, and with it
-pub no_room : (t out : List ℕ) → length out < length t
-    → (false ≡ leb (length t) (length out)) × (out ≡ writer_buffer t out)
-no_room t out h = (sym (lt-leb _ _ h), ap (λ b. cond b out (starting_with t out)) (sym (lt-ltb _ _ h)))
-
-pub whole : {t out m : List ℕ} {j : ℕ} → length t ≤ length out → Wrote out 0 t m j
-    → (true ≡ leb (length t) (length out)) × (m ≡ writer_buffer t out)
-whole {t} {out} h w = (
-  sym (le-leb _ _ h),
-  at_start w h ∙ ap (λ b. cond b out (starting_with t out)) (sym (le-ltb _ _ h)),
-)
+-- a writer's buffer with room for the text
+pub whole : {t out m : List ℕ} {j : ℕ} → length t ≤ length out → Wrote out 0 t m j → m ≡ writer_buffer t out
+whole {t} {out} h w = at_start w h ∙ ap (λ b. cond b out (starting_with t out)) (sym (le-ltb _ _ h))
 
 -- a buffer with a text at its start: its size, the text's bytes, and those after them
 pub starting_size : (t l : List ℕ) → length t ≤ length l → length (starting_with t l) ≡ length l
@@ -105,19 +101,6 @@ pub written : {A : Type 0} (f : A → List ℕ) (out : List ℕ) {x y : A} {m : 
     → m ≡ starting_with (f x) out
 written f out e b = b ∙ ap (λ z. starting_with (f z) out) (sym e)
 
--- two bytes that are those of x, widened or not
-pub half_of : {l m : List ℕ} {i j a b : ℕ} (x w : ℕ) → w ≡ x → w < 65536 → Wrote l i (a ∷ b ∷ []) m j
-    → a ≡ w / 0x100 % 256 → b ≡ w % 256 → Wrote l i (half_bytes x) m j
-half_of {l} {m} {i} {j} {a} {b} x w e h v p q =
-    let d : w / 0x100 % 256 ≡ w / 0x100 = omega arith in
-    spelled (cc) v
-
--- four bytes that are those of x
-pub word_of : {l m : List ℕ} {i j a b c d : ℕ} (x : ℕ) → Wrote l i (a ∷ b ∷ c ∷ d ∷ []) m j
-    → a ≡ x / 0x100_0000 % 256 → b ≡ x / 0x1_0000 % 256 → c ≡ x / 0x100 % 256 → d ≡ x % 256
-    → Wrote l i (word_bytes x) m j
-word_of {l} {m} {i} {j} {a} {b} {c} {d} x w p q r s = spelled (cc) w
-
 -- a number of 32 bits, put together from its bytes
 pub word_back : (x : ℕ) → x < 2 ^ 32
     → (x / 0x100_0000 % 256 * 256 + x / 0x1_0000 % 256) * 65536 + (x / 0x100 % 256 * 256 + x % 256) ≡ x
@@ -134,3 +117,7 @@ long_back x rest h =
     let a : x / 0x1_0000_0000 < 2 ^ 32 = omega arith in
     let b : x % 0x1_0000_0000 < 2 ^ 32 = omega arith in
     rw (word_back (x / 0x1_0000_0000) a, word_back (x % 0x1_0000_0000) b) (omega arith)
+
+-- a number of 64 bits, most significant byte first
+pub long_as_bytes : (x : ℕ) → to_be_bytes w64 x ≡ long_bytes x
+long_as_bytes x = grind arith

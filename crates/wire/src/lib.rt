@@ -1,51 +1,30 @@
-// Bytes and numbers read from a slice and put into a buffer that the caller lends. Numbers have the most significant
-// byte first (N3). A byte past the end reads as 0.
+// Bytes and numbers read from a slice, appended to a vector, and put into a buffer that the caller lends. Numbers have the
+// most significant byte first (N3). A byte past the end reads as 0.
 #![tactic(auto)]
 
-ghost use Rattle.std.specs.Prelude.{◌≡◌, ◌∷◌, [], ◌<◌, ◌≤◌, ◌+◌, ◌%◌, leb, length, get_or};
+ghost use Rattle.std.specs.Prelude.{◌≡◌, ◌∷◌, [], ◌++◌, ◌<◌, ◌≤◌, ◌+◌, ◌%◌, leb, length, get_or};
+ghost use Rattle.arrayvec.specs.ArrayVec.{array_vec_len};
 ghost use Rattle.wire.specs.Bytes.{word16, word32, word64};
-ghost use Rattle.wire.specs.Writing.{Wrote, writer_buffer, half_bytes, word_bytes, long_bytes};
+ghost use Rattle.wire.specs.Writing.{Wrote, starting_with, writer_buffer, half_bytes, word_bytes};
 
-// The weight of the upper four of eight bytes.
-const LONG_HALF: u64 = 0x1_0000_0000;
+use arrayvec::ArrayVec;
 
 pub fn byte_at(s: &[u8], i: usize) -> u8
     ensures value { result ≡ get_or s.now i 0 }
     ensures unchanged { s.exit.now ≡ s.entry.now }
 {
-    if i < s.len() { s[i] } else { 0 }
+    s.get(i).copied().unwrap_or(0)
 }
 
-fn wide16(x: u8) -> u16
-    ensures { (result ≡ x) × (result < 256) }
-{
-    x as u16
-}
-
-fn wide32(x: u16) -> u32
-    ensures { (result ≡ x) × (result < 65536) }
-{
-    x as u32
-}
-
-// The same number in 64 bits.
-pub fn wide64(x: u32) -> u64
-    ensures { (result ≡ x) × (result < 0x1_0000_0000) }
-{
-    x as u64
-}
-
-// Two bytes from i on.
+// Two bytes from i on. Each width has a function of its own, here and below: `from_be_bytes` is no trait's.
 pub fn word16_at(s: &[u8], i: usize) -> u16
     ensures value { result ≡ word16 s.now i }
     ensures unchanged { s.exit.now ≡ s.entry.now }
 {
-    if i < s.len() {
-        let high = wide16(byte_at(s, i));
-        let low = wide16(byte_at(s, i + 1));
-        return high * 256 + low;
+    if s.len() <= i {
+        return 0;
     }
-    0
+    u16::from_be_bytes([byte_at(s, i), byte_at(s, i + 1)])
 }
 
 // Four bytes from i on.
@@ -54,32 +33,24 @@ pub fn word32_at(s: &[u8], i: usize) -> u32
     ensures unchanged { s.exit.now ≡ s.entry.now }
     ensures low { result % 65536 ≡ word16 s.now (i + 2) }
 {
-    if i < s.len() {
-        let high = wide32(word16_at(s, i));
-        let low = wide32(word16_at(s, i + 2));
-        return high * 65536 + low;
+    if s.len() <= i {
+        return 0;
     }
-    0
+    u32::from_be_bytes([
+        byte_at(s, i),
+        byte_at(s, i + 1),
+        byte_at(s, i + 2),
+        byte_at(s, i + 3),
+    ])
 }
 
-// Two bytes and four bytes that are all there, so that nothing is tested for each.
-fn word16_in(s: &[u8], i: usize) -> u16
-    requires { i + 2 ≤ length s.now }
-    ensures { result ≡ word16 s.now i }
-{
-    let high = wide16(s[i]);
-    let low = wide16(s[i + 1]);
-    high * 256 + low
-}
-
+// Four bytes that are all there, so that nothing is tested for each.
 pub fn word32_in(s: &[u8], i: usize) -> u32
     requires { i + 4 ≤ length s.now }
     ensures value { result ≡ word32 s.now i }
     ensures low { result % 65536 ≡ word16 s.now (i + 2) }
 {
-    let high = wide32(word16_in(s, i));
-    let low = wide32(word16_in(s, i + 2));
-    high * 65536 + low
+    u32::from_be_bytes([s[i], s[i + 1], s[i + 2], s[i + 3]])
 }
 
 // Eight bytes from i on.
@@ -87,33 +58,22 @@ pub fn word64_at(s: &[u8], i: usize) -> u64
     ensures value { result ≡ word64 s.now i }
     ensures unchanged { s.exit.now ≡ s.entry.now }
 {
-    if i < s.len() {
-        let high = wide64(word32_at(s, i));
-        let low = wide64(word32_at(s, i + 4));
-        return high * LONG_HALF + low;
+    if s.len() <= i {
+        return 0;
     }
-    0
+    let high = u64::from(word32_at(s, i));
+    let low = u64::from(word32_at(s, i + 4));
+    (high << 32) | low
 }
 
-pub fn put_byte(out: &mut [u8], at: usize, b: u8) -> usize
-    requires { at < length out.old }
-    ensures { Wrote out.old at (b ∷ []) out.new result }
-{
-    out[at] = b;
-    at + 1
-}
-
-// Bytes as they stand.
+// Bytes as they stand, at a place of a buffer that is lent: the rest of it stays, so it is no vector.
 pub fn put_bytes(out: &mut [u8], at: usize, text: &[u8]) -> usize
     requires { at + length text.now ≤ length out.old }
     ensures { Wrote out.old at text.now out.new result }
 {
-    let mut i = 0;
-    while i < text.len() {
-        out[at + i] = text[i];
-        i += 1;
-    }
-    at + i
+    let next = at + text.len();
+    out[at..next].copy_from_slice(text);
+    next
 }
 
 // A writer's buffer: takes the whole text, if there is room for it. Answers whether there is.
@@ -129,39 +89,37 @@ pub fn put_whole(out: &mut [u8], text: &[u8]) -> bool
     true
 }
 
-// The least significant byte.
-fn byte_of(x: u32) -> u8
-    ensures { result ≡ x % 256 }
+// Appends bytes as they stand.
+pub fn append<const CAP: usize>(out: &mut ArrayVec<u8, CAP>, text: &[u8])
+    requires { array_vec_len out.old + length text.now ≤ CAP }
+    ensures items { out.new.items ≡ out.old.items ++ text.now }
+    ensures len { array_vec_len out.new ≡ array_vec_len out.old + length text.now }
 {
-    (x % 0x100) as u8
+    out.try_extend_from_slice(text).unwrap();
 }
 
-// A number in two bytes.
-pub fn put_word16(out: &mut [u8], at: usize, x: u16) -> usize
-    requires { at + 2 ≤ length out.old }
-    ensures { Wrote out.old at (half_bytes x) out.new result }
+// Appends a number in two bytes.
+pub fn append_word16<const CAP: usize>(out: &mut ArrayVec<u8, CAP>, x: u16)
+    requires { array_vec_len out.old + 2 ≤ CAP }
+    ensures items { out.new.items ≡ out.old.items ++ half_bytes x }
+    ensures len { array_vec_len out.new ≡ array_vec_len out.old + 2 }
 {
-    let wide = wide32(x);
-    let second = put_byte(out, at, byte_of(wide / 0x100));
-    put_byte(out, second, byte_of(wide))
+    append(out, &u16::to_be_bytes(x));
 }
 
-// A number in four bytes.
-pub fn put_word32(out: &mut [u8], at: usize, x: u32) -> usize
-    requires { at + 4 ≤ length out.old }
-    ensures { Wrote out.old at (word_bytes x) out.new result }
+// Appends a number in four bytes.
+pub fn append_word32<const CAP: usize>(out: &mut ArrayVec<u8, CAP>, x: u32)
+    requires { array_vec_len out.old + 4 ≤ CAP }
+    ensures items { out.new.items ≡ out.old.items ++ word_bytes x }
+    ensures len { array_vec_len out.new ≡ array_vec_len out.old + 4 }
 {
-    let second = put_byte(out, at, byte_of(x / 0x100_0000));
-    let third = put_byte(out, second, byte_of(x / 0x1_0000));
-    let fourth = put_byte(out, third, byte_of(x / 0x100));
-    put_byte(out, fourth, byte_of(x))
+    append(out, &u32::to_be_bytes(x));
 }
 
-// A number in eight bytes.
-pub fn put_word64(out: &mut [u8], at: usize, x: u64) -> usize
-    requires { at + 8 ≤ length out.old }
-    ensures { Wrote out.old at (long_bytes x) out.new result }
+// Puts numbers at the start of a buffer; the places after them stay.
+pub fn put_numbers<const N: usize>(out: &mut [u64], numbers: [u64; N])
+    requires { N ≤ length out.old }
+    ensures { out.new ≡ starting_with numbers.entry out.old }
 {
-    let second = put_word32(out, at, (x / LONG_HALF) as u32);
-    put_word32(out, second, (x % LONG_HALF) as u32)
+    out[..N].copy_from_slice(&numbers);
 }

@@ -1,5 +1,5 @@
 -- An instance of every case of the first demand's claims, of charts, monitors, records and logs, and of the standing.
-use Rattle.std.specs.Prelude.{List, [], ◌∷◌, ℕ, zero, suc}
+use Rattle.std.specs.Prelude.{List, [], ◌∷◌, ℕ, zero, suc, Ok, Err}
 use Rattle.model.specs.declared.Chart.{Chart}
 use Rattle.model.specs.declared.Monitor.{Monitor}
 use Rattle.model.specs.Chart.{zero_chart}
@@ -11,7 +11,6 @@ use Rattle.log_reader.specs.Record as found
 use Rattle.log_clock.specs.declared.Kind.{Kind}
 use Rattle.log_clock.specs.declared.Kind.TheVariants.{Unset, Plain, Raw}
 use Rattle.log_clock.specs.TrueTimes.{Passing}
-use Rattle.monitor.specs.declared.MadeAnswer.TheVariants.{Fresh, NoChart}
 use Rattle.examples.specs.Examples.{chart_u}
 use Rattle.claims.specs.Standing.{StandsAs}
 use Rattle.log_claims.specs.Logs.{FindsAs, ComesAs, Walk, Stamped}
@@ -49,8 +48,8 @@ pub record Cases : Type 0 where
   pub accepts : ReadsAs chart_u (accepted_as value_u)
   pub refuses : ReadsAs [] (record { number = 1; offset = 0; chart = zero_chart })
   -- making a monitor: of chart U, and of zeros, which no bytes give
-  pub makes : MakesAs value_u (record { answer = Fresh; monitor = zero_monitor })
-  pub no_chart : MakesAs zero_chart (record { answer = NoChart; monitor = zero_monitor })
+  pub makes : MakesAs value_u (record { answer = Ok tt; monitor = zero_monitor })
+  pub no_chart : MakesAs zero_chart (record { answer = Err (record {}); monitor = zero_monitor })
   -- feeding: no chart; every region fired; broken at record 2; a time below now; a record too many; undo is taken
   pub not_a_chart_case : FeedsAs zero_chart zero_monitor (undo 100) (refused 20) zero_monitor
   pub unfit : FeedsAs value_u (stored 7 0 0 3 0 0) (undo 100) (refused 21) (stored 7 0 0 3 0 0)

@@ -1,17 +1,16 @@
 -- Feeds, each worked out by hand from the rules: every answer and every refusal, by its number.
-use Rattle.std.specs.Prelude.{◌≡◌, List, [], ◌∷◌, ℕ, replicate}
+use Rattle.std.specs.Prelude.{◌≡◌, List, [], ◌∷◌, ℕ, replicate, Ok, Err}
 use Rattle.model.specs.declared.Cause.{Cause}
 use Rattle.model.specs.declared.Record.{Record}
 use Rattle.model.specs.declared.Record.TheVariants as event
 use Rattle.model.specs.declared.Monitor.{Monitor}
 use Rattle.model.specs.Monitor.{zero_monitor}
-use Rattle.model.specs.declared.Answer.{Answer}
 use Rattle.model.specs.declared.Answer.TheVariants as answer
 use Rattle.model.specs.declared.FeedRefusal.TheVariants.{NotAChart, Unfit, TimeFalls, TooManyRecords}
-use Rattle.model.specs.Answers.{answer_number}
+use Rattle.model.specs.Answers.{Fed, fed_number}
 use Rattle.chart_reader.specs.Read.{read_chart}
 use Rattle.rounds.specs.Tally.{Break}
-use Rattle.stepping.specs.Answers.{answer_of}
+use Rattle.stepping.specs.Answers.{fed_answer}
 use Rattle.monitor.specs.Feed.{feed_of}
 use Rattle.examples.specs.Examples.{chart_u}
 use Rattle.witnesses.specs.Hex.{hex}
@@ -62,15 +61,15 @@ pub record Feed : Type 0 where
   pub chart : List ℕ
   pub monitor : Monitor
   pub fed : Record
-  pub answer : Answer
+  pub answer : Fed
   pub number : ℕ
 
 abbrev pub Answers : Feed → Type 0
 Answers e =
-    ((feed_of (read_chart e.chart).chart e.monitor e.fed).answer ≡ answer_of e.answer)
-    × (answer_number e.answer ≡ e.number)
+    ((feed_of (read_chart e.chart).chart e.monitor e.fed).answer ≡ fed_answer e.answer)
+    × (fed_number e.answer ≡ e.number)
 
-abbrev pub feeding : List ℕ → Monitor → Record → Answer → ℕ → Feed
+abbrev pub feeding : List ℕ → Monitor → Record → Fed → ℕ → Feed
 feeding chart m e a n = record { chart = chart; monitor = m; fed = e; answer = a; number = n }
 
 -- a message, and a plain region on its source line, whose cold condition is clock 0 ≥ 5 and clock 0 ≤ 10
@@ -85,74 +84,74 @@ term_first = hex "10 02 01 20 00 01 00 01 30 00 01 00 00 00 28 50 20 00 01 00 02
 abbrev pub feeds : List Feed
 feeds =
     -- undo completes chart U's prechart; headings and references then come in any order, by clock 0 until 140
-    feeding chart_u zero_monitor (undo 100) answer.Entered 4
-    ∷ feeding chart_u (stored 1 100 100 1 0 0) (references 120) answer.Moved 5
-    ∷ feeding chart_u (stored 5 100 120 2 0 0) (headings 140) answer.Kept 2
-    ∷ feeding chart_u (stored 5 100 120 2 0 0) (headings 141) (answer.Broken 3 2 (pair 2 1)) 1
+    feeding chart_u zero_monitor (undo 100) (Ok answer.Entered) 4
+    ∷ feeding chart_u (stored 1 100 100 1 0 0) (references 120) (Ok answer.Moved) 5
+    ∷ feeding chart_u (stored 5 100 120 2 0 0) (headings 140) (Ok answer.Kept) 2
+    ∷ feeding chart_u (stored 5 100 120 2 0 0) (headings 141) (Ok (answer.Broken 3 2 (pair 2 1))) 1
     -- undo again, in the main chart; then the same answer again, also for an earlier time or a record too many
-    ∷ feeding chart_u (stored 1 100 100 1 0 0) (undo 110) (answer.Broken 2 1 (pair 0 0)) 1
-    ∷ feeding chart_u (stored 1 100 110 2 2 1) (passes 7) (answer.Broken 2 1 (pair 0 0)) 1
-    ∷ feeding chart_u (stored 1 100 110 1000000 2 1) (passes 120) (answer.Broken 2 1 (pair 0 0)) 1
+    ∷ feeding chart_u (stored 1 100 100 1 0 0) (undo 110) (Ok (answer.Broken 2 1 (pair 0 0))) 1
+    ∷ feeding chart_u (stored 1 100 110 2 2 1) (passes 7) (Ok (answer.Broken 2 1 (pair 0 0))) 1
+    ∷ feeding chart_u (stored 1 100 110 1000000 2 1) (passes 120) (Ok (answer.Broken 2 1 (pair 0 0))) 1
     -- again with the cause that is stored, whatever comes
-    ∷ feeding chart_u (stored_by 1 100 150 2 2 2 (pair 3 1)) (headings 160) (answer.Broken 2 2 (pair 3 1)) 1
+    ∷ feeding chart_u (stored_by 1 100 150 2 2 2 (pair 3 1)) (headings 160) (Ok (answer.Broken 2 2 (pair 3 1))) 1
     -- a plain region that is cold, in the message's record: by its first term at 4, by its second at 11, kept at 10
-    ∷ feeding plain_cold zero_monitor (message 0 1 1 4) (answer.Dropped (pair 2 1)) 3
-    ∷ feeding plain_cold zero_monitor (message 0 1 1 11) (answer.Dropped (pair 2 2)) 3
-    ∷ feeding plain_cold zero_monitor (message 0 1 1 10) answer.Kept 2
+    ∷ feeding plain_cold zero_monitor (message 0 1 1 4) (Ok (answer.Dropped (pair 2 1))) 3
+    ∷ feeding plain_cold zero_monitor (message 0 1 1 11) (Ok (answer.Dropped (pair 2 2))) 3
+    ∷ feeding plain_cold zero_monitor (message 0 1 1 10) (Ok answer.Kept) 2
     -- headings in the prechart, which no condition decides; time alone
-    ∷ feeding chart_u zero_monitor (headings 5) (answer.Dropped (pair 0 0)) 3
-    ∷ feeding chart_u zero_monitor (passes 5) answer.Quiet 6
+    ∷ feeding chart_u zero_monitor (headings 5) (Ok (answer.Dropped (pair 0 0))) 3
+    ∷ feeding chart_u zero_monitor (passes 5) (Ok answer.Quiet) 6
     -- the first of two prechart regions, then the second
-    ∷ feeding chart_p zero_monitor (message 0 1 1 5) answer.Moved 5
-    ∷ feeding chart_p (stored 1 0 5 1 0 0) (message 0 1 2 5) answer.Entered 4
+    ∷ feeding chart_p zero_monitor (message 0 1 1 5) (Ok answer.Moved) 5
+    ∷ feeding chart_p (stored 1 0 5 1 0 0) (message 0 1 2 5) (Ok answer.Entered) 4
     -- 20: the empty bytes are refused with a chart of zeros, which no accepted bytes give; before 21
-    ∷ feeding [] zero_monitor (passes 5) (answer.Refused NotAChart) 20
-    ∷ feeding [] (stored 2 0 0 0 0 0) (passes 5) (answer.Refused NotAChart) 20
+    ∷ feeding [] zero_monitor (passes 5) (Err NotAChart) 20
+    ∷ feeding [] (stored 2 0 0 0 0 0) (passes 5) (Err NotAChart) 20
     -- 21: headings fired without undo; all three fired; a fourth fired
-    ∷ feeding chart_u (stored 2 0 0 0 0 0) (passes 5) (answer.Refused Unfit) 21
-    ∷ feeding chart_u (stored 7 0 0 3 0 0) (passes 5) (answer.Refused Unfit) 21
-    ∷ feeding chart_u (stored 8 0 0 1 0 0) (passes 5) (answer.Refused Unfit) 21
+    ∷ feeding chart_u (stored 2 0 0 0 0 0) (passes 5) (Err Unfit) 21
+    ∷ feeding chart_u (stored 7 0 0 3 0 0) (passes 5) (Err Unfit) 21
+    ∷ feeding chart_u (stored 8 0 0 1 0 0) (passes 5) (Err Unfit) 21
     -- 21: a reset moment above now; 1,000,001 records; a reason without a break; a break at record 5 of 4; reason 3
-    ∷ feeding chart_u (stored 0 6 5 0 0 0) (passes 6) (answer.Refused Unfit) 21
-    ∷ feeding chart_u (stored 0 0 0 1000001 0 0) (passes 5) (answer.Refused Unfit) 21
-    ∷ feeding chart_u (stored 0 0 0 4 0 1) (passes 5) (answer.Refused Unfit) 21
-    ∷ feeding chart_u (stored 0 0 0 4 5 1) (passes 5) (answer.Refused Unfit) 21
-    ∷ feeding chart_u (stored 0 0 0 4 4 3) (passes 5) (answer.Refused Unfit) 21
+    ∷ feeding chart_u (stored 0 6 5 0 0 0) (passes 6) (Err Unfit) 21
+    ∷ feeding chart_u (stored 0 0 0 1000001 0 0) (passes 5) (Err Unfit) 21
+    ∷ feeding chart_u (stored 0 0 0 4 0 1) (passes 5) (Err Unfit) 21
+    ∷ feeding chart_u (stored 0 0 0 4 5 1) (passes 5) (Err Unfit) 21
+    ∷ feeding chart_u (stored 0 0 0 4 4 3) (passes 5) (Err Unfit) 21
     -- 22: 99 is below 100, 100 isn't
-    ∷ feeding chart_u (stored 1 100 100 1 0 0) (passes 99) (answer.Refused TimeFalls) 22
-    ∷ feeding chart_u (stored 1 100 100 1 0 0) (passes 100) answer.Quiet 6
+    ∷ feeding chart_u (stored 1 100 100 1 0 0) (passes 99) (Err TimeFalls) 22
+    ∷ feeding chart_u (stored 1 100 100 1 0 0) (passes 100) (Ok answer.Quiet) 6
     -- 23: after 1,000,000 records, 22 before it; record 1,000,000 is taken
-    ∷ feeding chart_u (stored 0 0 5 1000000 0 0) (passes 5) (answer.Refused TooManyRecords) 23
-    ∷ feeding chart_u (stored 0 0 5 1000000 0 0) (passes 4) (answer.Refused TimeFalls) 22
-    ∷ feeding chart_u (stored 0 0 5 999999 0 0) (passes 5) answer.Quiet 6
+    ∷ feeding chart_u (stored 0 0 5 1000000 0 0) (passes 5) (Err TooManyRecords) 23
+    ∷ feeding chart_u (stored 0 0 5 1000000 0 0) (passes 4) (Err TimeFalls) 22
+    ∷ feeding chart_u (stored 0 0 5 999999 0 0) (passes 5) (Ok answer.Quiet) 6
     ∷ []
 
 -- M10: the cause that a break may have, with its reason. Chart U's regions have no term, one and one.
 abbrev pub fitness : List Feed
 fitness =
     -- reason 2: headings' term; references' term, though it is fired; a prechart's term, though it is cold
-    feeding chart_u (stored_by 5 100 141 3 3 2 (pair 2 1)) (passes 150) (answer.Broken 3 2 (pair 2 1)) 1
-    ∷ feeding chart_u (stored_by 5 100 141 3 3 2 (pair 3 1)) (passes 150) (answer.Broken 3 2 (pair 3 1)) 1
-    ∷ feeding term_first (stored_by 0 0 5 1 1 2 (pair 1 1)) (passes 5) (answer.Broken 1 2 (pair 1 1)) 1
+    feeding chart_u (stored_by 5 100 141 3 3 2 (pair 2 1)) (passes 150) (Ok (answer.Broken 3 2 (pair 2 1))) 1
+    ∷ feeding chart_u (stored_by 5 100 141 3 3 2 (pair 3 1)) (passes 150) (Ok (answer.Broken 3 2 (pair 3 1))) 1
+    ∷ feeding term_first (stored_by 0 0 5 1 1 2 (pair 1 1)) (passes 5) (Ok (answer.Broken 1 2 (pair 1 1))) 1
     -- no region 0 and no region 4
-    ∷ feeding chart_u (stored_by 5 100 141 3 3 2 (pair 0 0)) (passes 150) (answer.Refused Unfit) 21
-    ∷ feeding chart_u (stored_by 5 100 141 3 3 2 (pair 0 1)) (passes 150) (answer.Refused Unfit) 21
-    ∷ feeding chart_u (stored_by 5 100 141 3 3 2 (pair 4 1)) (passes 150) (answer.Refused Unfit) 21
+    ∷ feeding chart_u (stored_by 5 100 141 3 3 2 (pair 0 0)) (passes 150) (Err Unfit) 21
+    ∷ feeding chart_u (stored_by 5 100 141 3 3 2 (pair 0 1)) (passes 150) (Err Unfit) 21
+    ∷ feeding chart_u (stored_by 5 100 141 3 3 2 (pair 4 1)) (passes 150) (Err Unfit) 21
     -- no term 0; no second term, nor a fifth, which would be the next region's first; undo has no term
-    ∷ feeding chart_u (stored_by 5 100 141 3 3 2 (pair 2 0)) (passes 150) (answer.Refused Unfit) 21
-    ∷ feeding chart_u (stored_by 5 100 141 3 3 2 (pair 2 2)) (passes 150) (answer.Refused Unfit) 21
-    ∷ feeding chart_u (stored_by 5 100 141 3 3 2 (pair 2 5)) (passes 150) (answer.Refused Unfit) 21
-    ∷ feeding chart_u (stored_by 5 100 141 3 3 2 (pair 1 1)) (passes 150) (answer.Refused Unfit) 21
+    ∷ feeding chart_u (stored_by 5 100 141 3 3 2 (pair 2 0)) (passes 150) (Err Unfit) 21
+    ∷ feeding chart_u (stored_by 5 100 141 3 3 2 (pair 2 2)) (passes 150) (Err Unfit) 21
+    ∷ feeding chart_u (stored_by 5 100 141 3 3 2 (pair 2 5)) (passes 150) (Err Unfit) 21
+    ∷ feeding chart_u (stored_by 5 100 141 3 3 2 (pair 1 1)) (passes 150) (Err Unfit) 21
     -- the last of four terms, and one more
-    ∷ feeding four_terms (stored_by 1 2 7 2 2 2 (pair 2 4)) (passes 7) (answer.Broken 2 2 (pair 2 4)) 1
-    ∷ feeding four_terms (stored_by 1 2 7 2 2 2 (pair 2 5)) (passes 7) (answer.Refused Unfit) 21
+    ∷ feeding four_terms (stored_by 1 2 7 2 2 2 (pair 2 4)) (passes 7) (Ok (answer.Broken 2 2 (pair 2 4))) 1
+    ∷ feeding four_terms (stored_by 1 2 7 2 2 2 (pair 2 5)) (passes 7) (Err Unfit) 21
     -- reason 1 has zeros, and so has no break
-    ∷ feeding chart_u (stored_by 1 100 110 2 2 1 (pair 2 1)) (passes 120) (answer.Refused Unfit) 21
-    ∷ feeding chart_u (stored_by 1 100 110 2 2 1 (pair 2 0)) (passes 120) (answer.Refused Unfit) 21
-    ∷ feeding chart_u (stored_by 1 100 110 2 2 1 (pair 0 1)) (passes 120) (answer.Refused Unfit) 21
-    ∷ feeding chart_u (stored_by 1 100 110 2 0 0 (pair 2 1)) (passes 120) (answer.Refused Unfit) 21
-    ∷ feeding chart_u (stored_by 1 100 110 2 0 0 (pair 2 0)) (passes 120) (answer.Refused Unfit) 21
-    ∷ feeding chart_u (stored_by 1 100 110 2 0 0 (pair 0 1)) (passes 120) (answer.Refused Unfit) 21
+    ∷ feeding chart_u (stored_by 1 100 110 2 2 1 (pair 2 1)) (passes 120) (Err Unfit) 21
+    ∷ feeding chart_u (stored_by 1 100 110 2 2 1 (pair 2 0)) (passes 120) (Err Unfit) 21
+    ∷ feeding chart_u (stored_by 1 100 110 2 2 1 (pair 0 1)) (passes 120) (Err Unfit) 21
+    ∷ feeding chart_u (stored_by 1 100 110 2 0 0 (pair 2 1)) (passes 120) (Err Unfit) 21
+    ∷ feeding chart_u (stored_by 1 100 110 2 0 0 (pair 2 0)) (passes 120) (Err Unfit) 21
+    ∷ feeding chart_u (stored_by 1 100 110 2 0 0 (pair 0 1)) (passes 120) (Err Unfit) 21
     ∷ []
 
 -- A feed, and the break that the monitor has after it.

@@ -1,5 +1,5 @@
 -- The formats' numbers in examples, and the printed texts, each worked out by hand from the rules.
-use Rattle.std.specs.Prelude.{◌≡◌, List, [], ◌∷◌, ◌++◌, ℕ, ◌<◌, length}
+use Rattle.std.specs.Prelude.{◌≡◌, List, [], ◌∷◌, ◌++◌, ℕ, ◌<◌, length, Err}
 use Prim.Native.String.{String}
 use Rattle.model.specs.Answers.{most_records}
 use Rattle.log_clock.specs.declared.Kind.{Kind}
@@ -7,10 +7,9 @@ use Rattle.log_clock.specs.declared.Kind.TheVariants.{Unset, Plain, Raw}
 use Rattle.log_clock.specs.declared.MomentRefusal.TheVariants as moment
 use Rattle.log_check.specs.declared.LogRefusal.{LogRefusal}
 use Rattle.log_check.specs.declared.LogRefusal.TheVariants as log
-use Rattle.log_check.specs.declared.Checked.TheVariants as checked
-use Rattle.log_check.specs.declared.CheckStep.{CheckStep}
-use Rattle.log_check.specs.declared.CheckStep.TheVariants as check
-use Rattle.log_check.specs.Refusal.{log_refusal_number}
+use Rattle.log_check.specs.Check.{CheckStep}
+use Rattle.log_check.specs.Check as check
+use Rattle.log_check.specs.Refusal.{log_refusal_number, fault}
 use Rattle.log_check.specs.Check.{step_at}
 use Rattle.text.specs.Text.{bytes_of}
 use Rattle.respond.specs.Respond.{text_of}
@@ -90,7 +89,7 @@ abbrev pub goes : Kind → ℕ → ℕ → CheckStep
 goes kind time n = check.Going 5 kind (record { 0 = time }) n
 
 abbrev pub stops : LogRefusal → CheckStep
-stops f = check.Over (checked.Refused f 0)
+stops f = check.Over (Err (fault f 0))
 
 abbrev pub checks : List Checking
 checks =

@@ -1,6 +1,6 @@
 -- Second offers, each worked out by hand from the rules: a record that drops a round in the prechart for want of a
 -- ready region, with something fired before, is offered once more at the opening. And how many rounds may have ended.
-use Rattle.std.specs.Prelude.{◌≡◌, Bool, true, false, List, [], ◌∷◌, ◌++◌, ℕ, replicate}
+use Rattle.std.specs.Prelude.{◌≡◌, Bool, true, false, List, [], ◌∷◌, ◌++◌, ℕ, replicate, Ok, Err}
 use Prim.Native.String.{String}
 use Rattle.model.specs.declared.Record.{Record}
 use Rattle.model.specs.declared.Monitor.{Monitor}
@@ -63,13 +63,13 @@ offers =
 abbrev pub offered : List Feed
 offered =
     -- it moves; the message's condition fails; the plain region's fails
-    feeding chart_p (stored 1 0 5 1 0 0) (message 0 1 1 6) answer.Moved 5
-    ∷ feeding (cold_first "03 00 00 00 03") (stored 1 0 3 1 0 0) (message 0 1 1 10) (answer.Dropped (pair 1 1)) 3
-    ∷ feeding cold_second (stored 3 0 3 1 0 0) (message 0 1 1 10) (answer.Dropped (pair 2 1)) 3
+    feeding chart_p (stored 1 0 5 1 0 0) (message 0 1 1 6) (Ok answer.Moved) 5
+    ∷ feeding (cold_first "03 00 00 00 03") (stored 1 0 3 1 0 0) (message 0 1 1 10) (Ok (answer.Dropped (pair 1 1))) 3
+    ∷ feeding cold_second (stored 3 0 3 1 0 0) (message 0 1 1 10) (Ok (answer.Dropped (pair 2 1))) 3
     -- no second offer: label 3 does not fit; a condition fails; the main chart
-    ∷ feeding chart_p (stored 1 0 5 1 0 0) (message 1 0 3 6) (answer.Dropped (pair 0 0)) 3
-    ∷ feeding label_twice (stored 1 0 1 1 0 0) (message 0 1 1 2) (answer.Dropped (pair 2 1)) 3
-    ∷ feeding chart_p (stored 3 0 5 2 0 0) (message 0 1 1 6) (answer.Broken 3 1 (pair 0 0)) 1
+    ∷ feeding chart_p (stored 1 0 5 1 0 0) (message 1 0 3 6) (Ok (answer.Dropped (pair 0 0))) 3
+    ∷ feeding label_twice (stored 1 0 1 1 0 0) (message 0 1 1 2) (Ok (answer.Dropped (pair 2 1))) 3
+    ∷ feeding chart_p (stored 3 0 5 2 0 0) (message 0 1 1 6) (Ok (answer.Broken 3 1 (pair 0 0))) 1
     ∷ []
 
 -- a monitor without a break, its clocks at 0: the fired regions as a set, now, the records, the rounds kept and dropped
@@ -90,18 +90,18 @@ counted_by fired now records kept dropped =
 abbrev pub counts : List Feed
 counts =
     -- without a record no round; with 4 records 8 rounds, kept or dropped; 9 are too many
-    feeding chart_p (counted_by 0 0 0 0 0) (passes 5) answer.Quiet 6
-    ∷ feeding chart_p (counted_by 0 0 0 1 0) (passes 5) (answer.Refused Unfit) 21
-    ∷ feeding chart_p (counted_by 0 0 0 0 1) (passes 5) (answer.Refused Unfit) 21
-    ∷ feeding chart_p (counted_by 0 0 4 3 5) (passes 5) answer.Quiet 6
-    ∷ feeding chart_p (counted_by 0 0 4 3 6) (passes 5) (answer.Refused Unfit) 21
-    ∷ feeding chart_p (counted_by 0 0 4 8 0) (passes 5) answer.Quiet 6
-    ∷ feeding chart_p (counted_by 0 0 4 0 9) (passes 5) (answer.Refused Unfit) 21
+    feeding chart_p (counted_by 0 0 0 0 0) (passes 5) (Ok answer.Quiet) 6
+    ∷ feeding chart_p (counted_by 0 0 0 1 0) (passes 5) (Err Unfit) 21
+    ∷ feeding chart_p (counted_by 0 0 0 0 1) (passes 5) (Err Unfit) 21
+    ∷ feeding chart_p (counted_by 0 0 4 3 5) (passes 5) (Ok answer.Quiet) 6
+    ∷ feeding chart_p (counted_by 0 0 4 3 6) (passes 5) (Err Unfit) 21
+    ∷ feeding chart_p (counted_by 0 0 4 8 0) (passes 5) (Ok answer.Quiet) 6
+    ∷ feeding chart_p (counted_by 0 0 4 0 9) (passes 5) (Err Unfit) 21
     -- the sum is exact: 4,294,967,296, not 0
-    ∷ feeding chart_p (counted_by 0 0 4 4294967295 1) (passes 5) (answer.Refused Unfit) 21
+    ∷ feeding chart_p (counted_by 0 0 4 4294967295 1) (passes 5) (Err Unfit) 21
     -- with 1,000,000 records 2,000,000 rounds, which leaves 23; one more is too many
-    ∷ feeding chart_p (counted_by 0 0 1000000 1000000 1000000) (passes 5) (answer.Refused TooManyRecords) 23
-    ∷ feeding chart_p (counted_by 0 0 1000000 1000000 1000001) (passes 5) (answer.Refused Unfit) 21
+    ∷ feeding chart_p (counted_by 0 0 1000000 1000000 1000000) (passes 5) (Err TooManyRecords) 23
+    ∷ feeding chart_p (counted_by 0 0 1000000 1000000 1000001) (passes 5) (Err Unfit) 21
     ∷ []
 
 -- A feed, and of the monitor after it: which of the first three regions are fired, clock 0's reset moment, the tally.

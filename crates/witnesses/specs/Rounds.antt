@@ -2,7 +2,7 @@
 use Rattle.std.specs.Prelude.{List, [], ◌∷◌, ◌++◌, ℕ}
 use Prim.Native.String.{String}
 use Rattle.listing.specs.declared.Part.TheVariants.{Log}
-use Rattle.listing.specs.declared.Report.TheVariants.{Refused}
+use Rattle.listing.specs.Listing.{refused}
 use Rattle.witnesses.specs.Hex.{hex}
 use Rattle.examples.specs.Examples.{Example, judged}
 
@@ -188,7 +188,7 @@ abbrev pub chart_p : List ℕ
 chart_p = hex "10 02 00 20 00 01 00 01 20 00 01 00 02 50 20 01 00 00 03 7F"
 
 abbrev pub log_fault : String → ℕ → ℕ → Example
-log_fault log number offset = record { chart = chart_p; log = hex log; report = Refused Log number offset }
+log_fault log number offset = record { chart = chart_p; log = hex log; report = refused Log number offset }
 
 -- Logs of that chart: standings, reasons and refusals. A message takes nine bytes, a time five.
 abbrev pub logs : List Example

@@ -1,5 +1,4 @@
 -- `chart_image::regions_at` meets its contract: the array is filled from the front. Assumes nothing.
-use Prim.Native.Nat.{◌≤◌, ◌-◌}
 use mathlib.Core.Path.{◌≡◌}
 use lib.ListN.{length}
 use Rattle.base.proofs.Filled.{Filled}
@@ -8,7 +7,5 @@ use Rattle.chart_image.specs.ChartImage.{region_offset, region_in}
 use Rattle.chart_image.proofs.regions_at.Given as goal
 
 abbrev pub invariant-loop-i : goal.invariant-loop-i
-invariant-loop-i l = (l.i ≤ most_regions) × (length l.regions ≡ most_regions) × Filled zero_region (λ k. region_in l.s (region_offset k)) l.i l.regions
-
-abbrev pub decreases-loop-i : goal.decreases-loop-i
-decreases-loop-i l = most_regions - l.i
+invariant-loop-i l =
+    (length l.regions ≡ most_regions) × Filled zero_region (λ k. region_in l.s (region_offset k)) l.i l.regions

@@ -1,11 +1,8 @@
--- `chart_reader::read` meets its contract: reading on from the offset gives what reading the whole gives. Assumes
--- nothing.
+-- What reading on from the offset says is what reading the whole says. Assumes nothing.
 use mathlib.Core.Path.{◌≡◌}
+use Prim.Native.Nat.{◌-◌}
 use Rattle.chart_reader.specs.Read.{read_from, read_chart}
 use Rattle.chart_reader.proofs.read.Given as goal
 
-abbrev pub invariant-loop-left : goal.invariant-loop-left
-invariant-loop-left l = read_from l.left l.bytes l.at l.r ≡ read_chart l.bytes
-
-abbrev pub decreases-loop-left : goal.decreases-loop-left
-decreases-loop-left l = l.left
+abbrev pub invariant-loop : goal.invariant-loop
+invariant-loop l = read_from (l.end - l.counter) l.bytes l.at l.r ≡ read_chart l.bytes

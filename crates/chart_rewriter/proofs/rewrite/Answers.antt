@@ -3,11 +3,11 @@ use mathlib.Core.Path.{refl}
 use Rattle.chart_rewriter.proofs.Saving.{refused, accepted}
 use Rattle.chart_rewriter.proofs.rewrite.Goals as goal
 
-pub returns-in-Refused : goal.returns-in-Refused
-returns-in-Refused c =
+pub returns-in-Err : goal.returns-in-Err
+returns-in-Err c =
     let a = c.args in
-    let w = refused a.chart.now a.out.now c.read-read.result c.read-read.ensures.answer c.in-Refused.refusal
-    c.in-Refused.offset c.in-Refused.is c.number.ensures refl refl in record {
+    let w = refused a.chart.now a.out.now c.read-read.result c.read-read.ensures.answer c.in-Err.fault
+    c.in-Err.is c.from.ensures refl refl in record {
       number = w.number;
       listed = w.listed;
       at = w.place;
@@ -16,12 +16,12 @@ returns-in-Refused c =
       unchanged = refl;
     }
 
-pub returns-in-Accepted : goal.returns-in-Accepted
-returns-in-Accepted c =
+pub returns-in-Ok : goal.returns-in-Ok
+returns-in-Ok c =
     let a = c.args in
     let w = accepted a.chart.now a.out.now c.read-read.result c.read-read.ensures.answer
-    c.in-Accepted.is c.write-saved.ensures.reads _ c.write-saved.ensures.answer
-    c.write-saved.ensures.buffer c.number-in-Accepted.ensures c.size.ensures in record {
+    c.in-Ok.is c.write-saved.ensures.reads _ c.write-saved.ensures.answer
+    c.write-saved.ensures.buffer c.number.ensures c.size.ensures in record {
       number = w.number;
       listed = w.listed;
       at = w.place;

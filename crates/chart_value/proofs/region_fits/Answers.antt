@@ -8,5 +8,7 @@ returns c =
       c.event_fits-event.ensures,
       c.terms_fit-terms.ensures,
       c.within-resets.ensures,
+      c.from.ensures,
+      c.from-2.ensures,
       c.is_bare-bare.ensures,
     )

@@ -12,15 +12,14 @@ use Rattle.chart_value.proofs.well_formed.Goals as goal
 
 pub loop-i-init : goal.loop-i-init
 unfolding touched_before
-loop-i-init c = (omega arith, refl, all_start)
+loop-i-init c = (refl, all_start)
 
 pub loop-i-preserved : goal.loop-i-preserved
 unfolding touched_before union
 loop-i-preserved c =
     let I = c.loop-i.invariant in (
-      omega arith,
-      rw add-one (rw (c.touched-before.ensures.set, I.1) refl),
-      all_next I.2 (rw (← I.1) c.region_placed-ok.ensures),
+      rw add-one (rw (c.touched-before.ensures.set, I.0) refl),
+      all_next I.1 (rw (← I.0) c.region_placed-ok.ensures),
     )
 
 pub returns : goal.returns
@@ -29,4 +28,4 @@ returns c =
     let l = c.loop-i in
     let e : l.i ≡ most_regions = omega arith in
     promised c.args.c _ c.well_formed.0 _
-    (rw (c.region_counts_fit.ensures, c.heading_fits.ensures, all_below_lem most_regions l.invariant.2 e))
+    (rw (c.region_counts_fit.ensures, c.heading_fits.ensures, all_below_lem most_regions l.invariant.1 e))

@@ -1,14 +1,13 @@
--- `chart_writer::put_regions` meets its contract: before i the regions stand, one more at each turn, the 50 with the
--- first of the main chart. Assumes nothing.
-use mathlib.Core.List.{[]}
-use Prim.Native.Nat.{◌-◌, ◌≤◌}
-use Rattle.wire.specs.Writing.{Wrote}
+-- `chart_writer::put_regions` meets its contract: one region more at each turn, the 50 with the first of the main chart.
+-- Assumes nothing.
+use Rattle.std.proofs.Common.{◌≡◌, ◌++◌, []}
+use Rattle.arrayvec.specs.ArrayVec.{array_vec_len}
 use Rattle.chart_value.specs.Writer.{regions_bytes}
 use Rattle.chart_writer.proofs.Laws.{Ends}
 use Rattle.chart_writer.proofs.put_regions.Given as goal
 
 abbrev pub invariant-loop-i : goal.invariant-loop-i
-invariant-loop-i l = (l.i ≤ l.c.count) × Ends l.c.prechart l.at l.i l.next × Wrote l.initial.out l.at (regions_bytes l.c l.i 0 []) l.out l.next
-
-abbrev pub decreases-loop-i : goal.decreases-loop-i
-decreases-loop-i l = l.c.count - l.i
+invariant-loop-i l = record {
+  items : l.out.items ≡ l.initial.out.items ++ regions_bytes l.accepted.chart l.i 0 [];
+  ends : Ends l.accepted.chart.prechart (array_vec_len l.initial.out) l.i (array_vec_len l.out);
+}

@@ -1,32 +1,24 @@
 -- `claims::feed_all` meets its contract: the records fed so far, and those left, are the log's. Assumes nothing.
-use mathlib.Core.Path.{sym, ◌∙◌}
+use mathlib.Core.Path.{sym, ap, ◌∙◌}
+use borrow.Author.Rules.{rules}
+use Rattle.std.specs.Prelude.{Ok}
 use native.Mathlib.Omega.{arith}
-use Rattle.claims.proofs.Watching.{at_start, fed_one, fed_none, fed_bad, fed_untimed, fed_end}
+use Rattle.claims.proofs.Watching.{at_start, fed_one, fed_none, fed_bad, fed_end}
 use Rattle.claims.proofs.feed_all.Goals as goal
 
-pub loop-left-init : goal.loop-left-init
-loop-left-init c = at_start _ c.requires
+pub loop-init : goal.loop-init
+loop-init c = at_start _ c.requires
 
-pub returns-in-End : goal.returns-in-End
-returns-in-End c =
-    fed_none c.loop-left.invariant c.loop-left-test.true
-    (sym c.record_at-d.ensures ∙ c.in-End.is)
+pub returns-in_default : goal.returns-in_default
+returns-in_default c = fed_none c.loop.invariant c.loop-test.true (search rules)
 
-pub returns-in-NoRecord : goal.returns-in-NoRecord
-returns-in-NoRecord c =
-    fed_bad c.loop-left.invariant c.loop-left-test.true _
-    (sym c.record_at-d.ensures ∙ c.in-NoRecord.is)
+pub returns-in_default-2 : goal.returns-in_default-2
+returns-in_default-2 c = fed_bad c.loop.invariant c.loop-test.true _ (sym c.record_at.ensures ∙ c.in_default.is)
 
-pub returns-in-NoMoment : goal.returns-in-NoMoment
-returns-in-NoMoment c =
-    fed_untimed c.loop-left.invariant c.loop-left-test.true _
-    (sym c.record_at-d.ensures ∙ c.in-NoMoment.is)
-
-pub loop-left-preserved : goal.loop-left-preserved
-loop-left-preserved c =
-    let f = c.feed-s in
-    fed_one c.loop-left.invariant c.loop-left-test.true _ _ _
-    (sym c.record_at-d.ensures ∙ c.in-At.is) f.result f.ensures.0 _ c.time_of-last.ensures
+pub loop-preserved : goal.loop-preserved
+loop-preserved c =
+    fed_one c.loop.invariant c.loop-test.true _ _ _ (sym c.in-Ok-Some.ensures ∙ ap Ok c.in-Ok-Some.field-0-is) c.feed.result c.feed.ensures.0 _
+    c.time_of-last.ensures
 
 pub returns : goal.returns
-returns c = fed_end c.loop-left.invariant (omega arith)
+returns c = fed_end c.loop.invariant (omega (arith, c.loop-test.false))

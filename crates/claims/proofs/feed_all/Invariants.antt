@@ -2,8 +2,5 @@
 use Rattle.claims.proofs.Watching.{SoFar}
 use Rattle.claims.proofs.feed_all.Given as goal
 
-abbrev pub invariant-loop-left : goal.invariant-loop-left
-invariant-loop-left l = SoFar l.chart l.log l.m l.at l.left l.kind l.last
-
-abbrev pub decreases-loop-left : goal.decreases-loop-left
-decreases-loop-left l = l.left
+abbrev pub invariant-loop : goal.invariant-loop
+invariant-loop l = SoFar l.chart l.log l.m l.at l.counter l.kind l.last

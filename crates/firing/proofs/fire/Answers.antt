@@ -5,5 +5,4 @@ use Rattle.firing.proofs.fire.Goals as goal
 pub returns : goal.returns
 returns c =
     let a = c.args in
-    let R = c.reset_clocks-moments in
-    fires a.resets.now a.p a.i a.t.0 c.insert.result R.result c.insert.ensures R.ensures
+    fires a.plan.now.resets a.p a.i a.t.0 c.insert.result c.reset_clocks.result c.insert.ensures c.reset_clocks.ensures

@@ -1,42 +1,15 @@
--- The loop's invariant: what is skipped has another message, and i is the first number that is not skipped. Assumes
--- nothing.
-use mathlib.Core.Path.{sym}
-use native.Mathlib.Omega.{arith}
+-- By the search. Assumes nothing.
+use mathlib.Core.Path.{ap, ◌∙◌}
+use borrow.Author.Rules.{rules}
 use lib.Dec.{eqb}
 use lib.ListN.{get_or}
-use borrow.Author.Tests.{eq-eqb, ne_eqb}
-use Rattle.base.proofs.Loops.{one_passes, none_some}
-use Rattle.firing.proofs.Skips.{gap_of, run_less, skips_start, not_first, skips_more}
-use Rattle.firing.proofs.Skips.{all_skipped, known_start, known_left}
+use Rattle.base.specs.Lists.{is_found}
+use Rattle.firing.proofs.Ready.{any_found, found_is}
 use Rattle.firing.proofs.is_known.Goals as goal
 
-pub loop-i-init : goal.loop-i-init
-loop-i-init c =
-    let R = gap_of (c.run-i.ensures.members, (c.run-i.ensures.gap, c.run-i.ensures.few)) in
-    (R, λ n W. skips_start (known_start W _ c.others-skip.ensures) R)
-
-pub returns-then-keys-i : goal.returns-then-keys-i
-returns-then-keys-i c = λ n W.
-    let a = c.args in
-    let L = c.loop-i in
-    let l = known_left W _ c.others-skip.ensures L.i
-    (omega (arith, c.loop-i-test.true)) (not_first (L.invariant.1 n W)) in
-    sym (one_passes (λ k. eqb (get_or a.keys.now k 0) a.code) L.i n l (eq-eqb _ _ c.if-keys-i.true))
-
-pub loop-i-smaller : goal.loop-i-smaller
-loop-i-smaller c =
-    run_less c.loop-i.invariant.0 c.insert-skip.ensures
-    (gap_of (c.run-i-in-loop-i.ensures.members, (c.run-i-in-loop-i.ensures.gap, c.run-i-in-loop-i.ensures.few))) c.loop-i-test.true
-
-pub loop-i-preserved : goal.loop-i-preserved
-loop-i-preserved c =
-    let R = gap_of (c.run-i-in-loop-i.ensures.members, (c.run-i-in-loop-i.ensures.gap, c.run-i-in-loop-i.ensures.few)) in (
-      R,
-      λ n W. skips_more (c.loop-i.invariant.1 n W) c.insert-skip.ensures
-          (ne_eqb _ _ c.if-keys-i.false) R,
-    )
-
 pub returns : goal.returns
-returns c =
-    λ n W. sym
-    (none_some n (all_skipped (c.loop-i.invariant.1 n W) (omega (arith, W.within.few, c.loop-i-test.false))))
+returns c = λ n W.
+    c.is_some.ensures ∙ found_is c.first_outside.result
+    ∙ ap is_found
+    (c.first_outside.ensures (λ i. eqb (get_or c.args.plan.now.keys i 0) c.args.code) (λ i b l e. search rules))
+    ∙ any_found W _ c.others.ensures

@@ -1,60 +1,16 @@
--- The loop's invariant: what is skipped is not ready or has another message, and i is the first number that is not
--- skipped. Assumes nothing.
-use mathlib.Core.Path.{sym, ◌∙◌}
-use native.Mathlib.Omega.{arith}
-use borrow.Author.Tests.{eq-eqb, ne_eqb}
-use Rattle.base.proofs.Bools.{and_both}
-use Rattle.base.proofs.Loops.{none_passes, first_passes}
-use Rattle.firing.proofs.Skips.{gap_of, run_less, skips_start, not_first, skips_more, skipped}
-use Rattle.firing.proofs.Skips.{all_skipped, apart, ready_is, unready, message_start}
+-- By the search. Assumes nothing.
+use mathlib.Core.Path.{◌∙◌}
+use mathlib.Core.Bool.{◌&&◌}
+use lib.Dec.{eqb}
+use lib.ListN.{get_or}
+use Rattle.bitset.specs.Set.{is_subset}
+use Rattle.firing.proofs.Ready.{message_found}
+use borrow.Author.Rules.{rules}
 use Rattle.firing.proofs.ready_for.Goals as goal
-use Rattle.firing.proofs.ready_for.Goals.{else-keys-i-via-then-keys-i+else-subset, else-keys-i-via-else-keys-i}
-
-pub loop-i-init : goal.loop-i-init
-loop-i-init c =
-    let R = gap_of (c.run-i.ensures.members, (c.run-i.ensures.gap, c.run-i.ensures.few)) in (
-      R,
-      λ n W. skips_start
-          (message_start W c.args.above.now
-          (apart _ _ _ _ c.others.ensures c.join-skip.ensures)) R,
-    )
-
-pub returns-then-subset : goal.returns-then-subset
-returns-then-subset c = λ n W.
-    let a = c.args in
-    let L = c.loop-i in
-    let S = L.invariant.1 n W in
-    let q = (apart _ _ _ _ c.others.ensures
-    c.join-skip.ensures).outside L.i
-    (omega (arith, c.loop-i-test.true)) (not_first S) in
-    let l = W.within.own L.i q.1 in
-    let e = and_both (eq-eqb _ _ c.if-keys-i.true)
-    (ready_is a.above.now a.fired L.i q.0 ∙ sym c.subset.ensures ∙ c.if-subset.true) in
-    sym (first_passes n (skipped S (omega (arith, l))) e l)
-
-pub loop-i-smaller : goal.loop-i-smaller
-loop-i-smaller c =
-    run_less c.loop-i.invariant.0 c.insert-skip.ensures
-    (gap_of (c.run-i-in-loop-i.ensures.members, (c.run-i-in-loop-i.ensures.gap, c.run-i-in-loop-i.ensures.few))) c.loop-i-test.true
-
-pub loop-i-preserved : goal.loop-i-preserved
-loop-i-preserved c =
-    let a = c.args in
-    let L = c.loop-i in
-    let R = gap_of (c.run-i-in-loop-i.ensures.members, (c.run-i-in-loop-i.ensures.gap, c.run-i-in-loop-i.ensures.few)) in (
-      R,
-      λ n W. skips_more (L.invariant.1 n W) c.insert-skip.ensures
-          (elim c.else-keys-i.branch [
-            | else-keys-i-via-then-keys-i+else-subset w ↦
-                rw (eq-eqb _ _ w.if-keys-i.true)
-                (unready a.above.now a.fired L.i (sym w.subset.ensures ∙ w.if-subset.false))
-            | else-keys-i-via-else-keys-i w ↦ rw (ne_eqb _ _ w.if-keys-i.false)
-          ])
-          R,
-    )
 
 pub returns : goal.returns
-returns c =
-    λ n W. sym
-    (none_passes n (all_skipped (c.loop-i.invariant.1 n W) (omega (arith, W.within.few, c.loop-i-test.false)))
-    (omega arith))
+returns c = λ n W.
+    let a = c.args in
+    c.first_outside.ensures (λ i. eqb (get_or a.keys.now i 0) a.code && is_subset (get_or a.above.now i 0) a.fired)
+    (λ i b l e. search rules)
+    ∙ message_found W a.above.now a.fired _ _ c.others.ensures c.join-skipped.ensures

@@ -3,14 +3,14 @@
 use Prim.Native.Nat.{ℕ, ◌≤◌}
 use Rattle.bitset.specs.Set.{contains}
 use Rattle.rounds.specs.Machine.{unfired}
+use Rattle.layout.specs.Plans.{chart_of_plan}
 use Rattle.firing.specs.Places.{place_at, moments_of}
-use Rattle.layout.specs.View.{plan_chart}
 use Rattle.firing.proofs.Walk.{OnTheWay}
 use Rattle.firing.proofs.take_region.Given as goal
 
-abbrev pub invariant-loop-h : goal.invariant-loop-h
-invariant-loop-h l = OnTheWay (plan_chart l.h l.keys l.above l.resets l.terms) l.t.0 (place_at l.initial.q) l.i (place_at l.q) l.k
-    × ((x : ℕ) → moments_of l.q.resets x ≤ l.t.0)
+abbrev pub invariant-loop-t : goal.invariant-loop-t
+invariant-loop-t l = OnTheWay (chart_of_plan l.plan) l.t.0 (place_at l.initial.place) l.i (place_at l.place) l.region
+    × ((x : ℕ) → moments_of l.place.resets x ≤ l.t.0)
 
-abbrev pub decreases-loop-h : goal.decreases-loop-h
-decreases-loop-h l = unfired (plan_chart l.h l.keys l.above l.resets l.terms) (contains l.q.fired)
+abbrev pub decreases-loop-t : goal.decreases-loop-t
+decreases-loop-t l = unfired (chart_of_plan l.plan) (contains l.place.fired)

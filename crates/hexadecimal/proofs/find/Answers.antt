@@ -1,41 +1,15 @@
--- `hexadecimal::find` meets its contract: what the search finds from i on is what it finds in all. Assumes nothing.
-use mathlib.Core.Path.{◌≡◌, refl, sym, ap, ◌∙◌}
-use native.Mathlib.Omega.{arith}
-use Prim.Native.Nat.{ℕ, ◌+◌, ◌-◌}
-use Rattle.hexadecimal.specs.Hex.{first_among}
-use Rattle.hexadecimal.proofs.Laws.{none_left, found_here, found_later}
+-- `hexadecimal::find` meets its contract: the place in the part, counted from where the part starts. Assumes nothing.
+use Rattle.std.proofs.Common.{rules, tests, arith, ◌≡◌, ◌==◌, ◌-◌, take, drop, position}
+use Rattle.std.proofs.lemmas.Grind.{common_steps}
+use Rattle.std.proofs.lemmas.Iterator.{YieldsList-from_slice}
+use Rattle.std.proofs.lemmas.Iterator.Search.{position_from_yields_List}
+use Rattle.hexadecimal.proofs.Laws.{first_of_position, position-or_len}
 use Rattle.hexadecimal.proofs.find.Goals as goal
 
-pub loop-i-init : goal.loop-i-init
-loop-i-init c = (omega arith, omega arith, refl)
-
-pub returns-then-text-i : goal.returns-then-text-i
-returns-then-text-i c =
-    let l = c.loop-i in
+pub returns-clause-offset : goal.returns-clause-offset
+returns-clause-offset c =
     let a = c.args in
-    let e = found_here a.text.now l.i a.byte (a.to - l.i) (omega arith) c.if-text-i.true in record {
-      offset = sym e ∙ l.invariant.2;
-      between = (omega arith, omega arith);
-      unchanged = refl;
-    }
-
-pub loop-i-preserved : goal.loop-i-preserved
-loop-i-preserved c =
-    let l = c.loop-i in
-    let a = c.args in
-    let k : a.to - (l.i + 1) ≡ a.to - l.i - 1 = omega arith in
-    let e = found_later a.text.now l.i a.byte (a.to - l.i) (omega arith) c.if-text-i.false in (
-      omega arith,
-      omega arith,
-      ap (λ (j : ℕ). first_among j a.text.now (l.i + 1) a.byte) k ∙ sym e ∙ l.invariant.2,
-    )
-
-pub returns : goal.returns
-returns c =
-    let l = c.loop-i in
-    let a = c.args in
-    let e = none_left a.text.now l.i a.byte (a.to - l.i) (omega arith) in record {
-      offset = sym e ∙ l.invariant.2;
-      between = (omega arith, omega arith);
-      unchanged = refl;
-    }
+    let part = take (a.to - a.from) (drop a.from a.text.now) in
+    let e : c.position.result ≡ position (λ b. b == a.byte) part
+    = position_from_yields_List (λ b. b == a.byte) _ _ _ c.position.ensures.ran (YieldsList-from_slice part (search rules)) (λ x b q k. search (rules, tests)) in
+    grind (arith, common_steps, e, first_of_position a.text.now a.from a.to a.byte (search rules) (search rules), position-or_len (λ b. b == a.byte) part)

@@ -8,14 +8,14 @@ use mathlib.Core.Path.{refl}
 use Rattle.live.proofs.Opening.{size_sum, opened_refused, opened_short, opened_fresh}
 use Rattle.live.proofs.open.Goals as goal
 
-pub returns-in-Refused : goal.returns-in-Refused
-returns-in-Refused c = let a = c.args in
+pub returns-in-Err : goal.returns-in-Err
+returns-in-Err c = let a = c.args in
     let s = opened_refused a.chart.now a.live.now c.read-read.result
-    c.read-read.ensures.answer c.in-Refused.refusal c.in-Refused.offset _ c.in-Refused.is c.number.ensures in record {
+    c.read-read.ensures.answer c.in-Err.fault c.in-Err.is in record {
       answer = s.0;
       bytes = s.1;
-      holds = (λ z. absurd (s.2 z));
-      history = (λ z. absurd (s.2 z));
+      holds = tt;
+      history = tt;
       unchanged = refl;
     }
 
@@ -26,8 +26,8 @@ returns-then-live-wanted c = let a = c.args in
     c.size-wanted.ensures c.if-live-wanted.true in record {
       answer = s.0;
       bytes = s.1;
-      holds = (λ z. absurd (omega arith));
-      history = (λ z. absurd (omega arith));
+      holds = tt;
+      history = tt;
       unchanged = refl;
     }
 
@@ -50,7 +50,7 @@ returns c = let a = c.args in
     c.put_fresh.ensures in record {
       answer = s.0;
       bytes = s.1.0;
-      holds = (λ z. s.1.1);
-      history = (λ z. opened s.1.1);
+      holds = s.1.1;
+      history = opened s.1.1;
       unchanged = refl;
     }

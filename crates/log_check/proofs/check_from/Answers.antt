@@ -12,24 +12,18 @@ loop-at-init c =
     let a = c.args in
     left_here a.log.now a.from (kind_in a.pace a.time) a.time a.count
 
-pub met_at-met-requires : goal.met_at-met-requires
-met_at-met-requires c = record {
-  at_in_bounds = c.loop-at-test.true;
-  paced = c.requires;
-}
-
-pub returns-in-Other : goal.returns-in-Other
-returns-in-Other c =
+pub returns-in_default : goal.returns-in_default
+returns-in_default c =
     let x = c.args in
     let l = c.loop-at in
     c.ended_at.ensures
-    ∙ ended_left x.log.now l.at x.pace l.last l.records l.invariant (sym c.in-Other.is ∙ c.met_at-met.ensures.met) _ c.kind_in.ensures
+    ∙ ended_left x.log.now l.at x.pace l.last l.records l.invariant (sym c.in_default.is ∙ c.met_at.ensures.met) _ c.kind_in.ensures
 
 pub overflow_add-records : goal.overflow_add-records
 overflow_add-records c =
     let x = c.args in
     let l = c.loop-at in
-    let G = goes x.log.now l.at x.pace l.last l.records c.met_at-met.ensures.steady _ _ _ (sym c.in-Sound.is ∙ c.met_at-met.ensures.met) in
+    let G = goes x.log.now l.at x.pace l.last l.records c.met_at.ensures.steady _ _ _ (sym c.in-Some.is ∙ c.met_at.ensures.met) in
     let W = went x.log.now l.at (kind_in x.pace l.last) l.last l.records _ _ _ _ G.step in
     let f : l.records < most_records = leb-false most_records l.records W.few in
     omega (arith, f)
@@ -38,14 +32,14 @@ pub loop-at-smaller : goal.loop-at-smaller
 loop-at-smaller c =
     let x = c.args in
     let l = c.loop-at in
-    let G = goes x.log.now l.at x.pace l.last l.records c.met_at-met.ensures.steady _ _ _ (sym c.in-Sound.is ∙ c.met_at-met.ensures.met) in
+    let G = goes x.log.now l.at x.pace l.last l.records c.met_at.ensures.steady _ _ _ (sym c.in-Some.is ∙ c.met_at.ensures.met) in
     omega (arith, c.loop-at-test.true, going_past x.log.now l.at (kind_in x.pace l.last) l.last l.records _ _ _ _ G.step)
 
 pub loop-at-preserved : goal.loop-at-preserved
 loop-at-preserved c =
     let x = c.args in
     let l = c.loop-at in
-    let G = goes x.log.now l.at x.pace l.last l.records c.met_at-met.ensures.steady _ _ _ (sym c.in-Sound.is ∙ c.met_at-met.ensures.met) in
+    let G = goes x.log.now l.at x.pace l.last l.records c.met_at.ensures.steady _ _ _ (sym c.in-Some.is ∙ c.met_at.ensures.met) in
     left_going x.log.now l.at (kind_in x.pace l.last) l.last l.records l.invariant _ _ _ _ G.step
 
 pub returns : goal.returns

@@ -12,23 +12,23 @@ returns-then-out-lt-BREAKS_PLACES c =
       unchanged = (refl, refl);
     }
 
-pub returns-in-Refused : goal.returns-in-Refused
-returns-in-Refused c =
+pub returns-in-Err : goal.returns-in-Err
+returns-in-Err c =
     let a = c.args in
     let s = asked_refused a.chart.now a.log.now a.out.now c.if-out-lt-BREAKS_PLACES.false c.read-read.result
     c.read-read.ensures.answer
-    c.in-Refused.refusal c.in-Refused.offset _ c.in-Refused.is
-    c.number.ensures c.put_refusal.ensures.number c.put_refusal.ensures.numbers in record {
+    c.in-Err.fault _ c.in-Err.is
+    c.from.ensures c.put_refusal.ensures.number c.put_refusal.ensures.numbers in record {
       number = s.0;
       numbers = s.1;
       unchanged = (refl, refl);
     }
 
-pub returns-in-Accepted : goal.returns-in-Accepted
-returns-in-Accepted c =
+pub returns-in-Ok : goal.returns-in-Ok
+returns-in-Ok c =
     let a = c.args in
     let s = asked_accepted a.chart.now a.log.now a.out.now c.if-out-lt-BREAKS_PLACES.false c.read-read.result
-    c.read-read.ensures.answer _ c.in-Accepted.is c.breaks.ensures.answer c.put_answer.ensures.number c.put_answer.ensures.numbers in record {
+    c.read-read.ensures.answer _ c.in-Ok.is c.breaks.ensures.answer c.put_answer.ensures.number c.put_answer.ensures.numbers in record {
       number = s.0;
       numbers = s.1;
       unchanged = (refl, refl);

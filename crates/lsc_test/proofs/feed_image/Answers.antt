@@ -11,6 +11,6 @@ returns-then-bytes-lt-MONITOR_SIZE c = record {
 
 pub returns : goal.returns
 returns c = record {
-  fed = image_fed _ c.chart_at.ensures.value c.if-bytes-lt-MONITOR_SIZE.false c.feed_chart.ensures c.answer_number.ensures;
+  fed = image_fed _ c.chart_at.ensures.value c.if-bytes-lt-MONITOR_SIZE.false c.feed_chart.ensures c.fed_number.ensures;
   unchanged = refl;
 }

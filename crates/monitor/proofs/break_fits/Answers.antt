@@ -4,5 +4,4 @@ use Rattle.monitor.proofs.break_fits.Goals as goal
 
 pub returns : goal.returns
 unfolding break_fits
-returns c = λ h keys above resets e W.
-    rw (← c.cause_fits.ensures h keys above resets e W)
+returns c = rw (c.eq-none.ensures, c.eq-whole.ensures, c.no_cause.ensures, c.no_break.ensures, ← c.cause_fits.ensures)

@@ -1,7 +1,8 @@
--- The sums in 64 bits do not overflow. Assumes nothing.
+use Rattle.std.proofs.Common.{arith}
+use Rattle.std.proofs.lemmas.Grind.{common_steps}
 use Rattle.monitor.specs.Fit.{counts_fit}
 use Rattle.monitor.proofs.counts_fit.Goals as goal
 
 pub returns : goal.returns
 unfolding counts_fit
-returns c = rw (c.wide64-3.ensures.0, c.wide64-2.ensures.0, c.wide64.ensures.0)
+returns c = grind (arith, common_steps)

@@ -10,6 +10,6 @@ returns-then-code-eq0 c = shown_plain _ _ _ _ (omega arith)
 
 pub returns : goal.returns
 returns c =
-    c.answer_number.ensures
-    ∙ shown_message _ _ _ _ c.if-code-eq0.false c.feed_fit-s.result.answer
-    (ap (λ (s : machine.Step). s.answer) c.feed_fit-s.ensures.step)
+    c.fed_number.ensures
+    ∙ shown_message _ _ _ _ c.if-code-eq0.false c.feed_fit.result.answer
+    (ap (λ (s : machine.Step). s.answer) c.feed_fit.ensures.step)

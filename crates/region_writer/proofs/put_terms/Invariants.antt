@@ -1,12 +1,11 @@
--- `region_writer::put_terms` meets its contract: before j the terms stand, one more at each turn. Assumes nothing.
-use mathlib.Core.List.{[]}
-use Prim.Native.Nat.{◌+◌, ◌*◌, ◌-◌, ◌≤◌}
-use Rattle.wire.specs.Writing.{Wrote}
+-- `region_writer::put_terms` meets its contract: one term more at each turn. Assumes nothing.
+use Rattle.std.proofs.Common.{◌≡◌, ◌++◌, ◌+◌, ◌*◌, ◌≤◌, []}
+use Rattle.arrayvec.specs.ArrayVec.{array_vec_len}
 use Rattle.chart_value.specs.Writer.{terms_bytes}
 use Rattle.region_writer.proofs.put_terms.Given as goal
 
-abbrev pub invariant-loop-j : goal.invariant-loop-j
-invariant-loop-j l = (l.j ≤ l.g.count) × (l.next ≤ l.at + 8 * l.j) × Wrote l.initial.out l.at (terms_bytes l.g l.j 0 []) l.out l.next
-
-abbrev pub decreases-loop-j : goal.decreases-loop-j
-decreases-loop-j l = l.g.count - l.j
+abbrev pub invariant-loop-t : goal.invariant-loop-t
+invariant-loop-t g l = record {
+  items : l.out.items ≡ l.initial.out.items ++ terms_bytes l.g l.t-index 0 [];
+  short : array_vec_len l.out ≤ array_vec_len l.initial.out + 8 * l.t-index;
+}

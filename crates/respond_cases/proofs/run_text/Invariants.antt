@@ -1,11 +1,12 @@
--- `respond_cases::run_text` is safe and ends: each line starts within the text, and there is at most a case for each
--- byte. Assumes nothing.
-use Prim.Native.Nat.{◌≤◌, ◌-◌}
-use lib.ListN.{length}
+-- `respond_cases::run_text` is safe: each line is at most one case, and there are no more lines than bytes. Assumes nothing.
+use Rattle.std.proofs.Common.{◌+◌, ◌≤◌, length}
+use Rattle.hexadecimal.specs.Lines.{lines_left}
 use Rattle.respond_cases.proofs.run_text.Given as goal
 
-abbrev pub invariant-loop-at : goal.invariant-loop-at
-invariant-loop-at g l = (l.at ≤ length l.text) × (l.cases ≤ l.at) × (l.differ ≤ l.at)
-
-abbrev pub decreases-loop-at : goal.decreases-loop-at
-decreases-loop-at g l = length l.text - l.at
+abbrev pub invariant-loop-line : goal.invariant-loop-line
+invariant-loop-line g l = record {
+  can : (goal.iterator-loop-line g).can_next l.line-iterator;
+  ends : (goal.iterator-loop-line g).is_finite l.line-iterator;
+  room : l.tally.cases + length (lines_left l.line-iterator) ≤ length l.text;
+  differ : l.tally.differ ≤ l.tally.cases;
+}

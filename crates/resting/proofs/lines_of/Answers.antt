@@ -1,35 +1,21 @@
--- `resting::lines_of` meets its contract: before i the sets are those of the regions below i. Assumes nothing.
-use mathlib.Core.Path.{◌≡◌}
+-- `resting::lines_of` meets its contract: the loop starts with the main chart, and ends with the chart. Assumes nothing.
+use Prim.Native.Nat.{ℕ, ◌<◌, ◌≤◌}
 use native.Mathlib.Omega.{arith}
-use Rattle.resting.proofs.Laws.{before_main, next_lines, all_regions}
+use mathlib.Core.Path.{◌≡◌, ap, ◌∙◌}
+use Rattle.bitset.specs.Set.{contains}
+use Rattle.model.specs.Chart.{most_lines, region_at, touches}
+use Rattle.resting.proofs.Laws.{before_main, next_lines}
 use Rattle.resting.proofs.lines_of.Goals as goal
 
 pub loop-i-init : goal.loop-i-init
-loop-i-init c = (omega arith, c.requires.0, before_main _ _)
-
-pub offset_bounds-c-i : goal.offset_bounds-c-i
-offset_bounds-c-i c = omega (arith, c.requires.1)
-
-pub bounds-c-i : goal.bounds-c-i
-bounds-c-i c = omega (arith, c.requires.1)
-
-pub overflow_cast-i-in-loop-i : goal.overflow_cast-i-in-loop-i
-overflow_cast-i-in-loop-i c = omega (arith, c.requires.1)
-
-pub member-requires : goal.member-requires
-member-requires c = omega (arith, c.requires.1)
+loop-i-init c = rw c.from-i.ensures (before_main _ _)
 
 pub loop-i-preserved : goal.loop-i-preserved
 loop-i-preserved c =
-    let I = c.loop-i.invariant in
-    let touched = c.touched-touched.ensures.members in (
-      omega (arith, I.0),
-      omega arith,
-      next_lines _ _ _ I.0 _ touched _ _ I.2 (rw (← c.member.ensures) c.one_more-l.ensures),
-    )
-
-pub returns : goal.returns
-returns c =
-    let l = c.loop-i in
-    let e : l.i ≡ c.args.c.count = omega (arith, l.invariant.1) in
-    all_regions l.invariant.2 e
+    let a = c.args in
+    let i = c.loop-i.i in
+    let main : a.c.prechart ≤ i = omega arith in
+    let touched : (k : ℕ) → k < most_lines → contains c.from-touched.result k ≡ touches (region_at a.c i).event k =
+    λ k l. ap (λ (x : ℕ). contains x k) c.from-touched.ensures ∙ c.touched.ensures.members k l in
+    next_lines a.c (contains a.fired) i main c.from-touched.result touched _ _ c.loop-i.invariant
+    (rw (← c.member.ensures) c.add.ensures)

@@ -1,11 +1,7 @@
 -- `resting::lines_of` meets its contract: before i the sets are those of the regions below i. Assumes nothing.
-use Prim.Native.Nat.{◌-◌, ◌≤◌}
 use Rattle.bitset.specs.Set.{contains}
 use Rattle.resting.specs.Lines.{LinesBelow}
 use Rattle.resting.proofs.lines_of.Given as goal
 
 abbrev pub invariant-loop-i : goal.invariant-loop-i
-invariant-loop-i l = (l.c.prechart ≤ l.i) × (l.i ≤ l.c.count) × LinesBelow l.c (contains l.fired) l.i l.l
-
-abbrev pub decreases-loop-i : goal.decreases-loop-i
-decreases-loop-i l = l.c.count - l.i
+invariant-loop-i l = LinesBelow l.c (contains l.fired) l.i l.l

@@ -1,12 +1,8 @@
 -- `resting::rests` meets its contract: each line is asked once. Assumes nothing.
 use mathlib.Core.Bool.{not, ◌||◌}
-use Prim.Native.Nat.{◌-◌, ◌≤◌}
 use Rattle.bitset.specs.Set.{contains}
 use Rattle.base.proofs.Loops.{AllSoFar}
 use Rattle.resting.proofs.rests.Given as goal
 
 abbrev pub invariant-loop-k : goal.invariant-loop-k
-invariant-loop-k l = (l.k ≤ l.lines) × AllSoFar (λ j. not (contains l.l.counting j) || contains l.l.cold j) l.k l.ok
-
-abbrev pub decreases-loop-k : goal.decreases-loop-k
-decreases-loop-k l = l.lines - l.k
+invariant-loop-k l = AllSoFar (λ j. not (contains l.l.counting j) || contains l.l.cold j) l.k l.ok

@@ -1,56 +1,40 @@
 -- By how steps 3 and 4 ended. Assumes nothing.
-use mathlib.Core.Path.{refl, sym, ◌∙◌}
-use native.Mathlib.Omega.{arith}
+use mathlib.Core.Path.{sym, ◌∙◌}
 use Rattle.rounds.specs.Machine.{conclude, full, prechart_done}
+use Rattle.layout.proofs.Plans.{prechart_few, compiled}
 use Rattle.stepping.proofs.conclude.Goals as goal
-
-pub cause_of-cause-requires : goal.cause_of-cause-requires
-cause_of-cause-requires c = c.requires.by_index _ _ c.in-Fails.is
-
-pub overflow_cast-i : goal.overflow_cast-i
-overflow_cast-i c =
-    let l = c.requires.by_index _ _ c.in-Fails.is in
-    omega arith
-
-pub member-requires : goal.member-requires
-member-requires c =
-    c.requires.by_index _ _ c.in-Fails.is
 
 pub returns-then-member : goal.returns-then-member
 unfolding conclude
-returns-then-member c = λ keys above resets terms code.
-    rw (
-      c.in-Fails.is,
-      sym c.member.ensures
-          ∙ c.if-member.true,
-      ← c.cause_of-cause.ensures,
-    ) (c.break_round.ensures _ code)
+returns-then-member c = λ code.
+    rw (c.in-Some.is, sym c.member.ensures ∙ c.if-member.true, ← c.cause_of-cause.ensures)
+    (c.break_round.ensures _ code)
+
+pub returns-in-Some : goal.returns-in-Some
+unfolding conclude
+returns-in-Some c = λ code.
+    rw (c.in-Some.is, sym c.member.ensures ∙ c.if-member.false, ← c.cause_of-cause.ensures)
+    (c.drop_round.ensures code)
+
+pub all_fired-requires : goal.all_fired-requires
+all_fired-requires c = (compiled c.args.plan.now).regions
 
 pub returns-then-all_fired : goal.returns-then-all_fired
 unfolding conclude full
-returns-then-all_fired c = λ keys above resets terms code.
-    rw (
-      c.in-Rests.is,
-      sym c.all_fired.ensures
-          ∙ c.if-all_fired.true,
-    )
-    (c.keep_round.ensures _ code refl)
+returns-then-all_fired c = λ code.
+    rw (c.in_default.is, sym c.all_fired.ensures ∙ c.if-all_fired.true) (c.keep_round.ensures code)
 
-pub returns-else-member : goal.returns-else-member
-unfolding conclude
-returns-else-member c = λ keys above resets terms code.
-    rw (
-      c.in-Fails.is,
-      sym c.member.ensures
-          ∙ c.if-member.false,
-      ← c.cause_of-cause.ensures,
-    ) (c.drop_round.ensures _ code refl)
+pub all_fired-before-requires : goal.all_fired-before-requires
+all_fired-before-requires c = prechart_few c.args.plan.now
 
-pub returns-else-all_fired : goal.returns-else-all_fired
+pub all_fired-after-requires : goal.all_fired-after-requires
+all_fired-after-requires c = prechart_few c.args.plan.now
+
+pub returns : goal.returns
 unfolding conclude full prechart_done
-returns-else-all_fired c = λ keys above resets terms code.
+returns c = λ code.
     rw (
-      c.in-Rests.is,
+      c.in_default.is,
       sym c.all_fired.ensures ∙ c.if-all_fired.false,
       ← c.all_fired-before.ensures,
       ← c.all_fired-after.ensures,

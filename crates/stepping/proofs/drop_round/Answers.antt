@@ -1,7 +1,9 @@
 -- By the opening and the tally. Assumes nothing.
+use mathlib.Core.Path.{refl}
 use Rattle.rounds.specs.Machine.{drop_round}
+use Rattle.layout.specs.Plans.{chart_of_plan}
 use Rattle.stepping.proofs.drop_round.Goals as goal
 
 pub returns : goal.returns
 unfolding drop_round
-returns c = λ C code q. rw (c.counted_dropped-tally.ensures, c.opening-place.ensures C q)
+returns c = λ code. rw (c.counted_dropped-tally.ensures, c.opening-place.ensures (chart_of_plan c.args.plan.now) refl)

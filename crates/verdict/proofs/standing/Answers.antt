@@ -13,7 +13,7 @@ unfolding standing_by
 returns-then-place-eq0 c = rw (eq-eqb _ _ c.if-m-ne0.false, eq-eqb _ _ c.if-place-eq0.true)
 
 pub all_fired-requires : goal.all_fired-requires
-all_fired-requires c = (limits _ c.requires).prechart
+all_fired-requires c = (limits _ c.args.accepted.now.accepted).prechart
 
 pub returns-then-not-all_fired : goal.returns-then-not-all_fired
 unfolding standing_by
@@ -26,7 +26,7 @@ returns-then-not-all_fired c =
     )
 
 pub rests-requires : goal.rests-requires
-rests-requires c = let l = limits _ c.requires in (l.lines, l.halves, l.regions)
+rests-requires c = let l = limits _ c.args.accepted.now.accepted in (l.lines, l.halves, l.regions)
 
 pub returns-then-rests : goal.returns-then-rests
 unfolding standing_by

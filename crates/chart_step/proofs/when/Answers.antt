@@ -1,4 +1,0 @@
-use Rattle.chart_step.proofs.when.Goals as goal
-
-pub returns-then-b : goal.returns-then-b
-returns-then-b c = rw c.if-b.true

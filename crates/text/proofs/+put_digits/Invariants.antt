@@ -1,5 +1,0 @@
-use Rattle.text.proofs.+put_digits.Given as goal
-
--- each call has one place fewer
-abbrev pub decreases-put_digits : goal.decreases-put_digits
-decreases-put_digits l = l.places
