@@ -20,7 +20,7 @@ use Rattle.rounds.specs.Machine.{ready, ready_plain}
 use Rattle.base.proofs.Bools.{split}
 use Rattle.base.proofs.Facts.{all_of, all_at}
 use Rattle.layout.specs.declared.Head.{Head}
-use Rattle.layout.specs.View.{plan_chart, Covers, Compiled}
+use Rattle.layout.specs.View.{plan_chart, Within, Covers, Compiled}
 use Rattle.firing.specs.Parts.{found_of}
 use Rattle.firing.specs.Parts.{ready_by}
 use Rattle.firing.proofs.Skips.{left_by, first_within, some_found}
@@ -76,6 +76,21 @@ left_of fired p o s h e j l = rw (e, contains_union fired o j, h j l) (by (conta
     by false true = refl
     by false false = refl
 
+-- what the search for a region of a set found
+pub set_found : {count set : ℕ} → Within count set → (above : List ℕ) (fired o s : ℕ)
+    → ((i : ℕ) → i < 32 → contains o i ≡ not (contains set i)) → s ≡ union fired o
+    → first 32 (left_by s (λ i. is_subset (get_or above i 0) fired))
+    ≡ first count (λ i. contains set i && ready_by above fired i)
+set_found {count} {set} W above fired o s q e =
+    first_within count 32 (left_by s (λ i. is_subset (get_or above i 0) fired))
+    (λ i. contains set i && ready_by above fired i) W.few
+    (λ i l. rw (left_of fired set o s q e i (omega (arith, W.few)))
+    (and_assoc (contains set i) (not (contains fired i)) (is_subset (get_or above i 0) fired)))
+    (λ i l m. rw (left_of fired set o s q e i m) (elim (split (contains set i)) [
+      | inl p ↦ absurd (omega (arith, W.own i p))
+      | inr p ↦ rw p
+    ]))
+
 -- what the search for a plain region found
 pub plain_found : {h : Head} {keys above resets terms : List ℕ} → Compiled h keys above resets terms
     → (fired o s : ℕ) → ((i : ℕ) → i < 32 → contains o i ≡ not (contains h.plain i)) → s ≡ union fired o
@@ -83,15 +98,8 @@ pub plain_found : {h : Head} {keys above resets terms : List ℕ} → Compiled h
     ≡ ready_plain (plan_chart h keys above resets terms) (contains fired)
 unfolding ready_plain plain
 plain_found {h} {keys} {above} {resets} {terms} K fired o s q e =
-    first_within h.count 32 (left_by s (λ i. is_subset (get_or above i 0) fired))
-    (λ i. eqb (get_or keys i 0) 0 && ready (plan_chart h keys above resets terms) (contains fired) i) K.regions
-    (λ i l. rw (left_of fired h.plain o s q e i (omega (arith, K.regions)))
-    (and_assoc (contains h.plain i) (not (contains fired i)) (is_subset (get_or above i 0) fired)
-    ∙ ap₂ ◌&&◌ (K.plain i l) (ready_same K fired i l)))
-    (λ i l m. rw (left_of fired h.plain o s q e i m) (elim (split (contains h.plain i)) [
-      | inl p ↦ absurd (omega (arith, K.within.own i p))
-      | inr p ↦ rw p
-    ]))
+    set_found K.within above fired o s q e
+    ∙ first_same h.count _ _ (λ i l. ap₂ ◌&&◌ (K.plain i l) (ready_same K fired i l))
 
 module _ {count : ℕ} {keys : List ℕ} {code among : ℕ} (W : Covers count keys code among) where
   -- a region with the message is in the set, and only regions are

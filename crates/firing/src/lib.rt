@@ -1,7 +1,7 @@
 // The regions of a compiled chart are sought, tested and fired, until no plain region is ready.
 #![tactic(auto)]
 
-ghost use Rattle.std.specs.Prelude.{◌≡◌, ◌&&◌, cond, ℕ, ◌<◌, ◌≤◌, ◌-◌, ◌^◌, eqb, ltb, get_or};
+ghost use Rattle.std.specs.Prelude.{◌≡◌, ◌&&◌, cond, List, ℕ, ◌<◌, ◌≤◌, ◌-◌, ◌^◌, eqb, ltb, get_or};
 ghost use Rattle.std.proofs.Math.Bool.{So};
 ghost use Rattle.bitset.specs.Set.{contains};
 ghost use Rattle.model.specs.Chart.{most_regions, most_clocks};
@@ -9,7 +9,7 @@ ghost use Rattle.base.specs.Lists.{first, all_below, some_below};
 ghost use Rattle.rounds.specs.Chart.{Chart};
 ghost use Rattle.rounds.specs.Rows.{Ready};
 ghost use Rattle.rounds.specs.Machine.{ready_plain, opening as opened};
-ghost use Rattle.layout.specs.View.{Covers, failing_by};
+ghost use Rattle.layout.specs.View.{Within, Covers, failing_by, plan_chart, Compiled};
 ghost use Rattle.layout.specs.Plans.{chart_of_plan};
 ghost use Rattle.firing.specs.Places.{moments_of, place_at};
 ghost use Rattle.firing.specs.Parts.{found_of, ready_by, sought_by};
@@ -18,17 +18,21 @@ ghost use Rattle.firing.specs.Parts.{value_at, fire_by, taken_at, move_of};
 mod scan;
 mod settled;
 
-use layout::{CLOCK_CODES, Plan, SECOND_PLACE};
+use layout::{CLOCK_CODES, Head, Plan, SECOND_PLACE};
 use model::{CLOCK_PLACES, Length, MOST_REGIONS, MOST_TERMS, Moment, Place};
 use scan::first_outside;
 pub use settled::{Failure, Settled};
 
-// The lowest plain region that is ready.
-pub fn ready_plain(plan: &Plan, fired: u32) -> Option<usize>
-    ensures { found_of result ≡ ready_plain (chart_of_plan plan.now) (contains fired) }
+// The lowest region of the set `plain` that is ready. It may be any set; a chart's own gives the chart's `ready_plain`.
+pub fn ready_plain(plain: u32, above: &[u32; MOST_REGIONS], fired: u32) -> Option<usize>
+    ensures set { (count : ℕ) → Within count plain → found_of result
+        ≡ first count (λ i. contains plain i && ready_by above.now fired i) }
+    ensures chart { (h : Head) (keys resets terms : List ℕ) → h.plain ≡ plain
+        → Compiled h keys above.now resets terms → found_of result
+        ≡ ready_plain (plan_chart h keys above.now resets terms) (contains fired) }
 {
-    let skipped = bitset::join(fired, bitset::others(plan.head.plain));
-    first_outside(skipped, |i| bitset::subset(plan.above[i], fired))
+    let skipped = bitset::join(fired, bitset::others(plain));
+    first_outside(skipped, |i| bitset::subset(above[i], fired))
 }
 
 // The ready region that has the message, sought in the set `among`, which has every region with this message.
@@ -162,7 +166,7 @@ pub fn take_region(plan: &Plan, p: Place, i: usize, t: Moment) -> Settled
             };
         }
         place = fire(plan, place, region, t);
-        let Some(next) = ready_plain(plan, place.fired) else {
+        let Some(next) = ready_plain(plan.head.plain, &plan.above, place.fired) else {
             return Settled {
                 failure: None,
                 place,

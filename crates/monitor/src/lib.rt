@@ -1,12 +1,13 @@
 // Making a monitor and feeding it records.
 #![tactic(auto)]
 
-ghost use Rattle.std.specs.Prelude.{◌≡◌, true, not, ◌||◌, ◌↔◌, ◌≤◌, length, get_or};
+ghost use Rattle.std.specs.Prelude.{◌≡◌, true, not, ◌||◌, ◌↔◌, List, ℕ, ◌≤◌, length, get_or};
 ghost use Rattle.bitset.specs.Set.{contains, is_subset};
 ghost use Rattle.model.specs.Chart.{most_regions, most_clocks};
 ghost use Rattle.base.specs.Lists.{all_below};
 ghost use Rattle.rounds.specs.Machine.{Fit};
 ghost use Rattle.stepping.specs.Monitors.{monitor_at, step_of};
+ghost use Rattle.layout.specs.View.{plan_chart, Compiled};
 ghost use Rattle.layout.specs.Plans.{chart_of_plan};
 ghost use Rattle.stepping.specs.Answers.{HandsBack};
 ghost use Rattle.monitor.specs.Fit.{moments_fit, cause_fits, break_fits, counts_fit, place_fits};
@@ -15,7 +16,7 @@ ghost use Rattle.monitor.specs.Feed.{MadeOf, refuse, feed_of};
 ghost use Rattle.monitor.specs.Stored.{Stored};
 
 use chart_value::{AcceptedChart, NotAChart};
-use layout::Plan;
+use layout::{Head, Plan};
 use model::{
     Break, CLOCK_PLACES, Cause, Chart, FeedRefusal, MOST_RECORDS, MOST_REGIONS, MOST_TERMS, Moment,
     Monitor, Place, Record, Tally,
@@ -83,18 +84,19 @@ fn break_fits(plan: &Plan, records: u32, b: Break) -> bool
 
 // Whether a place fits the compiled chart at moment t. `broken` is the record of the break, or 0; after a break a plain
 // region may be ready.
-pub fn place_fits(plan: &Plan, p: Place, t: Moment, broken: u32) -> bool
-    ensures test { result ≡ place_fits (chart_of_plan plan.now) p t.0 broken }
+pub fn place_fits(h: Head, above: &[u32; MOST_REGIONS], p: Place, t: Moment, broken: u32) -> bool
+    requires { h.count ≤ most_regions }
+    ensures test { (keys resets terms : List ℕ) → Compiled h keys above.now resets terms
+        → result ≡ place_fits (plan_chart h keys above.now resets terms) p t.0 broken }
     ensures places { length p.resets ≡ most_clocks }
 {
     let fired = p.fired;
-    let count = plan.head.count;
-    let rests = firing::ready_plain(plan, fired).is_none();
+    let count = h.count;
+    let rests = firing::ready_plain(h.plain, above, fired).is_none();
     let settled = (broken != 0) | rests;
     let set = bitset::within(count as u32, fired)
-        & (!firing::all_fired(count, fired)
-            & (settled & moments_fit(plan.head.clocks, p.resets, t)));
-    closed_upward(&plan.above, count, fired) & set
+        & (!firing::all_fired(count, fired) & (settled & moments_fit(h.clocks, p.resets, t)));
+    closed_upward(above, count, fired) & set
 }
 
 // Whether the monitor is fit for the compiled chart: its place and its tally.
@@ -103,7 +105,7 @@ pub fn is_fit(plan: &Plan, m: Monitor) -> bool
     ensures list { (result ≡ true) ↔ Fit (chart_of_plan plan.now) (monitor_at m) }
 {
     let tally = m.tally;
-    let placed = place_fits(plan, m.place, tally.now, tally.broken.at);
+    let placed = place_fits(plan.head, &plan.above, m.place, tally.now, tally.broken.at);
     let broken = break_fits(plan, tally.records, tally.broken);
     placed & (counts_fit(tally) & broken)
 }

@@ -1,5 +1,5 @@
 -- Region after region. Assumes nothing.
-use mathlib.Core.Path.{sym, ap, ◌∙◌}
+use mathlib.Core.Path.{refl, sym, ap, ◌∙◌}
 use native.Mathlib.Omega.{arith}
 use Rattle.rounds.specs.Rows.{values}
 use Rattle.rounds.specs.Machine.{fire}
@@ -22,8 +22,10 @@ fire-place-requires c = omega (arith, (compiled c.args.plan.now).regions, c.loop
 pub returns-in_default : goal.returns-in_default
 unfolding values fire
 returns-in_default c =
+    let p = c.args.plan.now in
+    let r = c.ready_plain.ensures.chart p.head _ _ _ refl (compiled p) in
     way_rests c.loop-t.invariant.0 c.failing-term.ensures c.if-term-ne0.false c.fire-place.ensures
-    (sym c.ready_plain.ensures ∙ ap found_of c.in_default.is)
+    (sym r ∙ ap found_of c.in_default.is)
 
 pub loop-t-smaller : goal.loop-t-smaller
 unfolding values fire
@@ -32,8 +34,10 @@ loop-t-smaller c = way_less c.loop-t.invariant.0 c.failing-term.ensures c.if-ter
 pub loop-t-preserved : goal.loop-t-preserved
 unfolding values fire
 loop-t-preserved c =
-    let W = c.loop-t in (
+    let W = c.loop-t in
+    let p = c.args.plan.now in
+    let r = c.ready_plain.ensures.chart p.head _ _ _ refl (compiled p) in (
       way_on W.invariant.0 c.failing-term.ensures c.if-term-ne0.false c.fire-place.ensures
-          (compiled c.args.plan.now).accepted (sym c.ready_plain.ensures ∙ ap found_of c.in-Some.is),
-      fired_early c.args.plan.now.resets _ W.place c.fire-place.result W.region c.fire-place.ensures W.invariant.1,
+          (compiled p).accepted (sym r ∙ ap found_of c.in-Some.is),
+      fired_early p.resets _ W.place c.fire-place.result W.region c.fire-place.ensures W.invariant.1,
     )
