@@ -107,7 +107,7 @@ fn reached(
     Run {
         monitor,
         at,
-        kind: log_check::kind_in(pace, monitor.tally.now),
+        kind: log_check::kind_in(pace.message, pace.origin, monitor.tally.now),
         last,
         counts,
     }

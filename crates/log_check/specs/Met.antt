@@ -32,9 +32,12 @@ pace_of (Err f) = plain_pace
 pace_of (Ok (next.Handed e past)) = plain_pace
 pace_of (Ok (next.Raw e past)) = raw_pace (stamp_of e).0
 
--- the kind of the log at a moment
+-- the kind of the log at a moment, by the byte of its messages and the time or stamp at which it counts moment 0
+abbrev pub kind_by : ℕ → ℕ → Moment → Kind
+kind_by message origin last = cond (message == raw_message_tag) (Raw (record { 0 = (last.0 + origin) % range })) Plain
+
 abbrev pub kind_in : Pace → Moment → Kind
-kind_in p last = cond (p.message == raw_message_tag) (Raw (record { 0 = (last.0 + p.origin) % range })) Plain
+kind_in p last = kind_by p.message p.origin last
 
 -- a record may come at t after one at `last`
 abbrev pub in_time : Pace → Moment → Moment → Bool

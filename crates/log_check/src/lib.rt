@@ -8,7 +8,7 @@ ghost use Rattle.log_reader.specs.Next.{next_at};
 ghost use Rattle.log_clock.specs.Clock.{range};
 ghost use Rattle.log_check.specs.Refusal.{judge_refusal_offset};
 ghost use Rattle.log_check.specs.Check.{take_record, step_at, check_from, check_log};
-ghost use Rattle.log_check.specs.Met.{plain_pace, raw_pace, pace_of, kind_in, in_time, met_if, met_at};
+ghost use Rattle.log_check.specs.Met.{plain_pace, raw_pace, pace_of, kind_by, kind_in, in_time, met_if, met_at};
 ghost use Rattle.log_check.specs.Met.{Steady, code_of, ended_by};
 
 pub mod pace;
@@ -179,12 +179,13 @@ pub fn pace_of(first: Result<Next, RecordRefusal>) -> Pace
     }
 }
 
-// The log's kind at a moment: the counter shows the origin and as many ticks.
-pub fn kind_in(pace: Pace, last: Moment) -> Kind
-    ensures { result ≡ kind_in pace last }
+// The log's kind at a moment, by a pace's message byte and origin: the counter shows the origin and as many ticks. It
+// takes any numbers, so it takes no Pace.
+pub fn kind_in(message: u8, origin: u32, last: Moment) -> Kind
+    ensures { result ≡ kind_by message origin last }
 {
-    if pace.message == RAW_MESSAGE_TAG {
-        return Kind::Raw(Stamp(std::num::wrapping_add_u32(last.0, pace.origin)));
+    if message == RAW_MESSAGE_TAG {
+        return Kind::Raw(Stamp(std::num::wrapping_add_u32(last.0, origin)));
     }
     Kind::Plain
 }
@@ -288,7 +289,8 @@ fn check_from(
     // A loop by hand: it moves by each record's length.
     while at < log.len() {
         let Some(met) = met_at(log, at, pace, last, records) else {
-            return ended_at(log, at, kind_in(pace, last), last, records);
+            let kind = kind_in(pace.message, pace.origin, last);
+            return ended_at(log, at, kind, last, records);
         };
         at = met.past;
         last = met.time;

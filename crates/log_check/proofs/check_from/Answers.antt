@@ -17,7 +17,7 @@ returns-in_default c =
     let x = c.args in
     let l = c.loop-at in
     c.ended_at.ensures
-    ∙ ended_left x.log.now l.at x.pace l.last l.records l.invariant (sym c.in_default.is ∙ c.met_at.ensures.met) _ c.kind_in.ensures
+    ∙ ended_left x.log.now l.at x.pace l.last l.records l.invariant (sym c.in_default.is ∙ c.met_at.ensures.met) _ c.kind_in-kind.ensures
 
 pub overflow_add-records : goal.overflow_add-records
 overflow_add-records c =
