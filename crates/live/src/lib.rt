@@ -2,7 +2,7 @@
 #![tactic(auto)]
 
 ghost use Rattle.std.specs.Prelude.{◌≡◌, true, ◌+◌, ◌≤◌, length, OnOk};
-ghost use Rattle.wire.specs.Writing.{starting_with};
+ghost use Rattle.wire.specs.Writing.{Wrote, starting_with};
 ghost use Rattle.base.specs.Lists.{ε};
 ghost use Rattle.stepping.specs.Answers.{HandsBack};
 ghost use Rattle.stepping.specs.Monitors.{step_of};
@@ -41,6 +41,17 @@ pub fn size(bytes: usize) -> usize
     HEAD_SIZE + bytes
 }
 
+// The chart behind the head. A loop: `copy_from_slice` of two slices that come from outside calls memmove, which the
+// archives ask of no host.
+fn put_chart(live: &mut [u8], chart: &[u8])
+    requires { head_size + length chart.now ≤ length live.old }
+    ensures { Wrote live.old head_size chart.now live.new (head_size + length chart.now) }
+{
+    for i in 0..chart.len() {
+        live[HEAD_SIZE + i] = chart[i];
+    }
+}
+
 // A fresh live monitor at the start of the buffer.
 fn put_fresh(live: &mut [u8], chart: &[u8])
     requires { head_size + length chart.now ≤ length live.old }
@@ -48,7 +59,7 @@ fn put_fresh(live: &mut [u8], chart: &[u8])
 {
     monitor_image::put_monitor(live, model::zero_monitor());
     wire::put_bytes(live, MONITOR_SIZE, &u64::to_be_bytes(chart.len() as u64));
-    wire::put_bytes(live, HEAD_SIZE, chart);
+    put_chart(live, chart);
 }
 
 // V10: puts a live monitor for the chart into the buffer, if it has room for it, and gives its size.

@@ -14,4 +14,4 @@ returns c =
     (c.to_be_bytes.ensures ∙ long_as_bytes _)
     c.put_monitor.ensures.image
     c.put_bytes.ensures
-    c.put_bytes-2.ensures
+    c.put_chart.ensures
